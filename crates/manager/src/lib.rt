@@ -1,0 +1,221 @@
+// The types of the memory manager. What each directive does is said in specs/; this crate makes only the fresh record and the
+// numbers of the answers.
+ghost use mathlib.Core.Path.{_≡_};
+ghost use Rattle.manager.specs.Record.{fresh};
+ghost use Rattle.manager.specs.Status.{numberOf};
+
+// The discipline of a region's wait queue: by arrival, or by priority.
+pub enum Order {
+    Fifo,
+    Priority,
+}
+
+// Whether a get may wait.
+pub enum Wait {
+    No,
+    Yes,
+}
+
+// The answers of document 01's table, under their RTEMS names. `Waiting` is the house's own: the task now waits.
+pub enum Status {
+    Successful,
+    InvalidName,
+    InvalidId,
+    TooMany,
+    Timeout,
+    InvalidSize,
+    InvalidAddress,
+    InvalidNumber,
+    ResourceInUse,
+    Unsatisfied,
+    IncorrectState,
+    InvalidPriority,
+    InternalError,
+    Waiting,
+}
+
+// A region: its area as asked for, its page size, rounded, and its queue's discipline. An empty slot has name 0.
+pub struct Region {
+    pub name: u32,
+    pub start: u32,
+    pub length: u32,
+    pub page: u32,
+    pub order: Order,
+}
+
+// A partition: its area as asked for, its buffer size, and the ends and the length of the chain of free buffers.
+pub struct Partition {
+    pub name: u32,
+    pub start: u32,
+    pub length: u32,
+    pub size: u32,
+    pub front: u32,
+    pub rear: u32,
+    pub free: u32,
+}
+
+// A task that waits for a segment of a region. An unused place has task 0.
+pub struct Waiter {
+    pub task: u32,
+    pub region: u32,
+    pub size: u32,
+    pub priority: u32,
+    pub ticks: u32,
+}
+
+// What a waiting task is told: the segment that it now holds, or that its time ran out.
+pub struct Notice {
+    pub task: u32,
+    pub status: Status,
+    pub address: u32,
+}
+
+// Count, largest and total bytes of the free segments of a region, and of the held ones.
+pub struct Information {
+    pub free_count: u32,
+    pub free_largest: u32,
+    pub free_total: u32,
+    pub held_count: u32,
+    pub held_largest: u32,
+    pub held_total: u32,
+}
+
+// The manager record (document 01's desk). The queue is kept by region, and within one in the order in which it is served.
+pub struct Manager {
+    pub regions: [Region; 8],
+    pub partitions: [Partition; 8],
+    pub waiters: [Waiter; 16],
+}
+
+// What a call answers, with the manager record after it.
+pub struct Answer {
+    pub status: Status,
+    pub value: u32,
+    pub information: Information,
+    pub notices: [Notice; 16],
+    pub manager: Manager,
+}
+
+// A directive with its arguments, as a script has it.
+pub enum Call {
+    CreateRegion {
+        name: u32,
+        start: u32,
+        length: u32,
+        page: u32,
+        order: Order,
+    },
+    IdentRegion {
+        name: u32,
+    },
+    DeleteRegion {
+        id: u32,
+    },
+    GetSegment {
+        id: u32,
+        size: u32,
+        wait: Wait,
+        task: u32,
+        priority: u32,
+        ticks: u32,
+    },
+    ReturnSegment {
+        id: u32,
+        address: u32,
+    },
+    SegmentSize {
+        id: u32,
+        address: u32,
+    },
+    ResizeSegment {
+        id: u32,
+        address: u32,
+        size: u32,
+    },
+    RegionInformation {
+        id: u32,
+    },
+    CreatePartition {
+        name: u32,
+        start: u32,
+        length: u32,
+        size: u32,
+    },
+    IdentPartition {
+        name: u32,
+    },
+    DeletePartition {
+        id: u32,
+    },
+    GetBuffer {
+        id: u32,
+    },
+    ReturnBuffer {
+        id: u32,
+        address: u32,
+    },
+    Tick,
+}
+
+impl Manager {
+    // Slots for each kind of object, and tasks that may wait.
+    pub const SLOTS: usize = 8;
+
+    pub const TASKS: usize = 16;
+
+    // The manager with no object and no waiter.
+    pub fn new() -> Manager
+        ensures { λ r. ⌜ r ≡ fresh ⌝ }
+    {
+        let region = Region {
+            name: 0,
+            start: 0,
+            length: 0,
+            page: 0,
+            order: Order::Fifo,
+        };
+        let partition = Partition {
+            name: 0,
+            start: 0,
+            length: 0,
+            size: 0,
+            front: 0,
+            rear: 0,
+            free: 0,
+        };
+        let waiter = Waiter {
+            task: 0,
+            region: 0,
+            size: 0,
+            priority: 0,
+            ticks: 0,
+        };
+        Manager {
+            regions: [region; Manager::SLOTS],
+            partitions: [partition; Manager::SLOTS],
+            waiters: [waiter; Manager::TASKS],
+        }
+    }
+}
+
+// The number of a status in document 01's table.
+pub fn number(s: Status) -> u32
+    ensures { λ r. ⌜ r ≡ numberOf s ⌝ }
+{
+    match s {
+        Status::Successful => 0,
+        Status::InvalidName => 3,
+        Status::InvalidId => 4,
+        Status::TooMany => 5,
+        Status::Timeout => 6,
+        Status::InvalidSize => 8,
+        Status::InvalidAddress => 9,
+        Status::InvalidNumber => 10,
+        Status::ResourceInUse => 12,
+        Status::Unsatisfied => 13,
+        Status::IncorrectState => 14,
+        Status::InvalidPriority => 19,
+        Status::InternalError => 25,
+        Status::Waiting => 255,
+    }
+}
