@@ -35,9 +35,9 @@ answerOf s =
     }
 
 -- WHAT EACH CONTRACT SAYS: the answer, the manager record in it and every memory word are those of the definition
-pub record Performs (s : Result) (memory : List ℕ) (answer : Answer) : Type 0 where
-  pub memory : memory ≡ s .memory
-  pub answer : answer ≡ answerOf s
+pub record Performs (s : Result) (m : List ℕ) (a : Answer) : Type 0 where
+  pub memory : m ≡ s .memory
+  pub answer : a ≡ answerOf s
 
 -- an answer without information and notices
 abbrev pub replied : List ℕ → Manager → Status → ℕ → Result
