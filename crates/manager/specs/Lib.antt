@@ -1,3 +1,16 @@
 pub mod Status
 pub mod Record
 pub mod Result
+pub mod Lists
+pub mod Map
+pub mod Paged
+pub mod Region
+pub mod Queue
+pub mod Serve
+pub mod Partition
+pub mod Sound
+pub mod Regions
+pub mod Partitions
+pub mod Access
+pub mod Perform
+pub mod Examples

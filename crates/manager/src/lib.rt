@@ -80,6 +80,18 @@ pub struct Information {
     pub held_total: u32,
 }
 
+// A part of the memory: `length` bytes from `start` on.
+pub struct Area {
+    pub start: u32,
+    pub length: u32,
+}
+
+// Where a search for pages ends: at a page, or nowhere.
+pub enum Place {
+    At(usize),
+    Nowhere,
+}
+
 // The manager record (document 01's desk). The queue is kept by region, and within one in the order in which it is served.
 pub struct Manager {
     pub regions: [Region; 8],

@@ -1,0 +1,126 @@
+-- Document 01, "Bench examples": the ones marked M, as one table about the definitions, and one theorem that all of it holds.
+-- Region A: start 4, length 1,020, page 64. Memory 16,384 words. Assumes nothing.
+use Prim.Native.Nat.{ℕ, zero, suc, _+_, _-_, _*_}
+use mathlib.Core.Path.{_≡_, refl}
+use mathlib.Core.Bool.{Bool, true, false, _&&_}
+use mathlib.Core.List.{List, [], _∷_, _++_}
+use lib.ListN.{replicate}
+use lib.Dec.{eqb}
+use Rattle.arith.specs.Layout.{largest, pageCount, firstPage}
+use Rattle.manager.specs.Status.{numberOf}
+use Rattle.manager.specs.Record.{mostWords, fresh, regionOf}
+use Rattle.manager.specs.Result.{Result, checked}
+use Rattle.manager.specs.Lists.{every, some, indexOf, pairwise, adjacent}
+use Rattle.manager.specs.Map.{draw, decode, soundFrom, soundMap, freeSizes, heldSizes}
+use Rattle.manager.specs.Paged.{free+, lead, rest, placeFrom, take, heldFrom, reachFrom, changeFrom}
+use Rattle.manager.specs.Region.{mapWords, regionAreas, partitionAreas}
+use Rattle.manager.specs.Queue.{goesBefore, push, insert, removeAt, enqueue, dequeue, staying, leaving, afterTick}
+use Rattle.manager.specs.Serve.{serveUpTo, serve}
+use Rattle.manager.specs.Partition.{follow, linked, linkAll, afterGet, afterReturn}
+use Rattle.manager.specs.Sound.{liveRegion, livePartition, soundRegion, soundPartition, soundWaiter, soundPlace, soundQueue, sound}
+use Rattle.manager.specs.Regions.{createRegion, getSegment, returnSegment}
+use Rattle.manager.specs.Partitions.{createPartition, getBuffer, returnBuffer}
+use Rattle.manager.specs.Perform.{perform}
+use Rattle.manager.specs.declared.Call.{Call}
+use Rattle.manager.specs.declared.Call.the-variants.{CreateRegion, GetSegment, ReturnSegment, CreatePartition, GetBuffer, ReturnBuffer}
+use Rattle.manager.specs.declared.Order.the-variants.{Fifo}
+use Rattle.manager.specs.declared.Wait.the-variants.{No, Yes}
+use Rattle.manager.specs.declared.Manager.{Manager}
+use Rattle.manager.specs.declared.Notice.{Notice}
+
+-- A call, and what it answers: status, value and the notices (task, status, address)
+pub data Step : Type 0 where
+  step : Call → ℕ → ℕ → List ℕ → Step
+
+-- A row: an area and its page size, with its page count, first page and last byte; calls from a fresh start, with their answers; and
+-- such calls with the words of region 1's map after them
+pub data Row : Type 0 where
+  layout : ℕ → ℕ → ℕ → ℕ → ℕ → ℕ → Row
+  calls : List Step → Row
+  words : List Step → List ℕ → Row
+
+abbrev pub same : List ℕ → List ℕ → Bool
+same [] [] = true
+same [] (y ∷ ys) = false
+same (x ∷ xs) [] = false
+same (x ∷ xs) (y ∷ ys) = eqb x y && same xs ys
+
+abbrev pub told : List Notice → List ℕ
+told [] = []
+told (n ∷ ns) = n .task ∷ numberOf (n .status) ∷ n .address ∷ told ns
+
+-- the answers are as said, and so is the map after them, if one is given
+abbrev pub right : Result → ℕ → ℕ → List ℕ → Bool
+right s status value notices = eqb (numberOf (s .status)) status && (eqb (s .value) value && same (told (s .notices)) notices)
+
+abbrev pub follows : List ℕ → Manager → List Step → (List ℕ → Manager → Bool) → Bool
+follows m d [] after = after m d
+follows m d (step c status value notices ∷ ss) after =
+    let s = perform m d c in
+    right s status value notices && follows (s .memory) (s .manager) ss after
+
+abbrev pub holds : Row → Bool
+holds (layout start bytes page n first last) =
+    eqb (pageCount start bytes page) n && (eqb (firstPage start page n) first && eqb (first + n * page) (last + 1))
+holds (calls ss) = follows (replicate mostWords 0) fresh ss (λ m d. true)
+holds (words ss ws) = follows (replicate mostWords 0) fresh ss (λ m d. same (mapWords m (regionOf d 1)) ws)
+
+-- the calls of the examples
+abbrev pub a : Step
+a = step (CreateRegion 1 4 1020 64 Fifo) 0 1 []
+
+abbrev pub get : ℕ → ℕ → ℕ → Step
+get size status value = step (GetSegment 1 size No 0 0 0) status value []
+
+abbrev pub waits : ℕ → ℕ → Step
+waits task size = step (GetSegment 1 size Yes task 1 0) 255 0 []
+
+abbrev pub return : ℕ → ℕ → List ℕ → Step
+return address status notices = step (ReturnSegment 1 address) status 0 notices
+
+abbrev pub buffer : ℕ → Step
+buffer address = step (GetBuffer 1) 0 address []
+
+abbrev pub back : ℕ → Step
+back address = step (ReturnBuffer 1 address) 0 0 []
+
+abbrev pub table : List Row
+table =
+    -- 1. A has 15 pages, from 64 to 1,023. Length 1,019 gives 14.
+    layout 4 1020 64 15 64 1023
+    ∷ layout 4 1019 64 14 64 959
+    -- 2. Start 4, page 64: length 124 gives 1 page, 123 gives 8.
+    ∷ layout 4 124 64 1 64 127
+    ∷ calls (step (CreateRegion 1 4 123 64 Fifo) 8 0 [] ∷ [])
+    -- 3. Get 65: 64. Then get 1: 192. The map is 5, 0, 3, 24, then eleven zeros.
+    ∷ words (a ∷ get 65 0 64 ∷ get 1 0 192 ∷ []) (5 ∷ 0 ∷ 3 ∷ 24 ∷ replicate 11 0)
+    -- 4. Then return 64, get 128: 64. Then get 129: 256.
+    ∷ calls (a ∷ get 65 0 64 ∷ get 1 0 192 ∷ return 64 0 [] ∷ get 128 0 64 ∷ get 129 0 256 ∷ [])
+    -- 5. Get 960: 64. Then get 1, no wait: 13. Get 961: 8.
+    ∷ calls (a ∷ get 960 0 64 ∷ get 1 13 0 ∷ get 961 8 0 ∷ [])
+    -- 6. After get 65, return 128: 9. Return 64: 0, again: 9.
+    ∷ calls (a ∷ get 65 0 64 ∷ return 128 9 [] ∷ return 64 0 [] ∷ return 64 9 [] ∷ [])
+    -- 7. Get 960. Task 3 waits for 640, task 5 for 64 (FIFO). Return 64: notices (3, 0, 64), (5, 0, 704).
+    ∷ calls (a ∷ get 960 0 64 ∷ waits 3 640 ∷ waits 5 64 ∷ return 64 0 (3 ∷ 0 ∷ 64 ∷ 5 ∷ 0 ∷ 704 ∷ []) ∷ [])
+    -- 8. Get 448: 64, get 512: 512. Task 3 waits for 960, task 5 for 64. Return 64: no notice.
+    ∷ calls (a ∷ get 448 0 64 ∷ get 512 0 512 ∷ waits 3 960 ∷ waits 5 64 ∷ return 64 0 [] ∷ [])
+    -- 9. Partition beside A, start 1,024, length 100, size 24: buffers 1024, 1048, 1072, 1096. Get, get, return 1048, return 1024; three
+    -- gets give 1072, 1096, 1048.
+    ∷ calls
+    (a
+    ∷ step (CreatePartition 1 1024 100 24) 0 1 []
+    ∷ buffer 1024
+    ∷ buffer 1048
+    ∷ back 1048
+    ∷ back 1024
+    ∷ buffer 1072
+    ∷ buffer 1096
+    ∷ buffer 1048
+    ∷ [])
+    -- 10. A partition at start 1,020, length 24, size 24, beside A: 9.
+    ∷ calls (a ∷ step (CreatePartition 1 1020 24 24) 9 0 [] ∷ [])
+    ∷ []
+
+pub examples : every holds table ≡ true
+unfolding largest pageCount checked every some indexOf pairwise adjacent draw decode soundFrom soundMap freeSizes heldSizes free+ lead rest placeFrom take heldFrom reachFrom changeFrom regionAreas partitionAreas goesBefore push insert removeAt enqueue dequeue staying leaving afterTick serveUpTo serve follow linked linkAll afterGet afterReturn liveRegion livePartition soundRegion soundPartition soundWaiter soundPlace soundQueue sound createRegion getSegment returnSegment createPartition getBuffer returnBuffer perform
+examples = refl

@@ -1,0 +1,31 @@
+-- Tests over a whole list: what the definitions of document 01 say of every slot, place or area. Assumes nothing.
+use Prim.Native.Nat.{ℕ, zero, suc}
+use mathlib.Core.Bool.{Bool, true, false, cond, _&&_, _||_}
+use mathlib.Core.List.{List, [], _∷_}
+
+module _ {A : Type 0} where
+  -- every element passes the test
+  unfoldable pub every : (A → Bool) → List A → Bool
+  every t [] = true
+  every t (x ∷ xs) = t x && every t xs
+
+  -- some element passes the test
+  unfoldable pub some : (A → Bool) → List A → Bool
+  some t [] = false
+  some t (x ∷ xs) = t x || some t xs
+
+  -- the place of the first element that passes the test; the list's length where none does
+  unfoldable pub indexOf : (A → Bool) → List A → ℕ
+  indexOf t [] = zero
+  indexOf t (x ∷ xs) = cond (t x) zero (suc (indexOf t xs))
+
+  -- every element passes the test with each of those behind it
+  unfoldable pub pairwise : (A → A → Bool) → List A → Bool
+  pairwise t [] = true
+  pairwise t (x ∷ xs) = every (t x) xs && pairwise t xs
+
+  -- every element passes the test with the one directly behind it
+  unfoldable pub adjacent : (A → A → Bool) → List A → Bool
+  adjacent t [] = true
+  adjacent t (x ∷ []) = true
+  adjacent t (x ∷ y ∷ xs) = t x y && adjacent t (y ∷ xs)

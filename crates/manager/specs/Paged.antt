@@ -1,0 +1,94 @@
+-- Document 01, "Regions: Get, Return, Resize": how a region of pages places, frees and resizes segments. A kind of region is one
+-- record of such functions, and the directives and the queue are stated over it. Assumes nothing.
+use Prim.Native.Nat.{ℕ, zero, suc, _+_, _-_}
+use mathlib.Core.Bool.{Bool, cond}
+use mathlib.Core.List.{List, [], _∷_}
+use lib.Dec.{eqb, leb}
+use Rattle.manager.specs.Map.{Segment, free, held, soundMap}
+use Rattle.manager.specs.declared.Order.{Order}
+use Rattle.manager.specs.declared.Place.{Place}
+use Rattle.manager.specs.declared.Place.the-variants.{At, Nowhere}
+
+-- m free pages in front of a map: none for 0, and joined to a free segment that the map starts with
+unfoldable pub free+ : ℕ → List Segment → List Segment
+free+ zero s = s
+free+ (suc m) [] = free (suc m) ∷ []
+free+ (suc m) (free n ∷ s) = free (suc m + n) ∷ s
+free+ (suc m) (held n ∷ s) = free (suc m) ∷ held n ∷ s
+
+-- k held pages in front of a map: none for 0
+abbrev pub held+ : ℕ → List Segment → List Segment
+held+ zero s = s
+held+ (suc k) s = held (suc k) ∷ s
+
+-- the pages of the free segment that a map starts with (0: it starts with none), and the map behind it
+unfoldable pub lead : List Segment → ℕ
+lead [] = 0
+lead (free n ∷ s) = n
+lead (held n ∷ s) = 0
+
+unfoldable pub rest : List Segment → List Segment
+rest [] = []
+rest (free n ∷ s) = s
+rest (held n ∷ s) = held n ∷ s
+
+-- Get: the free segment with the lowest address that has k pages or more. Its first page, where the map starts at page `at`
+unfoldable pub placeFrom : ℕ → ℕ → List Segment → Place
+placeFrom k at [] = Nowhere
+placeFrom k at (held n ∷ s) = placeFrom k (at + n) s
+placeFrom k at (free n ∷ s) = cond (leb k n) (At at) (placeFrom k (at + n) s)
+
+-- it serves from its low end
+unfoldable pub take : ℕ → List Segment → List Segment
+take k [] = []
+take k (held n ∷ s) = held n ∷ take k s
+take k (free n ∷ s) = cond (leb k n) (held k ∷ free+ (n - k) s) (free n ∷ take k s)
+
+-- the pages of the held segment that starts at page p, where the map starts at page `at`; 0 where none does
+unfoldable pub heldFrom : ℕ → ℕ → List Segment → ℕ
+heldFrom p at [] = 0
+heldFrom p at (free n ∷ s) = heldFrom p (at + n) s
+heldFrom p at (held n ∷ s) = cond (eqb at p) n (heldFrom p (at + n) s)
+
+-- the most that it can have: its own pages and those of an adjoining free follower
+unfoldable pub reachFrom : ℕ → ℕ → List Segment → ℕ
+reachFrom p at [] = 0
+reachFrom p at (free n ∷ s) = reachFrom p (at + n) s
+reachFrom p at (held n ∷ s) = cond (eqb at p) (n + lead s) (reachFrom p (at + n) s)
+
+-- Return and Resize: the held segment at page p has k pages from now on (0: it is returned), of its own and of the low end of a
+-- free follower; what it no longer has is free, and joined to its free neighbours
+unfoldable pub changeFrom : ℕ → ℕ → ℕ → List Segment → List Segment
+changeFrom p k at [] = []
+changeFrom p k at (free n ∷ s) = free+ n (changeFrom p k (at + n) s)
+changeFrom p k at (held n ∷ s) = cond (eqb at p) (held+ k (free+ (n + lead s - k) (rest s))) (held n ∷ changeFrom p k (at + n) s)
+
+-- a kind of region
+pub record Kind : Type 0 where
+  -- the pages that are given for k pages asked for
+  pub rounded : ℕ → ℕ
+  -- the words of a sound map
+  pub sound : List ℕ → Bool
+  -- where k pages are placed, and the map after they are taken there
+  pub place : ℕ → List Segment → Place
+  pub take : ℕ → List Segment → List Segment
+  -- the pages of the held segment at a page, the most that it can have, and the map with k pages for it
+  pub held : ℕ → List Segment → ℕ
+  pub reach : ℕ → List Segment → ℕ
+  pub change : ℕ → ℕ → List Segment → List Segment
+
+abbrev pub paged : Kind
+paged =
+    record {
+      rounded = λ k. k;
+      sound = soundMap;
+      place = λ k s. placeFrom k 0 s;
+      take = take;
+      held = λ p s. heldFrom p 0 s;
+      reach = λ p s. reachFrom p 0 s;
+      change = λ p k s. changeFrom p k 0 s;
+    }
+
+-- the kind of a region, by its order: every region is of pages
+abbrev pub kindOf : Order → Kind
+kindOf o = paged

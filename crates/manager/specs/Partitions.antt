@@ -1,0 +1,85 @@
+-- Document 01: the directives on partitions. Each has its checks in the order of "Order of checks". Assumes nothing.
+use Prim.Native.Nat.{ℕ, _+_, _-_, _*_, _%_}
+use mathlib.Core.Bool.{Bool, true, false, cond, not}
+use mathlib.Core.List.{List, [], _∷_}
+use lib.Dec.{eqb, leb, ltb}
+use Rattle.manager.specs.Record.{slots, noPartition, partitionOf, slotOf, idOf, withPartition}
+use Rattle.manager.specs.Result.{Result, check, done}
+use Rattle.manager.specs.Lists.{indexOf}
+use Rattle.manager.specs.Partition.{deadPartition, buffers, bufferAt, isBuffer, isFree, linkAll, afterGet, gotten, afterReturn, returned}
+use Rattle.manager.specs.Regions.{answered, overlaps, pastMemory}
+use Rattle.manager.specs.declared.Manager.{Manager}
+use Rattle.manager.specs.declared.Partition.{Partition}
+use Rattle.manager.specs.declared.Area.{Area}
+use Rattle.manager.specs.declared.Status.the-variants.{InvalidName, InvalidId, TooMany, InvalidSize, InvalidAddress, ResourceInUse, Unsatisfied}
+
+-- Create takes the lowest empty slot, ident the lowest with the name
+abbrev pub partitionNamed : Manager → ℕ → ℕ
+partitionNamed d name = indexOf (λ p. eqb (p .name) name) (d .partitions)
+
+-- the new partition: every buffer is free, in the order of their addresses
+abbrev pub newPartition : ℕ → ℕ → ℕ → ℕ → Partition
+newPartition name start bytes size =
+    let p : Partition = record { name = name; start = start; length = bytes; size = size; front = 0; rear = 0; free = 0 } in
+    record { name = name; start = start; length = bytes; size = size; front = start; rear = bufferAt p (buffers p - 1); free = buffers p }
+
+-- create partition: 3, start 9, alignment 9, past memory 9, length or size 0 (8), length below size 8, size not a multiple of 4 or
+-- below 8 (8), overlap 9, 5
+unfoldable pub createPartition : List ℕ → Manager → ℕ → ℕ → ℕ → ℕ → Result
+createPartition m d name start bytes size =
+    let p = newPartition name start bytes size in
+    let slot = partitionNamed d 0 in
+    answered m d
+    (check (eqb name 0) InvalidName
+    ∷ check (eqb start 0) InvalidAddress
+    ∷ check (not (eqb (start % 4) 0)) InvalidAddress
+    ∷ check (pastMemory m start bytes) InvalidAddress
+    ∷ check (eqb bytes 0) InvalidSize
+    ∷ check (eqb size 0) InvalidSize
+    ∷ check (ltb bytes size) InvalidSize
+    ∷ check (not (eqb (size % 4) 0)) InvalidSize
+    ∷ check (ltb size 8) InvalidSize
+    ∷ check (overlaps d (record { start = start; length = bytes })) InvalidAddress
+    ∷ check (leb slots slot) TooMany
+    ∷ [])
+    (done (linkAll (buffers p) m p 0) (withPartition d slot p) (idOf slot))
+
+-- ident: 3
+unfoldable pub identPartition : List ℕ → Manager → ℕ → Result
+identPartition m d name =
+    answered m d
+    (check (eqb name 0) InvalidName
+    ∷ check (leb slots (partitionNamed d name)) InvalidName
+    ∷ [])
+    (done m d (idOf (partitionNamed d name)))
+
+-- delete: 4, 12; it changes no word of memory
+unfoldable pub deletePartition : List ℕ → Manager → ℕ → Result
+deletePartition m d id =
+    let p = partitionOf d id in
+    answered m d
+    (check (deadPartition p) InvalidId
+    ∷ check (not (eqb (p .free) (buffers p))) ResourceInUse
+    ∷ [])
+    (done m (withPartition d (slotOf id) noPartition) 0)
+
+-- get of a buffer: 4, 13; the front of the chain
+unfoldable pub getBuffer : List ℕ → Manager → ℕ → Result
+getBuffer m d id =
+    let p = partitionOf d id in
+    answered m d
+    (check (deadPartition p) InvalidId
+    ∷ check (eqb (p .free) 0) Unsatisfied
+    ∷ [])
+    (done (afterGet m p) (withPartition d (slotOf id) (gotten m p)) (p .front))
+
+-- return of a buffer: 4, 9; whether it is held is found from the chain
+unfoldable pub returnBuffer : List ℕ → Manager → ℕ → ℕ → Result
+returnBuffer m d id address =
+    let p = partitionOf d id in
+    answered m d
+    (check (deadPartition p) InvalidId
+    ∷ check (not (isBuffer p address)) InvalidAddress
+    ∷ check (isFree m p address) InvalidAddress
+    ∷ [])
+    (done (afterReturn m p address) (withPartition d (slotOf id) (returned p address)) 0)

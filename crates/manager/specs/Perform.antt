@@ -1,0 +1,25 @@
+-- A call of any directive. Assumes nothing.
+use Prim.Native.Nat.{ℕ}
+use mathlib.Core.List.{List}
+use Rattle.manager.specs.Result.{Result}
+use Rattle.manager.specs.Regions.{createRegion, identRegion, deleteRegion, getSegment, returnSegment, segmentSize, resizeSegment, regionInformation, tick}
+use Rattle.manager.specs.Partitions.{createPartition, identPartition, deletePartition, getBuffer, returnBuffer}
+use Rattle.manager.specs.declared.Manager.{Manager}
+use Rattle.manager.specs.declared.Call.{Call}
+use Rattle.manager.specs.declared.Call.the-variants.{CreateRegion, IdentRegion, DeleteRegion, GetSegment, ReturnSegment, SegmentSize, ResizeSegment, RegionInformation, CreatePartition, IdentPartition, DeletePartition, GetBuffer, ReturnBuffer, Tick}
+
+unfoldable pub perform : List ℕ → Manager → Call → Result
+perform m d (CreateRegion name start bytes page order) = createRegion m d name start bytes page order
+perform m d (IdentRegion name) = identRegion m d name
+perform m d (DeleteRegion id) = deleteRegion m d id
+perform m d (GetSegment id size wait task priority ticks) = getSegment m d id size wait task priority ticks
+perform m d (ReturnSegment id address) = returnSegment m d id address
+perform m d (SegmentSize id address) = segmentSize m d id address
+perform m d (ResizeSegment id address size) = resizeSegment m d id address size
+perform m d (RegionInformation id) = regionInformation m d id
+perform m d (CreatePartition name start bytes size) = createPartition m d name start bytes size
+perform m d (IdentPartition name) = identPartition m d name
+perform m d (DeletePartition id) = deletePartition m d id
+perform m d (GetBuffer id) = getBuffer m d id
+perform m d (ReturnBuffer id address) = returnBuffer m d id address
+perform m d Tick = tick m d

@@ -1,0 +1,90 @@
+-- Document 01, "Regions: Layout": where a region's map and pages lie in the memory. Assumes nothing.
+use Prim.Native.Nat.{ℕ, _+_, _-_, _*_, _/_, _%_}
+use mathlib.Core.Bool.{Bool, cond, not, _&&_}
+use mathlib.Core.List.{List, [], _∷_, _++_}
+use lib.ListN.{take, drop}
+use lib.Seq.{sets}
+use lib.Dec.{eqb, leb, ltb}
+use Rattle.arith.specs.Round.{pagesFor}
+use Rattle.arith.specs.Layout.{mapStart, firstPage, pageCount}
+use Rattle.manager.specs.Lists.{some}
+use Rattle.manager.specs.Map.{Segment, isHeldSegment, decode, draw}
+use Rattle.manager.specs.Paged.{Kind, kindOf}
+use Rattle.manager.specs.declared.Region.{Region}
+use Rattle.manager.specs.declared.Partition.{Partition}
+use Rattle.manager.specs.declared.Manager.{Manager}
+use Rattle.manager.specs.declared.Area.{Area}
+
+-- a region of a name is live; an empty slot is not
+abbrev pub dead : Region → Bool
+dead r = eqb (r .name) 0
+
+abbrev pub kind : Region → Kind
+kind r = kindOf (r .order)
+
+-- its page count
+abbrev pub pagesOf : Region → ℕ
+pagesOf r = pageCount (r .start) (r .length) (r .page)
+
+-- the address of its first page, and of page p
+abbrev pub baseOf : Region → ℕ
+baseOf r = firstPage (r .start) (r .page) (pagesOf r)
+
+abbrev pub addressOf : Region → ℕ → ℕ
+addressOf r p = baseOf r + p * r .page
+
+-- whether an address is one of a page's start, counted from the first page on, and which page's
+abbrev pub startsPage : Region → ℕ → Bool
+startsPage r a = leb (baseOf r) a && eqb ((a - baseOf r) % r .page) 0
+
+abbrev pub pageAt : Region → ℕ → ℕ
+pageAt r a = (a - baseOf r) / r .page
+
+-- the place of its map's first word, and the words of the map
+abbrev pub mapAt : Region → ℕ
+mapAt r = mapStart (r .start) / 4
+
+abbrev pub mapWords : List ℕ → Region → List ℕ
+mapWords m r = take (pagesOf r) (drop (mapAt r) m)
+
+-- its segments, and the memory with other segments drawn into its map
+abbrev pub segments : List ℕ → Region → List Segment
+segments m r = decode (mapWords m r)
+
+abbrev pub withSegments : List ℕ → Region → List Segment → List ℕ
+withSegments m r s = sets m (mapAt r) (draw s)
+
+-- the pages of the held segment that starts at an address; 0 where none does
+abbrev pub heldAt : List ℕ → Region → ℕ → ℕ
+heldAt m r a = cond (startsPage r a) (kind r .held (pageAt r a) (segments m r)) 0
+
+-- something of it is held
+abbrev pub anyHeld : List ℕ → Region → Bool
+anyHeld m r = some isHeldSegment (segments m r)
+
+-- Get: bytes are rounded up to whole pages, as its kind gives them
+abbrev pub pagesAsked : Region → ℕ → ℕ
+pagesAsked r size = kind r .rounded (pagesFor size (r .page))
+
+-- the areas of objects: the whole asked area counts. A region has one
+abbrev pub areasOf : Region → List Area
+areasOf r = record { start = r .start; length = r .length } ∷ []
+
+abbrev pub areaOf : Partition → Area
+areaOf p = record { start = p .start; length = p .length }
+
+unfoldable pub regionAreas : List Region → List Area
+regionAreas [] = []
+regionAreas (r ∷ rs) = areasOf r ++ regionAreas rs
+
+unfoldable pub partitionAreas : List Partition → List Area
+partitionAreas [] = []
+partitionAreas (p ∷ ps) = areaOf p ∷ partitionAreas ps
+
+-- all areas of the record: an empty slot's has no byte
+abbrev pub areas : Manager → List Area
+areas d = regionAreas (d .regions) ++ partitionAreas (d .partitions)
+
+-- two areas have a byte in common
+abbrev pub overlap : Area → Area → Bool
+overlap a b = ltb (a .start) (b .start + b .length) && ltb (b .start) (a .start + a .length)

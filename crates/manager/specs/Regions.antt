@@ -1,0 +1,181 @@
+-- Document 01: the directives on regions and the clock tick. Each has its checks in the order of "Order of checks". Assumes nothing.
+use Prim.Native.Nat.{ℕ, _+_, _*_}
+use mathlib.Core.Bool.{Bool, true, false, cond, not, _&&_}
+use mathlib.Core.List.{List, [], _∷_, _++_}
+use lib.ListN.{length}
+use lib.Dec.{eqb, leb, ltb}
+use Rattle.arith.specs.Round.{roundUp}
+use Rattle.manager.specs.Record.{slots, tasks, noRegion, noInformation, regionOf, slotOf, idOf, withRegion}
+use Rattle.manager.specs.Result.{Result, Check, check, checked, refused, done, replied}
+use Rattle.manager.specs.Lists.{some, indexOf}
+use Rattle.manager.specs.Map.{Segment, freeSizes, heldSizes, largestOf, sumOf}
+use Rattle.manager.specs.Paged.{Kind, free+}
+use Rattle.manager.specs.Region.{dead, kind, pagesOf, pageAt, addressOf, segments, withSegments, heldAt, anyHeld, pagesAsked, areas, overlap}
+use Rattle.manager.specs.Queue.{enqueue, waiting, leaving, afterTick}
+use Rattle.manager.specs.Serve.{onPlace, placed, taken, serve, fromServed}
+use Rattle.manager.specs.Sound.{sound}
+use Rattle.manager.specs.declared.Manager.{Manager}
+use Rattle.manager.specs.declared.Region.{Region}
+use Rattle.manager.specs.declared.Waiter.{Waiter}
+use Rattle.manager.specs.declared.Area.{Area}
+use Rattle.manager.specs.declared.Information.{Information}
+use Rattle.manager.specs.declared.Order.{Order}
+use Rattle.manager.specs.declared.Wait.{Wait}
+use Rattle.manager.specs.declared.Wait.the-variants.{No, Yes}
+use Rattle.manager.specs.declared.Status.{Status}
+use Rattle.manager.specs.declared.Status.the-variants.{Successful, InvalidName, InvalidId, TooMany, InvalidSize, InvalidAddress, InvalidNumber, ResourceInUse, Unsatisfied, IncorrectState, InvalidPriority, InternalError, Waiting}
+
+-- "25 first always", then the directive's own checks, then what it does
+abbrev pub answered : List ℕ → Manager → List Check → Result → Result
+answered m d cs act = checked (check (not (sound m d)) InternalError ∷ cs) (refused m d) act
+
+-- an area that meets another live one
+abbrev pub overlaps : Manager → Area → Bool
+overlaps d a = some (overlap a) (areas d)
+
+-- an area that ends past the memory
+abbrev pub pastMemory : List ℕ → ℕ → ℕ → Bool
+pastMemory m start bytes = ltb (4 * length m) (start + bytes)
+
+-- Create takes the lowest empty slot, ident the lowest with the name
+abbrev pub regionNamed : Manager → ℕ → ℕ
+regionNamed d name = indexOf (λ r. eqb (r .name) name) (d .regions)
+
+-- create region: 3, start 9, past memory 9, page 8, area 8, overlap 9, 5
+abbrev pub newRegion : ℕ → ℕ → ℕ → ℕ → Order → Region
+newRegion name start bytes page order = record { name = name; start = start; length = bytes; page = roundUp page 8; order = order }
+
+unfoldable pub createRegion : List ℕ → Manager → ℕ → ℕ → ℕ → ℕ → Order → Result
+createRegion m d name start bytes page order =
+    let r = newRegion name start bytes page order in
+    let slot = regionNamed d 0 in
+    answered m d
+    (check (eqb name 0) InvalidName
+    ∷ check (eqb start 0) InvalidAddress
+    ∷ check (pastMemory m start bytes) InvalidAddress
+    ∷ check (eqb page 0) InvalidSize
+    ∷ check (ltb 4096 page) InvalidSize
+    ∷ check (eqb (pagesOf r) 0) InvalidSize
+    ∷ check (overlaps d (record { start = start; length = bytes })) InvalidAddress
+    ∷ check (leb slots slot) TooMany
+    ∷ [])
+    (done (withSegments m r (free+ (pagesOf r) [])) (withRegion d slot r) (idOf slot))
+
+-- ident: 3
+unfoldable pub identRegion : List ℕ → Manager → ℕ → Result
+identRegion m d name =
+    answered m d
+    (check (eqb name 0) InvalidName
+    ∷ check (leb slots (regionNamed d name)) InvalidName
+    ∷ [])
+    (done m d (idOf (regionNamed d name)))
+
+-- delete: 4, 12; it changes no word of memory
+unfoldable pub deleteRegion : List ℕ → Manager → ℕ → Result
+deleteRegion m d id =
+    let r = regionOf d id in
+    answered m d
+    (check (dead r) InvalidId
+    ∷ check (anyHeld m r) ResourceInUse
+    ∷ [])
+    (done m (withRegion d (slotOf id) noRegion) 0)
+
+-- get: size 0 (8), 4, size too large 8; if waiting is allowed 10, 19, 14; then the search
+abbrev pub waitChecks : Manager → Wait → ℕ → ℕ → List Check
+waitChecks d No task priority = []
+waitChecks d Yes task priority =
+    check (eqb task 0) InvalidNumber
+    ∷ check (ltb tasks task) InvalidNumber
+    ∷ check (eqb priority 0) InvalidPriority
+    ∷ check (ltb 255 priority) InvalidPriority
+    ∷ check (waiting d task) IncorrectState
+    ∷ []
+
+-- no fit: 13, or the task now waits and only the queue changes
+abbrev pub unplaced : List ℕ → Manager → Wait → Waiter → Result
+unplaced m d No w = refused m d Unsatisfied
+unplaced m d Yes w = replied m (enqueue d w) Waiting 0
+
+unfoldable pub getSegment : List ℕ → Manager → ℕ → ℕ → Wait → ℕ → ℕ → ℕ → Result
+getSegment m d id size wait task priority ticks =
+    let r = regionOf d id in
+    let k = pagesAsked r size in
+    answered m d
+    (check (eqb size 0) InvalidSize
+    ∷ check (dead r) InvalidId
+    ∷ check (ltb (pagesOf r) k) InvalidSize
+    ∷ waitChecks d wait task priority)
+    (onPlace (placed m r k) (λ p. done (taken m r k) d (addressOf r p))
+    (unplaced m d wait (record { task = task; region = id; size = size; priority = priority; ticks = ticks })))
+
+-- return: 4, 9; the segment joins its free neighbours, then the queue is served
+unfoldable pub returnSegment : List ℕ → Manager → ℕ → ℕ → Result
+returnSegment m d id address =
+    let r = regionOf d id in
+    answered m d
+    (check (dead r) InvalidId
+    ∷ check (eqb (heldAt m r address) 0) InvalidAddress
+    ∷ [])
+    (fromServed (serve (withSegments m r (kind r .change (pageAt r address) 0 (segments m r))) d id))
+
+-- size: 4, 9; the length of the held segment
+unfoldable pub segmentSize : List ℕ → Manager → ℕ → ℕ → Result
+segmentSize m d id address =
+    let r = regionOf d id in
+    answered m d
+    (check (dead r) InvalidId
+    ∷ check (eqb (heldAt m r address) 0) InvalidAddress
+    ∷ [])
+    (done m d (heldAt m r address * r .page))
+
+-- resize: size 0 (8), 4, 9, 13; the value is the old length, with 13 too
+unfoldable pub resizeSegment : List ℕ → Manager → ℕ → ℕ → ℕ → Result
+resizeSegment m d id address size =
+    let r = regionOf d id in
+    let old = heldAt m r address in
+    let p = pageAt r address in
+    let k = pagesAsked r size in
+    answered m d
+    (check (eqb size 0) InvalidSize
+    ∷ check (dead r) InvalidId
+    ∷ check (eqb old 0) InvalidAddress
+    ∷ [])
+    (cond (leb k (kind r .reach p (segments m r)))
+    (done (withSegments m r (kind r .change p k (segments m r))) d (old * r .page))
+    (replied m d Unsatisfied (old * r .page)))
+
+-- information: 4; count, largest and total bytes of free, then of held segments
+abbrev pub informationOf : ℕ → List ℕ → List ℕ → Information
+informationOf page frees helds =
+    record {
+      «free_count» = length frees;
+      «free_largest» = largestOf frees * page;
+      «free_total» = sumOf frees * page;
+      «held_count» = length helds;
+      «held_largest» = largestOf helds * page;
+      «held_total» = sumOf helds * page;
+    }
+
+abbrev pub informed : List ℕ → Manager → Information → Result
+informed m d i = record { memory = m; status = Successful; value = 0; information = i; notices = []; manager = d }
+
+unfoldable pub regionInformation : List ℕ → Manager → ℕ → Result
+regionInformation m d id =
+    let r = regionOf d id in
+    answered m d
+    (check (dead r) InvalidId
+    ∷ [])
+    (informed m d (informationOf (r .page) (freeSizes (segments m r)) (heldSizes (segments m r))))
+
+-- tick: no check of its own; it serves nobody
+unfoldable pub tick : List ℕ → Manager → Result
+tick m d =
+    answered m d []
+    (record {
+      memory = m;
+      status = Successful;
+      value = 0;
+      information = noInformation;
+      notices = leaving (d .waiters);
+      manager = afterTick d;
+    })

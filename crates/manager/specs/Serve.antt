@@ -1,0 +1,65 @@
+-- Document 01, "Regions: Return": the first waiter is tried by the get rule; if served, the next; the first who can't be served
+-- ends it. Assumes nothing.
+use Prim.Native.Nat.{ℕ, zero, suc}
+use mathlib.Core.Bool.{Bool, cond}
+use mathlib.Core.List.{List, [], _∷_}
+use lib.ListN.{getD}
+use lib.Dec.{ltb}
+use Rattle.manager.specs.Record.{tasks, noWaiter, noInformation, regionOf}
+use Rattle.manager.specs.Result.{Result}
+use Rattle.manager.specs.Paged.{Kind}
+use Rattle.manager.specs.Region.{kind, segments, withSegments, addressOf, pagesAsked}
+use Rattle.manager.specs.Queue.{firstOf, dequeue}
+use Rattle.manager.specs.declared.Manager.{Manager}
+use Rattle.manager.specs.declared.Region.{Region}
+use Rattle.manager.specs.declared.Waiter.{Waiter}
+use Rattle.manager.specs.declared.Notice.{Notice}
+use Rattle.manager.specs.declared.Place.{Place}
+use Rattle.manager.specs.declared.Place.the-variants.{At, Nowhere}
+use Rattle.manager.specs.declared.Status.the-variants.{Successful}
+
+-- by where a search ends
+abbrev pub onPlace : {A : Type 0} → Place → (ℕ → A) → A → A
+onPlace (At p) f z = f p
+onPlace Nowhere f z = z
+
+-- where k pages of a region are placed, and the memory after they are taken there
+abbrev pub placed : List ℕ → Region → ℕ → Place
+placed m r k = kind r .place k (segments m r)
+
+abbrev pub taken : List ℕ → Region → ℕ → List ℕ
+taken m r k = withSegments m r (kind r .take k (segments m r))
+
+-- what serving leaves: the memory, the record, and the notices in order
+pub record Served : Type 0 where
+  pub memory : List ℕ
+  pub manager : Manager
+  pub notices : List Notice
+
+abbrev pub quiet : List ℕ → Manager → Served
+quiet m d = record { memory = m; manager = d; notices = [] }
+
+abbrev pub granted : Waiter → ℕ → Notice
+granted w a = record { task = w .task; status = Successful; address = a }
+
+abbrev pub telling : Notice → Served → Served
+telling n s = record { memory = s .memory; manager = s .manager; notices = n ∷ s .notices }
+
+-- at most so many grants
+unfoldable pub serveUpTo : ℕ → List ℕ → Manager → ℕ → Served
+serveUpTo zero m d id = quiet m d
+serveUpTo (suc f) m d id =
+    let r = regionOf d id in
+    let i = firstOf id (d .waiters) in
+    let w = getD (d .waiters) i noWaiter in
+    let k = pagesAsked r (w .size) in
+    cond (ltb i tasks)
+    (onPlace (placed m r k) (λ p. telling (granted w (addressOf r p)) (serveUpTo f (taken m r k) (dequeue d i) id)) (quiet m d))
+    (quiet m d)
+
+-- the queue of a region: as many grants as there are places
+unfoldable pub serve : List ℕ → Manager → ℕ → Served
+serve m d id = serveUpTo tasks m d id
+
+abbrev pub fromServed : Served → Result
+fromServed s = record { memory = s .memory; status = Successful; value = 0; information = noInformation; notices = s .notices; manager = s .manager }

@@ -1,0 +1,109 @@
+-- Document 01, "Sound books": what a sound manager record over a memory is, clause by clause. Assumes nothing.
+use Prim.Native.Nat.{ℕ, _+_, _*_, _/_, _%_}
+use mathlib.Core.Bool.{Bool, true, false, cond, not, _&&_, _||_}
+use mathlib.Core.List.{List, [], _∷_}
+use lib.ListN.{length}
+use lib.Dec.{eqb, leb, ltb}
+use Rattle.manager.specs.Record.{tasks, mostWords, regionOf}
+use Rattle.manager.specs.Lists.{every, pairwise, adjacent}
+use Rattle.manager.specs.Paged.{Kind}
+use Rattle.manager.specs.Region.{dead, kind, pagesOf, mapWords, anyHeld, pagesAsked, areas, overlap}
+use Rattle.manager.specs.Partition.{deadPartition, soundChain}
+use Rattle.manager.specs.Queue.{goesBefore}
+use Rattle.manager.specs.declared.Manager.{Manager}
+use Rattle.manager.specs.declared.Region.{Region}
+use Rattle.manager.specs.declared.Partition.{Partition}
+use Rattle.manager.specs.declared.Waiter.{Waiter}
+use Rattle.manager.specs.declared.Order.{Order}
+use Rattle.manager.specs.declared.Order.the-variants.{Fifo, Priority}
+
+-- "Memory of allowed length"
+abbrev pub soundLength : List ℕ → Bool
+soundLength m = leb 1 (length m) && leb (length m) mostWords
+
+-- "areas inside the memory, start not 0"
+abbrev pub inside : List ℕ → ℕ → ℕ → Bool
+inside m start bytes = not (eqb start 0) && leb (start + bytes) (4 * length m)
+
+-- a page size that create allows, 1 to 4,096, rounded up to a multiple of 8
+abbrev pub soundPage : ℕ → Bool
+soundPage page = leb 8 page && (leb page 4096 && eqb (page % 8) 0)
+
+-- buffers of a multiple of 4, at least 8, and at least one of them
+abbrev pub soundSize : ℕ → ℕ → Bool
+soundSize bytes size = leb size bytes && (eqb (size % 4) 0 && leb 8 size)
+
+abbrev pub isFifo : Order → Bool
+isFifo Fifo = true
+isFifo Priority = false
+
+-- "empty slots zero"
+abbrev pub emptyRegion : Region → Bool
+emptyRegion r = eqb (r .start) 0 && (eqb (r .length) 0 && (eqb (r .page) 0 && isFifo (r .order)))
+
+abbrev pub emptyPartition : Partition → Bool
+emptyPartition p =
+    eqb (p .start) 0 && (eqb (p .length) 0 && (eqb (p .size) 0 && (eqb (p .front) 0 && (eqb (p .rear) 0 && eqb (p .free) 0))))
+
+-- "region sizes as their creates allow, page sizes rounded; maps as above"
+unfoldable pub liveRegion : List ℕ → Region → Bool
+liveRegion m r =
+    inside m (r .start) (r .length) && (soundPage (r .page) && (leb 1 (pagesOf r) && kind r .sound (mapWords m r)))
+
+-- "partition sizes as their creates allow; chains that run from front to rear over real buffers"
+unfoldable pub livePartition : List ℕ → Partition → Bool
+livePartition m p =
+    inside m (p .start) (p .length) && (eqb (p .start % 4) 0 && (soundSize (p .length) (p .size) && soundChain m p))
+
+-- "live names not 0": a slot without a name is empty
+unfoldable pub soundRegion : List ℕ → Region → Bool
+soundRegion m r = cond (dead r) (emptyRegion r) (liveRegion m r)
+
+unfoldable pub soundPartition : List ℕ → Partition → Bool
+soundPartition m p = cond (deadPartition p) (emptyPartition p) (livePartition m p)
+
+-- "no two overlapping (the whole asked area counts)"
+abbrev pub soundAreas : Manager → Bool
+soundAreas d = pairwise (λ a b. not (overlap a b)) (areas d)
+
+abbrev pub unused : Waiter → Bool
+unused w = eqb (w .task) 0
+
+-- "unused queue places zero", and behind the used ones
+abbrev pub emptyWaiter : Waiter → Bool
+emptyWaiter w =
+    eqb (w .task) 0 && (eqb (w .region) 0 && (eqb (w .size) 0 && (eqb (w .priority) 0 && eqb (w .ticks) 0)))
+
+-- "each waiting task of 1 to 16, in a live region with something held, with a size from 1 that region can hold, a priority from 1 to
+-- 255"
+unfoldable pub soundWaiter : List ℕ → Manager → Waiter → Bool
+soundWaiter m d w =
+    let r = regionOf d (w .region) in
+    leb (w .task) tasks
+    && (not (dead r)
+    && (anyHeld m r
+    && (leb 1 (w .size)
+    && (leb (pagesAsked r (w .size)) (pagesOf r)
+    && (leb 1 (w .priority) && leb (w .priority) 255)))))
+
+unfoldable pub soundPlace : List ℕ → Manager → Waiter → Bool
+soundPlace m d w = cond (unused w) (emptyWaiter w) (soundWaiter m d w)
+
+-- "once"
+abbrev pub otherTask : Waiter → Waiter → Bool
+otherTask w x = unused w || not (eqb (w .task) (x .task))
+
+-- "the queue in its order": nobody behind goes before; used places come first
+abbrev pub inOrder : Manager → Waiter → Waiter → Bool
+inOrder d w x = unused x || not (goesBefore (regionOf d (x .region) .order) x w)
+
+unfoldable pub soundQueue : List ℕ → Manager → Bool
+soundQueue m d = every (soundPlace m d) (d .waiters) && (pairwise otherTask (d .waiters) && adjacent (inOrder d) (d .waiters))
+
+-- Sound books. "Anything else is answered 25, and sound books never are"
+unfoldable pub sound : List ℕ → Manager → Bool
+sound m d =
+    soundLength m
+    && (every (soundRegion m) (d .regions)
+    && (every (soundPartition m) (d .partitions)
+    && (soundAreas d && soundQueue m d)))
