@@ -111,3 +111,29 @@ module _ (start length page : ℕ) (hp : 0 < page) where
       largest-unique (length / (page + 4)) (fits start length page) n
       (⊎-elim (λ (e : n ≡ 0). omega arith) (λ (h : 0 < n). fits-bound n (f h)) (eq-zero-or-pos n))
       f (λ k h u e. m k h e)
+
+-- what the count's pages take: all within the area, the map before the pages, a word and a page each
+module _ (start length page : ℕ) where
+  pub count-map : 0 < page
+      → pageCount start length page * 4 + mapStart start ≤ firstPage start page (pageCount start length page)
+  count-map hp = omega (arith, first-ge start page hp (pageCount start length page))
+
+  pub count-end : 0 < page → 0 < pageCount start length page
+      → firstPage start page (pageCount start length page) + pageCount start length page * page ≤ start + length
+  count-end hp h = fits-le start length page (pageCount start length page) (count-fits start length page hp h)
+
+  pub count-room : pageCount start length page * (page + 4) ≤ length
+  count-room =
+      ⊎-elim (λ (e : pageCount start length page ≡ 0). rw (e, zero-mul) (omega arith))
+      (λ (h : 0 < pageCount start length page). ⊎-elim
+      (λ (e : page ≡ 0). absurd (omega (arith, count-zero start length page e)))
+      (λ (hp : 0 < page). let f = count-fits start length page hp h in
+      omega (arith, fits-room start length page hp (pageCount start length page) f, map-ge start))
+      (eq-zero-or-pos page))
+      (eq-zero-or-pos (pageCount start length page))
+
+  -- at the least page size of 8 that is 12 bytes for each page
+  pub count-small : 8 ≤ page → pageCount start length page ≤ length / 12
+  count-small h =
+      le-div-iff-mul-le {k = 12} {x = pageCount start length page} {y = length} (omega arith) .1
+      (le-trans (mul-le-mul-left {m = 12} {n = page + 4} (pageCount start length page) (omega arith)) count-room)
