@@ -3,7 +3,7 @@
 //! Numbers that come from a caller are any `u32`. Sums of them are made in
 //! `u64`, where they cannot wrap.
 
-use std::collections::VecDeque;
+use std::collections::{BTreeSet, VecDeque};
 
 /// The bytes of the memory that areas lie in: 16,384 words of 4 bytes.
 pub const MEMORY_BYTES: u64 = 4 * 16_384;
@@ -354,7 +354,8 @@ struct Partition {
 
 impl Partition {
     fn held(&self) -> Vec<u32> {
-        let is_held = |buffer: &u32| !self.free.contains(buffer);
+        let free: BTreeSet<u32> = self.free.iter().copied().collect();
+        let is_held = |buffer: &u32| !free.contains(buffer);
         self.buffers.iter().copied().filter(is_held).collect()
     }
 }
