@@ -3,3 +3,5 @@ pub mod Tests
 pub mod Drawn
 pub mod Get
 pub mod Change
+pub mod Words
+pub mod Book
