@@ -104,22 +104,20 @@ room-here : (n at a m : ℕ) (l : List Loan) → Ordered n at (loan a m ∷ l) �
 unfolding Ordered Held
 room-here n at a m l o k =
     let le : a + m ≤ next n l = ordered-next n (a + m) l (o .2) in
-    let end : next n l ≤ n = ordered-end n (a + m) l (o .2) in
-    (
+    let end : next n l ≤ n = ordered-end n (a + m) l (o .2) in (
       λ h. record {
         upto = omega arith;
         unheld = λ q b u x. elim x [ inl y ↦ omega arith | inr y ↦ omega (arith, held-after n (a + m) l q (o .2) y) ];
       },
       λ r. by-leb k (mostAt n a m l) (λ (t : Bool). k ≤ mostAt n a m l) (λ h. h)
-      (λ h. absurd (r .unheld (next n l) le (omega arith) (inr (next-held n (a + m) l (o .2) (omega (arith, r .upto)))))),
+          (λ h. absurd (r .unheld (next n l) le (omega arith) (inr (next-held n (a + m) l (o .2) (omega (arith, r .upto)))))),
     )
 
 room-behind : (n at a m : ℕ) (l : List Loan) → Ordered n at (loan a m ∷ l) → (p j k : ℕ) → Lent l p j → Room n l p j k ↔ Room n (loan a m ∷ l) p j k
 unfolding Ordered Held
 room-behind n at a m l o p j k i =
     let le : a + m ≤ next n l = ordered-next n (a + m) l (o .2) in
-    let from : next n l ≤ p = lent-after n (a + m) l p j (o .2) i in
-    (
+    let from : next n l ≤ p = lent-after n (a + m) l p j (o .2) i in (
       λ r. record { upto = r .upto; unheld = λ q b u x. elim x [ inl y ↦ omega arith | inr y ↦ r .unheld q b u y ] },
       λ r. record { upto = r .upto; unheld = λ q b u x. r .unheld q b u (inr x) },
     )
@@ -169,8 +167,7 @@ unfolding Ordered Lent drawn
 changed n at [] p m k o x h = absurd x
 changed n at (loan a j ∷ l) p m k o (inl x) h =
     let reach : reachFrom p at (drawn n at (loan a j ∷ l)) ≡ mostAt n a j l = reach-first n p at a j l o ∙ rw (eq-eqb a p (x .0)) in
-    let is : amend p k (loan a j ∷ l) ≡ loan+ a k l = amend-first a j p k l (x .0) in
-    (
+    let is : amend p k (loan a j ∷ l) ≡ loan+ a k l = amend-first a j p k l (x .0) in (
       change-first n p at a j l o k ∙ rw (eq-eqb a p (x .0), is) (drawn-here n at a j l o k (omega arith)),
       rw is (ordered-here n at a j l o k (omega arith)),
     )
@@ -178,8 +175,7 @@ changed n at (loan a j ∷ l) p m k o (inr x) h =
     let ne : ¬ (a ≡ p) = lent-behind n p at a j l o m x in
     let reach : reachFrom p at (drawn n at (loan a j ∷ l)) ≡ reachFrom p (a + j) (drawn n (a + j) l) = reach-first n p at a j l o ∙ rw (ne-eqb a p ne) in
     let is : amend p k (loan a j ∷ l) ≡ loan a j ∷ amend p k l = amend-behind a j p k l ne in
-    let ih = changed n (a + j) l p m k (o .2) x (rw reach at h) in
-    (
+    let ih = changed n (a + j) l p m k (o .2) x (rw reach at h) in (
       change-first n p at a j l o k ∙ rw (ne-eqb a p ne, is, ih .0),
       rw is (o .0, o .1, ih .1),
     )

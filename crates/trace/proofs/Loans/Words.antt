@@ -12,7 +12,7 @@ use Rattle.manager.specs.Map.{Segment, free, held, isHeldSegment, draw, decode,
 use Rattle.manager.specs.Map.Laws.{Well, well-after, sound-drawn, reread, redraw, well-decoded, length-draw, total-decoded}
 use Rattle.manager.specs.Paged.{free+}
 use Rattle.manager.specs.Paged.Laws.{free-join, total-free, well-free, free-front}
-use Rattle.trace.specs.Loans.{Loan, loan, drawn, Ordered, loanPages}
+use Rattle.trace.specs.Loans.{Loan, loan, Lent, drawn, Ordered, loanPages}
 use Rattle.trace.proofs.Loans.Drawn.{next, onward, drawn-next, ordered-next, ordered-from}
 
 -- ---- the words
@@ -106,6 +106,11 @@ none-held n at (loan a k ∷ l) e =
     let y : _≡_ {A = ℕ} 0 1 = cc in
     absurd (omega arith)
 
+pub lent-any : (n at : ℕ) (l : List Loan) (p k : ℕ) → Lent l p k → some isHeldSegment (drawn n at l) ≡ true
+unfolding Lent
+lent-any n at [] p k x = absurd x
+lent-any n at (loan a m ∷ l) p k x = any-some n at a m l
+
 -- ---- from a map to its loans
 
 -- the loans that the held segments are, where the map starts at page `at`
@@ -164,3 +169,7 @@ loans-drawn n at [] o = loans-free n at (n - at) []
 loans-drawn n at (loan a k ∷ l) o =
     let there : at + (a - at) ≡ a = omega arith in
     loans-free n at (a - at) (loan a k ∷ l) ∙ rw there (ap (λ (t : List Loan). loan a k ∷ t) (loans-drawn n (a + k) l (o .2)))
+
+pub same-loans : (n : ℕ) (l l′ : List Loan) → Ordered n 0 l → Ordered n 0 l′ → draw (drawn n 0 l) ≡ draw (drawn n 0 l′) → l ≡ l′
+same-loans n l l′ o o′ e =
+    sym (loans-drawn n 0 l o) ∙ ap (loansOf 0) (sym (reads n 0 l o) ∙ ap decode e ∙ reads n 0 l′ o′) ∙ loans-drawn n 0 l′ o′
