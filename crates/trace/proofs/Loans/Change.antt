@@ -1,20 +1,20 @@
 -- What is found at a page of a drawn map, and what a return or a resize leaves, are read off the loans. Each function is first taken
 -- past the free pages in front of a loan, and then by induction over the loans. Assumes nothing.
-use mathlib.Core.Path.{_≡_, refl, ap, sym, _∙_}
-use mathlib.Core.Bool.{Bool, true, false, cond}
+use mathlib.Core.Path.{_≡_, refl, ap, _∙_}
+use mathlib.Core.Bool.{Bool, cond}
 use mathlib.Core.List.{List, [], _∷_}
-use mathlib.Core.Logic.{_⊎_, inl, inr, _↔_}
+use mathlib.Core.Logic.{inl, inr, _↔_}
 use Prim.Native.Nat.{ℕ, zero, suc, _+_, _-_, _≤_, _<_}
 use native.Mathlib.Omega.{arith}
 use native.Mathlib.Nat.{add-zero}
-use lib.Dec.{eqb, leb}
+use lib.Dec.{eqb}
 use borrow.Author.Tests.{eq-eqb, ne-eqb}
-use Rattle.manager.specs.Map.{Segment, free, held}
+use Rattle.manager.specs.Map.{free, held}
 use Rattle.manager.specs.Paged.{free+, held+, lead, rest, heldFrom, reachFrom, changeFrom}
 use Rattle.manager.specs.Paged.Laws.{free-join}
 use Rattle.trace.specs.Loans.{Loan, loan, loan+, amend, Lent, Held, drawn, Ordered, Room}
 use Rattle.trace.proofs.Loans.Tests.{by-leb, by-eqb}
-use Rattle.trace.proofs.Loans.Drawn.{next, onward, drawn-next, lead-onward, rest-onward, ordered-next, ordered-end, ordered-from, held-after, next-held, lent-after, lent-some, lent-within}
+use Rattle.trace.proofs.Loans.Drawn.{next, onward, drawn-next, lead-onward, rest-onward, ordered-next, ordered-end, ordered-from, held-after, next-held, lent-after, lent-some}
 
 -- ---- past the free pages in front
 

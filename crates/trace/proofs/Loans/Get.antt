@@ -1,9 +1,9 @@
 -- A get on a drawn map: where it is placed, and the map that it leaves, are read off the loans. By induction over the loans: the free
 -- pages before the first one serve, or what is behind it does. Assumes nothing.
-use mathlib.Core.Path.{_≡_, refl, ap, sym, _∙_}
-use mathlib.Core.Bool.{Bool, true, false, cond}
+use mathlib.Core.Path.{_≡_, refl, ap}
+use mathlib.Core.Bool.{Bool, cond}
 use mathlib.Core.List.{List, [], _∷_}
-use mathlib.Core.Logic.{_⊎_, inl, inr}
+use mathlib.Core.Logic.{inl, inr}
 use Prim.Native.Nat.{ℕ, zero, suc, _+_, _-_, _≤_, _<_, max}
 use native.Mathlib.Omega.{arith}
 use native.Mathlib.Nat.{add-zero, sub-self, le-refl}
@@ -15,7 +15,7 @@ use Rattle.manager.specs.declared.Place.{Place}
 use Rattle.manager.specs.declared.Place.the-variants.{At, Nowhere}
 use Rattle.trace.specs.Loans.{Loan, loan, enter, Held, drawn, Ordered, Run}
 use Rattle.trace.proofs.Loans.Tests.{by-leb}
-use Rattle.trace.proofs.Loans.Drawn.{next, onward, drawn-next, ordered-next, ordered-end, ordered-from, held-after}
+use Rattle.trace.proofs.Loans.Drawn.{next, onward, drawn-next, ordered-end, ordered-from, held-after}
 
 -- what a get of k pages has to come to, from page `at` on: the lowest run, lent, or nothing where there is none
 pub data Got (n at : ℕ) (l : List Loan) (k : ℕ) : Place → List Segment → Type 0 where

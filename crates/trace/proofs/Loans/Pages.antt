@@ -1,17 +1,17 @@
 -- A region of pages is a lawful kind. Assumes nothing.
-use mathlib.Core.Path.{_≡_, refl, ap, sym, _∙_}
-use mathlib.Core.Bool.{true, false}
+use mathlib.Core.Path.{_≡_, ap, sym, _∙_}
+use mathlib.Core.Bool.{true}
 use mathlib.Core.Logic.{_↔_}
-use mathlib.Core.List.{List, [], _∷_}
-use Prim.Native.Nat.{ℕ, zero, suc, _+_, _≤_, _<_}
+use mathlib.Core.List.{List}
+use Prim.Native.Nat.{ℕ, _+_, _≤_, _<_}
 use native.Mathlib.Omega.{arith}
 use lib.ListN.{length}
 use Rattle.manager.specs.Lists.{some}
 use Rattle.manager.specs.Map.{Segment, isHeldSegment, draw, decode, soundMap, freeSizes, heldSizes, sumOf}
 use Rattle.manager.specs.Map.Laws.{redraw}
-use Rattle.manager.specs.Paged.{Kind, paged, free+, placeFrom, take, heldFrom, reachFrom, changeFrom}
+use Rattle.manager.specs.Paged.{paged, placeFrom, take, heldFrom, reachFrom, changeFrom}
 use Rattle.manager.specs.declared.Place.{Place}
-use Rattle.trace.specs.Loans.{Loan, loan, enter, amend, Lent, drawn, Ordered, Run, Lowest, Room, loanPages}
+use Rattle.trace.specs.Loans.{Loan, amend, Lent, drawn, Ordered, Run, Lowest, Room, loanPages}
 use Rattle.trace.proofs.Loans.Drawn as draws
 use Rattle.trace.proofs.Loans.Get.{Got, gave, none, got-from}
 use Rattle.trace.proofs.Loans.Change as change

@@ -2,14 +2,14 @@
 -- loans, and with its free ones they make up the region. And every sound map is drawn from loans in order: those that its held segments
 -- are. Assumes nothing.
 use mathlib.Core.Path.{_≡_, refl, ap, sym, _∙_}
-use mathlib.Core.Bool.{Bool, true, false, _||_}
+use mathlib.Core.Bool.{Bool, true, false}
 use mathlib.Core.List.{List, [], _∷_}
-use Prim.Native.Nat.{ℕ, zero, suc, _+_, _-_, _≤_, _<_}
+use Prim.Native.Nat.{ℕ, zero, suc, _+_, _-_, _≤_}
 use native.Mathlib.Omega.{arith}
 use lib.ListN.{length}
 use Rattle.manager.specs.Lists.{some}
 use Rattle.manager.specs.Map.{Segment, free, held, isHeldSegment, draw, decode, soundMap, freeSizes, heldSizes, sumOf, total}
-use Rattle.manager.specs.Map.Laws.{Well, well-after, sound-drawn, reread, redraw, well-decoded, length-draw, total-decoded}
+use Rattle.manager.specs.Map.Laws.{Well, sound-drawn, reread, redraw, well-decoded, length-draw, total-decoded}
 use Rattle.manager.specs.Paged.{free+}
 use Rattle.manager.specs.Paged.Laws.{free-join, total-free, well-free, free-front}
 use Rattle.trace.specs.Loans.{Loan, loan, Lent, drawn, Ordered, loanPages}
