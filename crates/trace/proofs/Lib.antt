@@ -1,2 +1,4 @@
 pub mod Invariant
+pub mod Frame
+pub mod Areas
 pub mod Loans

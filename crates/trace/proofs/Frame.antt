@@ -1,0 +1,378 @@
+-- Which words a part of the picture rests on: a region's map words, and the link words of a partition's chained buffers. Where these
+-- stay as they are, so does the picture, whatever happens elsewhere. The words lie inside the object's area. Assumes nothing.
+use mathlib.Core.Path.{_≡_, refl, sym, ap, _∙_, subst}
+use mathlib.Core.Bool.{Bool, true, false, not, _&&_}
+use mathlib.Core.List.{List, [], _∷_, _++_, append-assoc}
+use mathlib.Core.Logic.{_⊎_, inl, inr}
+use Prim.Native.Nat.{ℕ, zero, suc, _+_, _-_, _*_, _/_, _%_, _≤_, _<_}
+use native.Mathlib.Nat.{div-mul-le-self, div-add-mod', mul-le-mul-right, suc-mul, lt-of-mul-lt-mul-right}
+use native.Mathlib.Numerals.{add-one}
+use native.Mathlib.Omega.{arith}
+use lib.ListN.{length, getD, take, drop, set, length-take, length-drop, length-set}
+use lib.Seq.{sets, length-sets, sets-eq, getD-set-other, getD-take, getD-drop, ext-getD, take-at, drop-at, length-take-le}
+use lib.Dec.{eqb, leb, ltb}
+use borrow.Author.Tests.{eqb-true, eqb-false, leb-true, leb-false, ltb-true, eq-eqb, ne-eqb, le-leb, lt-ltb, not-true}
+use Rattle.arith.specs.Round.{roundUp}
+use Rattle.arith.specs.Round.Laws.{round-ge, round-least, round-multiple}
+use Rattle.arith.specs.Layout.{mapStart, firstPage, pageCount}
+use Rattle.arith.specs.Layout.Laws.{map-ge, count-map, count-end}
+use Rattle.manager.specs.Lists.Laws.{and-first, and-second}
+use Rattle.manager.specs.Map.{draw}
+use Rattle.manager.specs.Region.{pagesOf, baseOf, mapAt, mapWords, withSegments}
+use Rattle.manager.specs.Partition.{isBuffer, buffers, nextOf, beforeOf, follow, chain, linked, soundChain}
+use Rattle.manager.specs.Sound.{inside, soundSize, livePartition}
+use Rattle.manager.specs.declared.Region.{Region}
+use Rattle.manager.specs.declared.Partition.{Partition}
+use Rattle.trace.specs.Loans.{Loan, Ordered, drawn}
+use Rattle.trace.specs.Receipts.{RegionEntry, PartitionEntry, unit, pagesIn, Within, withLoans}
+use Rattle.trace.proofs.Invariant.{Inside, Only, regionFor, RegionIs, PartitionIs}
+
+-- ---- words inside an area, and changes of nothing else
+
+pub inside-wider : (a n b k w : ℕ) → b ≤ a → a + n ≤ b + k → Inside a n w → Inside b k w
+inside-wider a n b k w l h i = omega arith
+
+pub only-refl : (a n : ℕ) (m : List ℕ) → Only a n m m
+only-refl a n m = record { size = refl; same = λ w h. refl }
+
+pub only-trans : (a n : ℕ) (m m′ m″ : List ℕ) → Only a n m m′ → Only a n m′ m″ → Only a n m m″
+only-trans a n m m′ m″ p q = record { size = q .size ∙ p .size; same = λ w h. q .same w h ∙ p .same w h }
+
+pub only-wider : (a n b k : ℕ) (m m′ : List ℕ) → b ≤ a → a + n ≤ b + k → Only a n m m′ → Only b k m m′
+only-wider a n b k m m′ l h o = record { size = o .size; same = λ w i. o .same w (λ j. i (inside-wider a n b k w l h j)) }
+
+-- one word stored, and a run of words
+pub only-set : (a n : ℕ) (m : List ℕ) (i v : ℕ) → Inside a n i → Only a n m (set m i v)
+only-set a n m i v h =
+    record {
+      size = length-set m i v;
+      same = λ w o. getD-set-other m i w v 0 (λ e. o (subst (λ (k : ℕ). Inside a n k) (sym e) h));
+    }
+
+pub only-sets : (a n : ℕ) (m : List ℕ) (i : ℕ) (ws : List ℕ) → a ≤ 4 * i → 4 * (i + length ws) ≤ a + n → Only a n m (sets m i ws)
+only-sets a n m i [] l h = only-refl a n m
+only-sets a n m i (w ∷ ws) l h =
+    only-trans a n m (set m i w) (sets (set m i w) (suc i) ws)
+    (only-set a n m i w (record { low = l; high = omega arith }))
+    (only-sets a n (set m i w) (suc i) ws (omega arith) (omega arith))
+
+-- a part of the memory, by its words
+pub part-same : (n b : ℕ) (m m′ : List ℕ) → length m′ ≡ length m → ((k : ℕ) → b ≤ k → k < b + n → getD m′ k 0 ≡ getD m k 0)
+    → take n (drop b m′) ≡ take n (drop b m)
+part-same n b m m′ e h =
+    ext-getD 0 (take n (drop b m′)) (take n (drop b m)) (simp (length-take, length-drop, e))
+    (λ i l. let u : i < n = omega (arith, length-take n (drop b m′), l) in
+    getD-take n (drop b m′) i 0 u ∙ getD-drop b m′ i 0
+    ∙ h (b + i) (omega arith) (omega arith)
+    ∙ sym (getD-take n (drop b m) i 0 u ∙ getD-drop b m i 0))
+
+-- words stored are the words that stand there
+pub part-stored : (m : List ℕ) (b : ℕ) (ws : List ℕ) (n : ℕ) → length ws ≡ n → b + n ≤ length m → take n (drop b (sets m b ws)) ≡ ws
+part-stored m b ws n e h =
+    let u : b + length ws ≤ length m = omega arith in
+    ap (λ (l : List ℕ). take n (drop b l)) (sets-eq ws m b u ∙ append-assoc (take b m) ws (drop (b + length ws) m))
+    ∙ ap (take n) (drop-at (take b m) (ws ++ drop (b + length ws) m) b (length-take-le b m (omega arith)))
+    ∙ take-at ws (drop (b + length ws) m) n e
+
+-- ---- a region: its map words
+
+-- the place of a map's first word is its start
+pub map-at : (start : ℕ) → 4 * (mapStart start / 4) ≡ mapStart start
+map-at start = omega arith
+
+-- a word of the map lies inside the area, and before the first page
+module _ (start bytes page : ℕ) (hp : 0 < page) (some : 1 ≤ pageCount start bytes page) (w : ℕ) where
+  pub map-inside : mapStart start / 4 ≤ w → w < mapStart start / 4 + pageCount start bytes page → Inside start bytes w
+  map-inside l h =
+      record {
+        low = omega (arith, map-at start, map-ge start);
+        high = omega (arith, map-at start, count-map start bytes page hp, count-end start bytes page hp some);
+      }
+
+  pub map-before : w < mapStart start / 4 + pageCount start bytes page → 4 * w + 4 ≤ firstPage start page (pageCount start bytes page)
+  map-before h = omega (arith, map-at start, count-map start bytes page hp)
+
+-- the pages lie inside the area
+pub page-upto : (start bytes page : ℕ) → 0 < page → 1 ≤ pageCount start bytes page → (p : ℕ) → p ≤ pageCount start bytes page
+    → firstPage start page (pageCount start bytes page) + p * page ≤ start + bytes
+page-upto start bytes page hp some p h = omega (arith, count-end start bytes page hp some, mul-le-mul-right page h)
+
+pub first-from : (start bytes page : ℕ) → 0 < page → start ≤ firstPage start page (pageCount start bytes page)
+first-from start bytes page hp = omega (arith, map-ge start, count-map start bytes page hp)
+
+-- the page size of an entry: whole, and in bounds
+pub unit-least : (e : RegionEntry) → 1 ≤ e .page → 8 ≤ unit e
+unit-least e h = omega arith
+
+pub unit-most : (e : RegionEntry) → e .page ≤ 4096 → unit e ≤ 4096
+unit-most e h = omega arith
+
+pub unit-whole : (e : RegionEntry) → unit e % 8 ≡ 0
+unit-whole e = round-multiple (e .page) 8
+
+-- an area inside the memory
+pub record Placed (m : List ℕ) (start bytes : ℕ) : Type 0 where
+  pub some-start : ¬ (start ≡ 0)
+  pub upto : start + bytes ≤ 4 * length m
+
+pub inside-parts : (m : List ℕ) (start bytes : ℕ) → inside m start bytes ≡ true → Placed m start bytes
+inside-parts m start bytes e =
+    record {
+      some-start = eqb-false start 0 (not-true (eqb start 0) (and-first (not (eqb start 0)) (leb (start + bytes) (4 * length m)) e));
+      upto = leb-true (start + bytes) (4 * length m) (and-second (not (eqb start 0)) (leb (start + bytes) (4 * length m)) e);
+    }
+
+pub parts-inside : (m : List ℕ) (start bytes : ℕ) → Placed m start bytes → inside m start bytes ≡ true
+parts-inside m start bytes p = rw (ne-eqb start 0 (p .some-start), le-leb (start + bytes) (4 * length m) (p .upto))
+
+pub inside-same : (m m′ : List ℕ) (start bytes : ℕ) → length m′ ≡ length m → inside m start bytes ≡ true → inside m′ start bytes ≡ true
+inside-same m m′ start bytes e h = rw e h
+
+-- its map words give its map
+pub map-same : (m m′ : List ℕ) (r : Region) → length m′ ≡ length m
+    → ((w : ℕ) → mapAt r ≤ w → w < mapAt r + pagesOf r → getD m′ w 0 ≡ getD m w 0) → mapWords m′ r ≡ mapWords m r
+map-same m m′ r e h = part-same (pagesOf r) (mapAt r) m m′ e h
+
+-- a map that is drawn is the map
+pub map-stored : (m : List ℕ) (r : Region) (ws : List ℕ) → length ws ≡ pagesOf r → mapAt r + pagesOf r ≤ length m
+    → mapWords (sets m (mapAt r) ws) r ≡ ws
+map-stored m r ws e h = part-stored m (mapAt r) ws (pagesOf r) e h
+
+-- drawing a map changes only words of the area
+pub map-only : (m : List ℕ) (r : Region) (ws : List ℕ) → 0 < r .page → 1 ≤ pagesOf r → length ws ≡ pagesOf r
+    → Only (r .start) (r .length) m (sets m (mapAt r) ws)
+map-only m r ws hp some e =
+    only-sets (r .start) (r .length) m (mapAt r) ws
+    (omega (arith, map-at (r .start), map-ge (r .start)))
+    (omega (arith, map-at (r .start), count-map (r .start) (r .length) (r .page) hp, count-end (r .start) (r .length) (r .page) hp some))
+
+-- what a live region's entry says of its numbers
+module _ (m : List ℕ) (e : RegionEntry) (is : RegionIs m e) where
+  pub region-unit : 0 < unit e
+  region-unit = omega (arith, unit-least e (is .page-some))
+
+  pub region-inside : (w : ℕ) → mapAt (regionFor e) ≤ w → w < mapAt (regionFor e) + pagesIn e → Inside (e .start) (e .bytes) w
+  region-inside w l h = map-inside (e .start) (e .bytes) (unit e) region-unit (is .some-page) w l h
+
+  pub region-before : (w : ℕ) → w < mapAt (regionFor e) + pagesIn e → 4 * w + 4 ≤ baseOf (regionFor e)
+  region-before w h = map-before (e .start) (e .bytes) (unit e) region-unit (is .some-page) w h
+
+  -- the map lies in the memory
+  pub region-fits : mapAt (regionFor e) + pagesIn e ≤ length m
+  region-fits =
+      omega (
+        arith,
+        region-before (mapAt (regionFor e) + pagesIn e - 1) (omega (arith, is .some-page)),
+        page-upto (e .start) (e .bytes) (unit e) region-unit (is .some-page) 0 (omega arith),
+        inside-parts m (e .start) (e .bytes) (is .inside) .upto,
+      )
+
+  -- A LIVE REGION RESTS ON ITS MAP WORDS
+  pub region-same : (m′ : List ℕ) → length m′ ≡ length m
+      → ((w : ℕ) → mapAt (regionFor e) ≤ w → w < mapAt (regionFor e) + pagesIn e → getD m′ w 0 ≡ getD m w 0) → RegionIs m′ e
+  region-same m′ s h =
+      record {
+        named = is .named;
+        inside = inside-same m m′ (e .start) (e .bytes) s (is .inside);
+        page-some = is .page-some;
+        page-most = is .page-most;
+        some-page = is .some-page;
+        ordered = is .ordered;
+        map = map-same m m′ (regionFor e) s h ∙ is .map;
+      }
+
+  -- A LIVE REGION WITH OTHER LOANS, and the map drawn from them
+  pub region-redrawn : (l : List Loan) → Ordered (pagesIn e) 0 l → length (draw (drawn (pagesIn e) 0 l)) ≡ pagesIn e
+      → RegionIs (withSegments m (regionFor e) (drawn (pagesIn e) 0 l)) (withLoans l e)
+  region-redrawn l o n =
+      record {
+        named = is .named;
+        inside = inside-same m (withSegments m (regionFor e) (drawn (pagesIn e) 0 l)) (e .start) (e .bytes) (length-sets m (mapAt (regionFor e)) (draw (drawn (pagesIn e) 0 l))) (is .inside);
+        page-some = is .page-some;
+        page-most = is .page-most;
+        some-page = is .some-page;
+        ordered = o;
+        map = map-stored m (regionFor e) (draw (drawn (pagesIn e) 0 l)) n region-fits;
+      }
+
+-- ---- a partition: the link words of its chained buffers
+
+-- the numbers of a live partition
+pub record PartitionParts (m : List ℕ) (p : Partition) : Type 0 where
+  pub placed : Placed m (p .start) (p .length)
+  pub aligned : p .start % 4 ≡ 0
+  pub one : p .size ≤ p .length
+  pub whole : p .size % 4 ≡ 0
+  pub least : 8 ≤ p .size
+  pub linked : soundChain m p ≡ true
+
+pub live-parts : (m : List ℕ) (p : Partition) → livePartition m p ≡ true → PartitionParts m p
+unfolding livePartition
+live-parts m p e =
+    let e₁ = and-second (inside m (p .start) (p .length)) (eqb (p .start % 4) 0 && (soundSize (p .length) (p .size) && soundChain m p)) e in
+    let e₂ = and-second (eqb (p .start % 4) 0) (soundSize (p .length) (p .size) && soundChain m p) e₁ in
+    let s = and-first (soundSize (p .length) (p .size)) (soundChain m p) e₂ in
+    let s₁ = and-second (leb (p .size) (p .length)) (eqb (p .size % 4) 0 && leb 8 (p .size)) s in
+    record {
+      placed = inside-parts m (p .start) (p .length) (and-first (inside m (p .start) (p .length)) (eqb (p .start % 4) 0 && (soundSize (p .length) (p .size) && soundChain m p)) e);
+      aligned = eqb-true (p .start % 4) 0 (and-first (eqb (p .start % 4) 0) (soundSize (p .length) (p .size) && soundChain m p) e₁);
+      one = leb-true (p .size) (p .length) (and-first (leb (p .size) (p .length)) (eqb (p .size % 4) 0 && leb 8 (p .size)) s);
+      whole = eqb-true (p .size % 4) 0 (and-first (eqb (p .size % 4) 0) (leb 8 (p .size)) s₁);
+      least = leb-true 8 (p .size) (and-second (eqb (p .size % 4) 0) (leb 8 (p .size)) s₁);
+      linked = and-second (soundSize (p .length) (p .size)) (soundChain m p) e₂;
+    }
+
+pub parts-live : (m : List ℕ) (p : Partition) → PartitionParts m p → livePartition m p ≡ true
+unfolding livePartition
+parts-live m p h =
+    rw (
+      ne-eqb (p .start) 0 (h .placed .some-start),
+      le-leb (p .start + p .length) (4 * length m) (h .placed .upto),
+      eq-eqb (p .start % 4) 0 (h .aligned),
+      le-leb (p .size) (p .length) (h .one),
+      eq-eqb (p .size % 4) 0 (h .whole),
+      le-leb 8 (p .size) (h .least),
+    ) (h .linked)
+
+-- a buffer: the k-th, of whole words, inside the area
+pub record BufferIn (p : Partition) (a : ℕ) : Type 0 where
+  pub k : ℕ
+  pub at : a ≡ p .start + k * p .size
+  pub below : k < buffers p
+  pub from : p .start ≤ a
+  pub upto : a + p .size ≤ p .start + p .length
+
+module _ (p : Partition) (a : ℕ) where
+  pub buffer-parts : isBuffer p a ≡ true → BufferIn p a
+  buffer-parts e =
+      let e₁ = and-second (leb (p .start) a) (eqb ((a - p .start) % p .size) 0 && ltb ((a - p .start) / p .size) (buffers p)) e in
+      let l : p .start ≤ a = leb-true (p .start) a (and-first (leb (p .start) a) (eqb ((a - p .start) % p .size) 0 && ltb ((a - p .start) / p .size) (buffers p)) e) in
+      let z : (a - p .start) % p .size ≡ 0 = eqb-true ((a - p .start) % p .size) 0 (and-first (eqb ((a - p .start) % p .size) 0) (ltb ((a - p .start) / p .size) (buffers p)) e₁) in
+      let b : (a - p .start) / p .size < buffers p = ltb-true ((a - p .start) / p .size) (buffers p) (and-second (eqb ((a - p .start) % p .size) 0) (ltb ((a - p .start) / p .size) (buffers p)) e₁) in
+      let f : suc ((a - p .start) / p .size) * p .size ≤ buffers p * p .size = mul-le-mul-right (p .size) b in
+      let g : a ≡ p .start + (a - p .start) / p .size * p .size = omega (arith, div-add-mod' (a - p .start) (p .size)) in
+      record {
+        k = (a - p .start) / p .size;
+        at = g;
+        below = b;
+        from = l;
+        upto = omega (arith, div-mul-le-self (p .length) (p .size));
+      }
+
+-- whole words
+pub buffer-whole : (p : Partition) (a : ℕ) → p .start % 4 ≡ 0 → p .size % 4 ≡ 0 → BufferIn p a → a % 4 ≡ 0
+buffer-whole p a s z b =
+    omega (arith, four (b .k) (p .size) z, b .at)
+  where
+    four : (k n : ℕ) → n % 4 ≡ 0 → k * n % 4 ≡ 0
+    four k n z =
+        let e : n ≡ 4 * (n / 4) = omega arith in
+        let f : k * n ≡ 4 * (k * (n / 4)) = ap (λ (x : ℕ). k * x) e ∙ omega arith in
+        omega arith
+
+-- two numbers are equal, or one is below the other
+pub same-or-apart : (a b : ℕ) → (a ≡ b) ⊎ ((a < b) ⊎ (b < a))
+same-or-apart a b = go (leb a b) refl (leb b a) refl
+  where
+    go : (s : Bool) → leb a b ≡ s → (t : Bool) → leb b a ≡ t → (a ≡ b) ⊎ ((a < b) ⊎ (b < a))
+    go true e true f = inl (omega (arith, leb-true a b e, leb-true b a f))
+    go true e false f = inr (inl (leb-false b a f))
+    go false e t f = inr (inr (leb-false a b e))
+
+-- two buffers share no byte
+pub buffers-apart : (p : Partition) (a b : ℕ) → BufferIn p a → BufferIn p b → (a ≡ b) ⊎ ((a + p .size ≤ b) ⊎ (b + p .size ≤ a))
+buffers-apart p a b x y = go (same-or-apart (x .k) (y .k))
+  where
+    go : (x .k ≡ y .k) ⊎ ((x .k < y .k) ⊎ (y .k < x .k)) → (a ≡ b) ⊎ ((a + p .size ≤ b) ⊎ (b + p .size ≤ a))
+    go (inl e) = inl (x .at ∙ ap (λ (k : ℕ). p .start + k * p .size) e ∙ sym (y .at))
+    go (inr (inl h)) = inr (inl (omega (arith, x .at, y .at, mul-le-mul-right (p .size) h)))
+    go (inr (inr h)) = inr (inr (omega (arith, x .at, y .at, mul-le-mul-right (p .size) h)))
+
+-- ---- the chain
+
+-- the link words of a buffer are as they were
+pub record SameLinks (m m′ : List ℕ) (a : ℕ) : Type 0 where
+  pub next : nextOf m′ a ≡ nextOf m a
+  pub before : beforeOf m′ a ≡ beforeOf m a
+
+-- a buffer on a sound chain is a buffer
+pub linked-buffer : (n : ℕ) (m : List ℕ) (p : Partition) (before a b : ℕ) → linked n m p before a ≡ true → Within b (follow n m a) → isBuffer p b ≡ true
+unfolding linked follow Within
+linked-buffer zero m p before a b e h = absurd h
+linked-buffer (suc n) m p before a b e (inl q) =
+    subst (λ (x : ℕ). isBuffer p x ≡ true) q (and-first (isBuffer p a) (eqb (beforeOf m a) before && linked n m p a (nextOf m a)) e)
+linked-buffer (suc n) m p before a b e (inr h) =
+    linked-buffer n m p a (nextOf m a) b
+    (and-second (eqb (beforeOf m a) before) (linked n m p a (nextOf m a))
+    (and-second (isBuffer p a) (eqb (beforeOf m a) before && linked n m p a (nextOf m a)) e)) h
+
+-- the chain and its soundness rest on the link words of the buffers on it
+pub follow-same : (n : ℕ) (m m′ : List ℕ) (a : ℕ) → ((b : ℕ) → Within b (follow n m a) → SameLinks m m′ b) → follow n m′ a ≡ follow n m a
+unfolding follow Within
+follow-same zero m m′ a h = refl
+follow-same (suc n) m m′ a h =
+    ap (λ (x : ℕ). a ∷ follow n m′ x) (h a (inl refl) .next)
+    ∙ ap (λ (l : List ℕ). a ∷ l) (follow-same n m m′ (nextOf m a) (λ b w. h b (inr w)))
+
+pub linked-same : (n : ℕ) (m m′ : List ℕ) (p : Partition) (before a : ℕ) → ((b : ℕ) → Within b (follow n m a) → SameLinks m m′ b)
+    → linked n m′ p before a ≡ linked n m p before a
+unfolding follow linked Within
+linked-same zero m m′ p before a h = refl
+linked-same (suc n) m m′ p before a h =
+    rw (h a (inl refl) .before, h a (inl refl) .next)
+    (ap (λ (b : Bool). isBuffer p a && (eqb (beforeOf m a) before && b)) (linked-same n m m′ p a (nextOf m a) (λ b w. h b (inr w))))
+
+-- what a live partition's entry says of its buffers
+module _ (m : List ℕ) (p : Partition) (e : PartitionEntry) (is : PartitionIs m p e) where
+  pub chained-buffer : (a : ℕ) → Within a (e .unlent) → isBuffer p a ≡ true
+  chained-buffer a w = linked-buffer (p .free) m p 0 (p .front) a (live-parts m p (is .sound) .linked) (rw (← is .chained) at w)
+
+  -- A LIVE PARTITION RESTS ON THE LINK WORDS OF ITS CHAINED BUFFERS
+  pub partition-same : (m′ : List ℕ) → length m′ ≡ length m → ((a : ℕ) → Within a (e .unlent) → SameLinks m m′ a) → PartitionIs m′ p e
+  partition-same m′ s h =
+      let l = live-parts m p (is .sound) in
+      let h′ : (a : ℕ) → Within a (chain m p) → SameLinks m m′ a = λ a w. h a (rw (is .chained) at w) in
+      record {
+        named = is .named;
+        name = is .name;
+        start = is .start;
+        bytes = is .bytes;
+        size = is .size;
+        sound = parts-live m′ p (record {
+          placed = record { some-start = l .placed .some-start; upto = rw s (l .placed .upto) };
+          aligned = l .aligned;
+          one = l .one;
+          whole = l .whole;
+          least = l .least;
+          linked = linked-same (p .free) m m′ p 0 (p .front) h′ ∙ l .linked;
+        });
+        chained = follow-same (p .free) m m′ (p .front) h′ ∙ is .chained;
+        once = is .once;
+        buffer = is .buffer;
+        either = is .either;
+        apart = is .apart;
+        counted = is .counted;
+      }
+
+  -- its numbers, and those of its buffers
+  pub partition-parts : PartitionParts m p
+  partition-parts = live-parts m p (is .sound)
+
+  pub buffer-at : (a : ℕ) → isBuffer p a ≡ true → BufferIn p a
+  buffer-at a h = buffer-parts p a h
+
+  pub buffer-multiple : (a : ℕ) → isBuffer p a ≡ true → a % 4 ≡ 0
+  buffer-multiple a h = buffer-whole p a (partition-parts .aligned) (partition-parts .whole) (buffer-parts p a h)
+
+  -- the words of a buffer lie inside the area
+  pub buffer-inside : (a w : ℕ) → isBuffer p a ≡ true → Inside a (p .size) w → Inside (p .start) (p .length) w
+  buffer-inside a w h i =
+      let b = buffer-parts p a h in
+      inside-wider a (p .size) (p .start) (p .length) w (b .from) (b .upto) i
+
+  -- so do its link words
+  pub link-next : (a : ℕ) → isBuffer p a ≡ true → Inside a (p .size) (a / 4)
+  link-next a h = omega (arith, buffer-multiple a h, partition-parts .least)
+
+  pub link-before : (a : ℕ) → isBuffer p a ≡ true → Inside a (p .size) (a / 4 + 1)
+  link-before a h = omega (arith, buffer-multiple a h, partition-parts .least)
