@@ -1,0 +1,4 @@
+-- The region directives on a state that is pictured by the receipts: what each answers, and that the picture is kept. Assumes nothing.
+pub mod Checks
+pub mod Live
+pub mod Picture
