@@ -2,3 +2,4 @@
 pub mod Checks
 pub mod Live
 pub mod Picture
+pub mod Lending
