@@ -1,4 +1,6 @@
 pub mod Invariant
+pub mod Loans
 pub mod Frame
 pub mod Areas
-pub mod Loans
+pub mod Sound
+pub mod Clients
