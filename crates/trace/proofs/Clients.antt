@@ -1,19 +1,17 @@
 -- What clients hold lies in the areas of the objects that lent it, and holds none of the words that the manager keeps for itself: a
 -- region's map lies before its pages, and a chained buffer is not lent. So whatever clients write into what they hold keeps the
 -- invariant. Assumes nothing.
-use mathlib.Core.Path.{_≡_, refl, sym, ap, _∙_, subst}
-use mathlib.Core.Bool.{Bool, true, false}
-use mathlib.Core.List.{List, [], _∷_}
-use mathlib.Core.Logic.{_⊎_, inl, inr, ⊎-elim}
-use mathlib.Core.Option.{Option, none, some}
-use Prim.Native.Nat.{ℕ, zero, suc, _+_, _-_, _*_, _/_, _%_, _≤_, _<_}
+use mathlib.Core.Path.{_≡_, refl, sym, ap, subst}
+use mathlib.Core.List.{List}
+use mathlib.Core.Logic.{⊎-elim}
+use mathlib.Core.Option.{Option, some}
+use Prim.Native.Nat.{ℕ, _+_, _*_, _/_, _%_, _≤_, _<_}
 use native.Mathlib.Omega.{arith}
-use lib.ListN.{length, getD}
-use Rattle.arith.specs.Layout.{mapStart, firstPage}
+use lib.ListN.{length}
+use Rattle.arith.specs.Layout.{mapStart}
 use Rattle.arith.specs.Round.{pagesFor}
 use Rattle.manager.specs.Record.{regionOf, partitionOf}
 use Rattle.manager.specs.Region.{baseOf, mapAt, areaOf}
-use Rattle.manager.specs.Partition.{isBuffer}
 use Rattle.manager.specs.declared.Area.{Area}
 use Rattle.manager.specs.declared.Manager.{Manager}
 use Rattle.manager.specs.declared.Region.{Region}

@@ -5,15 +5,13 @@ use mathlib.Core.Bool.{Bool, true, false, not, _&&_}
 use mathlib.Core.List.{List, [], _∷_, _++_, append-assoc}
 use mathlib.Core.Logic.{_⊎_, inl, inr}
 use Prim.Native.Nat.{ℕ, zero, suc, _+_, _-_, _*_, _/_, _%_, _≤_, _<_}
-use native.Mathlib.Nat.{div-mul-le-self, div-add-mod', mul-le-mul-right, suc-mul, lt-of-mul-lt-mul-right}
-use native.Mathlib.Numerals.{add-one}
+use native.Mathlib.Nat.{div-mul-le-self, div-add-mod', mul-le-mul-right}
 use native.Mathlib.Omega.{arith}
 use lib.ListN.{length, getD, take, drop, set, length-take, length-drop, length-set}
 use lib.Seq.{sets, length-sets, sets-eq, getD-set-other, getD-take, getD-drop, ext-getD, take-at, drop-at, length-take-le}
 use lib.Dec.{eqb, leb, ltb}
-use borrow.Author.Tests.{eqb-true, eqb-false, leb-true, leb-false, ltb-true, eq-eqb, ne-eqb, le-leb, lt-ltb, not-true}
-use Rattle.arith.specs.Round.{roundUp}
-use Rattle.arith.specs.Round.Laws.{round-ge, round-least, round-multiple}
+use borrow.Author.Tests.{eqb-true, eqb-false, leb-true, leb-false, ltb-true, eq-eqb, ne-eqb, le-leb, not-true}
+use Rattle.arith.specs.Round.Laws.{round-multiple}
 use Rattle.arith.specs.Layout.{mapStart, firstPage, pageCount}
 use Rattle.arith.specs.Layout.Laws.{map-ge, count-map, count-end}
 use Rattle.manager.specs.Lists.Laws.{and-first, and-second}

@@ -4,3 +4,6 @@ pub mod Frame
 pub mod Areas
 pub mod Sound
 pub mod Clients
+pub mod Held
+pub mod Apart
+pub mod Access

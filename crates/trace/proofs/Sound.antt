@@ -1,25 +1,18 @@
 -- The invariant gives a sound record, clause by clause: each slot's picture is what its test asks. The queue's clause is a premise here.
 -- Assumes nothing.
-use mathlib.Core.Path.{_≡_, refl, sym, ap, _∙_}
-use mathlib.Core.Bool.{Bool, true, false, cond, _&&_}
-use mathlib.Core.List.{List, [], _∷_}
-use mathlib.Core.Option.{Option, none, some}
-use Prim.Native.Nat.{ℕ, zero, suc, _+_, _*_, _%_, _≤_, _<_}
-use native.Mathlib.Omega.{arith}
-use lib.ListN.{length, getD}
-use lib.Dec.{eqb, leb}
+use mathlib.Core.Path.{_≡_, refl}
+use mathlib.Core.Bool.{true}
+use mathlib.Core.List.{List}
+use mathlib.Core.Option.{Option}
+use Prim.Native.Nat.{ℕ, _%_, _≤_}
 use borrow.Author.Tests.{eq-eqb, ne-eqb, le-leb}
-use Rattle.manager.specs.Lists.{every}
-use Rattle.manager.specs.Map.{soundMap, draw}
 use Rattle.manager.specs.Record.{noRegion, noPartition, idOf, regionOf, partitionOf}
-use Rattle.manager.specs.Region.{pagesOf, mapWords}
-use Rattle.manager.specs.Sound.{inside, soundPage, liveRegion, livePartition, soundRegion, soundPartition, soundQueue, sound}
+use Rattle.manager.specs.Sound.{inside, soundPage, liveRegion, soundRegion, soundPartition, soundQueue, sound}
 use Rattle.manager.specs.declared.Manager.{Manager}
 use Rattle.manager.specs.declared.Region.{Region}
 use Rattle.manager.specs.declared.Partition.{Partition}
-use Rattle.trace.specs.Loans.{drawn}
 use Rattle.trace.specs.Receipts.{Receipts, RegionEntry, PartitionEntry, unit, pagesIn}
-use Rattle.trace.proofs.Invariant.{regionFor, RegionIs, RegionSlot, PartitionIs, PartitionSlot, Inv, empty, live}
+use Rattle.trace.proofs.Invariant.{regionFor, RegionIs, RegionSlot, PartitionSlot, Inv, empty, live}
 use Rattle.trace.proofs.Frame.{unit-least, unit-most, unit-whole}
 use Rattle.trace.proofs.Areas.{at-every}
 use Rattle.trace.proofs.Loans.Words.{sound as drawn-sound}
