@@ -3,29 +3,29 @@
 -- different objects have areas that share no byte, where an empty slot's area has no byte at all. Assumes nothing.
 use mathlib.Core.Path.{_≡_, refl, sym, ap, _∙_, subst}
 use mathlib.Core.Bool.{Bool, true, false, cond, not, _&&_, _||_}
-use mathlib.Core.List.{List, [], _∷_, _++_}
+use mathlib.Core.List.{List, [], _∷_}
 use mathlib.Core.Logic.{_⊎_, inl, inr, ⊎-elim}
-use mathlib.Core.Option.{Option, none, some}
-use Prim.Native.Nat.{ℕ, zero, suc, _+_, _-_, _*_, _/_, _≤_, _<_}
+use mathlib.Core.Option.{Option}
+use Prim.Native.Nat.{ℕ, zero, suc, _+_, _-_, _/_, _≤_, _<_}
 use native.Mathlib.Omega.{arith}
-use lib.ListN.{length, getD, set, length-append, length-set, List·getD-append, List·getD-eq-default}
+use lib.ListN.{length, getD, length-append, length-set, List·getD-append, List·getD-eq-default}
 use lib.Seq.{getD-append-add, getD-set-same, getD-set-other}
-use lib.Dec.{eqb, leb, ltb}
-use borrow.Author.Tests.{leb-true, leb-false, ltb-true, ltb-false, le-ltb, lt-ltb, not-true}
+use lib.Dec.{leb, ltb}
+use borrow.Author.Tests.{leb-true, leb-false, ltb-false, le-ltb, lt-ltb, not-true}
 use Rattle.manager.specs.Lists.{every, some as someOf, pairwise}
 use Rattle.manager.specs.Lists.Laws.{and-first, and-second, every-at}
 use Rattle.manager.specs.Record.{slots, noRegion, noPartition, slotOf, idOf, regionOf, partitionOf, withRegion, withPartition}
-use Rattle.manager.specs.Region.{mapAt, areaOf, regionAreas, partitionAreas, areas, overlap}
+use Rattle.manager.specs.Region.{areaOf, regionAreas, partitionAreas, areas, overlap}
 use Rattle.manager.specs.Regions.{overlaps}
 use Rattle.manager.specs.Sound.{soundAreas}
 use Rattle.manager.specs.declared.Area.{Area}
 use Rattle.manager.specs.declared.Manager.{Manager}
 use Rattle.manager.specs.declared.Region.{Region}
 use Rattle.manager.specs.declared.Partition.{Partition}
-use Rattle.trace.specs.Receipts.{Receipts, RegionEntry, PartitionEntry, pagesIn, Within}
+use Rattle.trace.specs.Receipts.{Receipts, RegionEntry, PartitionEntry}
 use Rattle.trace.specs.Trace.{Object, region, partition}
-use Rattle.trace.proofs.Invariant.{Inside, Only, regionFor, RegionIs, RegionSlot, PartitionIs, PartitionSlot, Inv, empty, live}
-use Rattle.trace.proofs.Frame.{region-inside, region-same, chained-buffer, buffer-inside, link-next, link-before, partition-same, SameLinks, same-or-apart}
+use Rattle.trace.proofs.Invariant.{Inside, Only, regionFor, RegionSlot, PartitionSlot, Inv, empty, live}
+use Rattle.trace.proofs.Frame.{region-inside, region-same, chained-buffer, buffer-inside, link-next, link-before, partition-same, same-or-apart}
 
 -- ---- tests over a list, by its places
 

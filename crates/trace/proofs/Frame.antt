@@ -5,15 +5,13 @@ use mathlib.Core.Bool.{Bool, true, false, not, _&&_}
 use mathlib.Core.List.{List, [], _∷_, _++_, append-assoc}
 use mathlib.Core.Logic.{_⊎_, inl, inr}
 use Prim.Native.Nat.{ℕ, zero, suc, _+_, _-_, _*_, _/_, _%_, _≤_, _<_}
-use native.Mathlib.Nat.{div-mul-le-self, div-add-mod', mul-le-mul-right, suc-mul, lt-of-mul-lt-mul-right}
-use native.Mathlib.Numerals.{add-one}
+use native.Mathlib.Nat.{div-mul-le-self, div-add-mod', mul-le-mul-right}
 use native.Mathlib.Omega.{arith}
 use lib.ListN.{length, getD, take, drop, set, length-take, length-drop, length-set}
 use lib.Seq.{sets, length-sets, sets-eq, getD-set-other, getD-take, getD-drop, ext-getD, take-at, drop-at, length-take-le}
 use lib.Dec.{eqb, leb, ltb}
-use borrow.Author.Tests.{eqb-true, eqb-false, leb-true, leb-false, ltb-true, eq-eqb, ne-eqb, le-leb, lt-ltb, not-true}
-use Rattle.arith.specs.Round.{roundUp}
-use Rattle.arith.specs.Round.Laws.{round-ge, round-least, round-multiple}
+use borrow.Author.Tests.{eqb-true, eqb-false, leb-true, leb-false, ltb-true, eq-eqb, ne-eqb, le-leb, not-true}
+use Rattle.arith.specs.Round.Laws.{round-multiple}
 use Rattle.arith.specs.Layout.{mapStart, firstPage, pageCount}
 use Rattle.arith.specs.Layout.Laws.{map-ge, count-map, count-end}
 use Rattle.manager.specs.Lists.Laws.{and-first, and-second}
@@ -26,6 +24,7 @@ use Rattle.manager.specs.declared.Partition.{Partition}
 use Rattle.trace.specs.Loans.{Loan, Ordered, drawn}
 use Rattle.trace.specs.Receipts.{RegionEntry, PartitionEntry, unit, pagesIn, Within, withLoans}
 use Rattle.trace.proofs.Invariant.{Inside, Only, regionFor, RegionIs, PartitionIs}
+use Rattle.trace.proofs.Loans.Words.{size as drawn-size}
 
 -- ---- words inside an area, and changes of nothing else
 
@@ -182,9 +181,8 @@ module _ (m : List ℕ) (e : RegionEntry) (is : RegionIs m e) where
       }
 
   -- A LIVE REGION WITH OTHER LOANS, and the map drawn from them
-  pub region-redrawn : (l : List Loan) → Ordered (pagesIn e) 0 l → length (draw (drawn (pagesIn e) 0 l)) ≡ pagesIn e
-      → RegionIs (withSegments m (regionFor e) (drawn (pagesIn e) 0 l)) (withLoans l e)
-  region-redrawn l o n =
+  pub region-redrawn : (l : List Loan) → Ordered (pagesIn e) 0 l → RegionIs (withSegments m (regionFor e) (drawn (pagesIn e) 0 l)) (withLoans l e)
+  region-redrawn l o =
       record {
         named = is .named;
         inside = inside-same m (withSegments m (regionFor e) (drawn (pagesIn e) 0 l)) (e .start) (e .bytes) (length-sets m (mapAt (regionFor e)) (draw (drawn (pagesIn e) 0 l))) (is .inside);
@@ -192,7 +190,7 @@ module _ (m : List ℕ) (e : RegionEntry) (is : RegionIs m e) where
         page-most = is .page-most;
         some-page = is .some-page;
         ordered = o;
-        map = map-stored m (regionFor e) (draw (drawn (pagesIn e) 0 l)) n region-fits;
+        map = map-stored m (regionFor e) (draw (drawn (pagesIn e) 0 l)) (drawn-size (pagesIn e) l o) region-fits;
       }
 
 -- ---- a partition: the link words of its chained buffers
@@ -259,16 +257,15 @@ module _ (p : Partition) (a : ℕ) where
         upto = omega (arith, div-mul-le-self (p .length) (p .size));
       }
 
--- whole words
+-- a multiple of whole words is of whole words
+pub whole-times : (k n : ℕ) → n % 4 ≡ 0 → k * n % 4 ≡ 0
+whole-times k n z =
+    let e : n ≡ 4 * (n / 4) = omega arith in
+    let f : k * n ≡ 4 * (k * (n / 4)) = ap (λ (x : ℕ). k * x) e ∙ omega arith in
+    omega arith
+
 pub buffer-whole : (p : Partition) (a : ℕ) → p .start % 4 ≡ 0 → p .size % 4 ≡ 0 → BufferIn p a → a % 4 ≡ 0
-buffer-whole p a s z b =
-    omega (arith, four (b .k) (p .size) z, b .at)
-  where
-    four : (k n : ℕ) → n % 4 ≡ 0 → k * n % 4 ≡ 0
-    four k n z =
-        let e : n ≡ 4 * (n / 4) = omega arith in
-        let f : k * n ≡ 4 * (k * (n / 4)) = ap (λ (x : ℕ). k * x) e ∙ omega arith in
-        omega arith
+buffer-whole p a s z b = omega (arith, whole-times (b .k) (p .size) z, b .at)
 
 -- two numbers are equal, or one is below the other
 pub same-or-apart : (a b : ℕ) → (a ≡ b) ⊎ ((a < b) ⊎ (b < a))

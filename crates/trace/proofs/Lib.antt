@@ -1,5 +1,11 @@
 pub mod Invariant
+pub mod Loans
 pub mod Frame
 pub mod Areas
 pub mod Loans
 pub mod Regions
+pub mod Sound
+pub mod Clients
+pub mod Held
+pub mod Apart
+pub mod Access
