@@ -2,7 +2,6 @@ pub mod Invariant
 pub mod Loans
 pub mod Frame
 pub mod Areas
-pub mod Loans
 pub mod Regions
 pub mod Sound
 pub mod Clients
