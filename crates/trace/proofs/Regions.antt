@@ -3,3 +3,5 @@ pub mod Checks
 pub mod Live
 pub mod Picture
 pub mod Lending
+pub mod Given
+pub mod Get

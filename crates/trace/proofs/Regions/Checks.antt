@@ -44,6 +44,7 @@ by-checks (c ∷ cs) refuse act h = go (c .fails) refl (by-checks cs refuse act 
     later : (s : Result) → c .fails ≡ false → Checked cs refuse act s → Checked (c ∷ cs) refuse act s
     later s e (passed p) = passed (e, p)
     later s e (failed u r) = failed u r
+
     go : (b : Bool) → c .fails ≡ b → Checked cs refuse act (checked cs refuse act)
         → Checked (c ∷ cs) refuse act (cond b (refuse (c .status)) (checked cs refuse act))
     go true e k = failed (c .status) (and-first (refuses c) (every refuses cs) h)
@@ -97,9 +98,9 @@ module _ (c : Call) (m : List ℕ) (d : Manager) (t : Receipts) (v : Inv m d t) 
       record {
         inv = rw (note-other c m d t n s (not-true (isSuccess s) a) (not-true (isWaiting s) w)) v;
         sound = λ (e : s ≡ InternalError).
-        let f : not (eqb (numberOf InternalError) 25) ≡ true = subst (λ (u : Status). not (eqb (numberOf u) 25) ≡ true) e i in
-        let z : _≡_ {A = ℕ} 0 1 = cc in
-        omega arith;
+            let f : not (eqb (numberOf InternalError) 25) ≡ true = subst (λ (u : Status). not (eqb (numberOf u) 25) ≡ true) e i in
+            let z : _≡_ {A = ℕ} 0 1 = cc in
+            omega arith;
       }
 
   -- a directive keeps it where its action does

@@ -26,7 +26,9 @@ use Rattle.trace.proofs.Frame.{map-only, region-redrawn, region-unit}
 use Rattle.trace.proofs.Areas.{areaFor, areaIn, Clear, sound-clear, region-kept, partition-kept}
 use Rattle.trace.proofs.Loans.Tests.{by-eqb}
 use Rattle.trace.proofs.Loans.Words.{size}
-use Rattle.trace.proofs.Regions.Live.{Live, slot-live}
+use Rattle.trace.proofs.Loans.Lawful.{Drawing}
+use Rattle.trace.proofs.Loans.Pages.{pages}
+use Rattle.trace.proofs.Clients.{RegionAt, region-at}
 
 -- ---- an entry under an id
 
@@ -115,8 +117,8 @@ pub words-same : (m m′ : List ℕ) → length m′ ≡ length m → soundLengt
 words-same m m′ e h = rw e h
 
 module _ (m : List ℕ) (d : Manager) (t : Receipts) (v : Picture m d t) (id : ℕ) (e : RegionEntry) (q : t .regions id ≡ some e) where
-  pub live-at : Live m (regionOf d id) e
-  live-at = slot-live m (regionOf d id) (t .regions id) e (v .regions id) q
+  pub live-at : RegionAt m (regionOf d id) e
+  live-at = region-at m (regionOf d id) (t .regions id) e (v .regions id) q
 
   -- ANOTHER MAP, DRAWN FROM OTHER LOANS
   module _ (l : List Loan) (o : Ordered (pagesIn e) 0 l) where
@@ -129,13 +131,13 @@ module _ (m : List ℕ) (d : Manager) (t : Receipts) (v : Picture m d t) (id : �
         map-only m (regionFor e) (draw (drawn (pagesIn e) 0 l)) (region-unit m e (live-at .is)) (live-at .is .some-page) (size (pagesIn e) l o)
 
     clear : (x : Object) → ¬ (region id ≡ x) → Clear (areaFor (regionFor e)) (areaIn d x)
-    clear x n = subst (λ (r : Region). Clear (areaFor r) (areaIn d x)) (live-at .for) (sound-clear d (v .region-slots) (v .partition-slots) (v .areas) (region id) x n)
+    clear x n = subst (λ (r : Region). Clear (areaFor r) (areaIn d x)) (live-at .region) (sound-clear d (v .region-slots) (v .partition-slots) (v .areas) (region id) x n)
 
     slot-at : (j : ℕ) → RegionSlot m′ (regionOf d j) (put id (some (withLoans l e)) (t .regions) j)
     unfolding m′
     slot-at j =
         by-eqb j id (λ (b : Bool). RegionSlot m′ (regionOf d j) (cond b (some (withLoans l e)) (t .regions j)))
-        (λ h. rw (h, live-at .for) (live (withLoans l e) (region-redrawn m e (live-at .is) l o (size (pagesIn e) l o))))
+        (λ h. rw (h, live-at .region) (live (withLoans l e) (region-redrawn m e (live-at .is) l o)))
         (λ h. region-kept m m′ (areaFor (regionFor e)) (regionOf d j) (t .regions j) only
         (clear (region j) (λ (p : region id ≡ region j). h (let s : id ≡ j = cc in sym s))) (v .regions j))
 
@@ -148,6 +150,11 @@ module _ (m : List ℕ) (d : Manager) (t : Receipts) (v : Picture m d t) (id : �
           partition-slots = v .partition-slots;
           regions = slot-at;
           partitions = λ j. partition-kept m m′ (areaFor (regionFor e)) (partitionOf d j) (t .partitions j) only
-          (clear (partition j) (λ (p : region id ≡ partition j). let z : _≡_ {A = ℕ} 0 1 = cc in omega arith)) (v .partitions j);
+              (clear (partition j) (λ (p : region id ≡ partition j). let z : _≡_ {A = ℕ} 0 1 = cc in omega arith)) (v .partitions j);
           areas = v .areas;
         }
+
+  -- ANY MAP THAT IS DRAWN FROM OTHER LOANS
+  pub changed-map : (l : List Loan) (s : List Segment) → Drawing pages (pagesIn e) l s → Picture (withSegments m (regionFor e) s) d (lending id e l t)
+  changed-map l s w =
+      subst (λ (x : List Segment). Picture (withSegments m (regionFor e) x) d (lending id e l t)) (sym (w .is)) (redrawn l (w .ordered))
