@@ -5,3 +5,4 @@ pub mod Picture
 pub mod Lending
 pub mod Given
 pub mod Get
+pub mod Serve
