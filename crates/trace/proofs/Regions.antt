@@ -6,3 +6,4 @@ pub mod Lending
 pub mod Given
 pub mod Get
 pub mod Serve
+pub mod Return
