@@ -7,3 +7,5 @@ pub mod Given
 pub mod Get
 pub mod Serve
 pub mod Return
+pub mod Resize
+pub mod Ask
