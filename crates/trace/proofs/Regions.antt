@@ -9,3 +9,5 @@ pub mod Serve
 pub mod Return
 pub mod Resize
 pub mod Ask
+pub mod Create
+pub mod Delete

@@ -169,3 +169,57 @@ pub lent-list : (l : List Loan) (p k : ℕ) → Lent l p k → ¬ (l ≡ [])
 unfolding Lent
 lent-list [] p k x e = x
 lent-list (loan a n ∷ l) p k x e = let z : _≡_ {A = ℕ} 0 1 = cc in omega arith
+
+-- ---- another object under an id that nobody waits for
+
+abbrev pub registering : ℕ → Option RegionEntry → Receipts → Receipts
+registering id o t = record { regions = put id o (t .regions); partitions = t .partitions; waits = t .waits }
+
+-- then its queue is empty, whatever stands there
+queue-none : (id : ℕ) (o : Option RegionEntry) (t : Receipts) → waitsIn id (t .waits) ≡ [] → queueAt id o t ≡ []
+queue-none id none t h = refl
+queue-none id (some e) t h = rw h (arranged-none (e .order))
+
+module _ (t : Receipts) (id : ℕ) (o : Option RegionEntry) where
+  queue-put : waitsIn id (t .waits) ≡ [] → (j : ℕ) → queueAt j (put id o (t .regions) j) (registering id o t) ≡ queueAt j (t .regions j) t
+  queue-put h j =
+      by-eqb j id (λ (b : Bool). queueAt j (cond b o (t .regions j)) (registering id o t) ≡ queueAt j (t .regions j) t)
+      (λ q. rw q (queue-none id o (registering id o t) h ∙ sym (queue-none id (t .regions id) t h)))
+      (λ q. other (t .regions j))
+    where
+      other : (x : Option RegionEntry) → queueAt j x (registering id o t) ≡ queueAt j x t
+      other none = refl
+      other (some f) = refl
+
+  queues-put : waitsIn id (t .waits) ≡ [] → (n i : ℕ) → queuesFrom n i (registering id o t) ≡ queuesFrom n i t
+  unfolding queuesFrom
+  queues-put h zero i = refl
+  queues-put h (suc n) i = rw (queue-put h (idOf i), queues-put h n (suc i))
+
+  all-put : (ws : List Wait) → AllWaits t ws → waitsIn id ws ≡ [] → AllWaits (registering id o t) ws
+  unfolding AllWaits
+  all-put [] a h = tt
+  all-put (w ∷ ws) a h = (
+    record {
+      entry = a .0 .entry;
+      found = put-else id o (t .regions) (w .id) (not-for id w ws h) ∙ a .0 .found;
+      lending = a .0 .lending;
+      task-some = a .0 .task-some;
+      task-most = a .0 .task-most;
+      size-some = a .0 .size-some;
+      size-most = a .0 .size-most;
+      priority-some = a .0 .priority-some;
+      priority-most = a .0 .priority-most;
+      time = a .0 .time;
+    },
+    all-put ws (a .1) (none-behind id w ws h),
+  )
+
+  -- THE WAITS STAY
+  pub waits-put : (d d′ : Manager) → d′ .waiters ≡ d .waiters → waitsIn id (t .waits) ≡ [] → Waits d t → Waits d′ (registering id o t)
+  waits-put d d′ e h w =
+      record {
+        all = all-put (t .waits) (w .all) h;
+        once = w .once;
+        queue = rw (queues-put h slots 0) (e ∙ w .queue);
+      }
