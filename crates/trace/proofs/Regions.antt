@@ -11,3 +11,4 @@ pub mod Resize
 pub mod Ask
 pub mod Create
 pub mod Delete
+pub mod Claims
