@@ -94,8 +94,7 @@ module _ {A : Type 0} where
   in-line lt x q [] = (λ h. inl h, λ h. elim h [ inl y ↦ y | inr y ↦ absurd y ])
   in-line lt x q (w ∷ ws) =
       let ih = in-line lt x (settle lt w q) ws in
-      let s = in-settle lt w x q in
-      (
+      let s = in-settle lt w x q in (
         λ h. elim (ih .0 h) [ inl k ↦ elim (s .0 k) [ inl e ↦ inr (inl e) | inr z ↦ inl z ] | inr z ↦ inr (inr z) ],
         λ h. elim h [
           | inl k ↦ ih .1 (inl (s .1 (inr k)))
