@@ -3,3 +3,4 @@ pub mod Line
 pub mod Order
 pub mod Places
 pub mod Tasks
+pub mod Shown

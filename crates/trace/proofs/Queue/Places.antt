@@ -61,25 +61,24 @@ remove-pad n a x b h =
     rw (e, take-append-seam a (x ∷ (b ++ r)), drop-append-seam a (x ∷ (b ++ r)))
     (rw (append-assoc b r (noWaiter ∷ []), replicate-append-replicate (n - length (a ++ (x ∷ b))) 1 noWaiter, f) (sym (append-assoc a b _)))
 
--- THE FIRST THAT PASSES A TEST, whatever stands behind the list
+-- THE FIRST THAT PASSES A TEST, and those before and behind it
 module _ {A : Type 0} (p : A → Bool) where
-  pub record First (l : List A) (x : A) (ks r : List A) : Type 0 where
+  pub record First (l : List A) (x : A) (ks : List A) : Type 0 where
     pub front : List A
     pub rest : List A
     pub split : l ≡ front ++ (x ∷ rest)
     pub passes : p x ≡ true
     pub before : keep p front ≡ []
     pub after : keep p rest ≡ ks
-    pub place : indexOf p (l ++ r) ≡ length front
 
-  pub first-is : (l : List A) (x : A) (ks r : List A) → keep p l ≡ x ∷ ks → First l x ks r
-  unfolding keep indexOf
-  first-is [] x ks r e = absurd (let z : _≡_ {A = ℕ} 0 1 = cc in omega arith)
-  first-is (y ∷ l) x ks r e =
-      by-case (p y) (λ t. p y ≡ t → cond t (y ∷ keep p l) (keep p l) ≡ x ∷ ks → First (y ∷ l) x ks r)
+  pub first-is : (l : List A) (x : A) (ks : List A) → keep p l ≡ x ∷ ks → First l x ks
+  unfolding keep
+  first-is [] x ks e = absurd (let z : _≡_ {A = ℕ} 0 1 = cc in omega arith)
+  first-is (y ∷ l) x ks e =
+      by-case (p y) (λ t. p y ≡ t → cond t (y ∷ keep p l) (keep p l) ≡ x ∷ ks → First (y ∷ l) x ks)
       (λ t e f. let g : y ≡ x = cc in
-      record { front = []; rest = l; split = ap (λ (z : A). z ∷ l) g; passes = ap p (sym g) ∙ t; before = refl; after = cc; place = rw t })
-      (λ n e f. let ih = first-is l x ks r f in
+      record { front = []; rest = l; split = ap (λ (z : A). z ∷ l) g; passes = ap p (sym g) ∙ t; before = refl; after = cc })
+      (λ n e f. let ih = first-is l x ks f in
       record {
         front = y ∷ ih .front;
         rest = ih .rest;
@@ -87,9 +86,17 @@ module _ {A : Type 0} (p : A → Bool) where
         passes = ih .passes;
         before = rw n (ih .before);
         after = ih .after;
-        place = rw n (ap suc (ih .place));
       })
       refl e
+
+  pub first-at : (a : List A) (x : A) (b : List A) → keep p a ≡ [] → p x ≡ true → indexOf p (a ++ (x ∷ b)) ≡ length a
+  unfolding keep indexOf
+  first-at [] x b e f = rw f
+  first-at (y ∷ a) x b e f =
+      by-case (p y) (λ t. cond t (y ∷ keep p a) (keep p a) ≡ [] → cond t 0 (suc (indexOf p (a ++ (x ∷ b)))) ≡ suc (length a))
+      (λ t g. absurd (let z : _≡_ {A = ℕ} 0 1 = cc in omega arith))
+      (λ n g. ap suc (first-at a x b g f))
+      e
 
   pub first-none : (l : List A) → keep p l ≡ [] → indexOf p l ≡ length l
   unfolding keep indexOf
