@@ -4,3 +4,7 @@ pub mod Order
 pub mod Places
 pub mod Tasks
 pub mod Shown
+pub mod Enter
+pub mod Grant
+pub mod Ticks
+pub mod Sound

@@ -153,7 +153,7 @@ module _ (n k : ℕ) (t : Receipts) (a : Queued n k t) where
   row-some w m = a .task-some w (in-queues w .0 m)
 
   -- A REGION'S WAITERS ARE ITS QUEUE
-  keep-row : (id : ℕ) (e : RegionEntry) → t .regions id ≡ some e
+  pub keep-row : (id : ℕ) (e : RegionEntry) → t .regions id ≡ some e
       → keep (waitsFor id) (pad k noWaiter (waitersOf (queuesFrom n 0 t))) ≡ waitersOf (queueOf id e t)
   keep-row id e f =
       keep-append (waitsFor id) (waitersOf (queuesFrom n 0 t)) _

@@ -1,0 +1,1 @@
+-- The waits give a sound queue. Assumes nothing.
