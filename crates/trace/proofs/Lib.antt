@@ -8,3 +8,4 @@ pub mod Clients
 pub mod Held
 pub mod Apart
 pub mod Access
+pub mod Queue
