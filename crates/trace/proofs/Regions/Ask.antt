@@ -30,7 +30,7 @@ use Rattle.trace.proofs.Loans.Drawn.{lent-some}
 use Rattle.trace.proofs.Loans.Lawful.{Lawful, Drawing}
 use Rattle.trace.proofs.Regions.Checks.{Passed, acts, note-done, Kept, kept-checked}
 use Rattle.trace.proofs.Regions.Live.{law, not-dead, map-drawing}
-use Rattle.trace.proofs.Regions.Given.{Given}
+use Rattle.trace.proofs.Regions.Queue.{sound-inv}
 
 -- an answer without notices to a call that enters nothing
 module _ (c : Call) (m : List ℕ) (d : Manager) (t : Receipts) (v : Inv m d t) (n : ℕ) (i : Information) where
@@ -46,21 +46,21 @@ module _ (c : Call) (m : List ℕ) (d : Manager) (t : Receipts) (v : Inv m d t) 
       }
 
 -- THEY KEEP THE PICTURE
-module _ (G : Given) (m : List ℕ) (d : Manager) (t : Receipts) (v : Inv m d t) where
+module _ (m : List ℕ) (d : Manager) (t : Receipts) (v : Inv m d t) where
   pub keeps-ident : (name : ℕ) → Kept (IdentRegion name) t (identRegion m d name)
   unfolding identRegion every
   keeps-ident name =
-      kept-checked (IdentRegion name) m d t v _ _ (G .sound m d t v) refl (λ c. kept-answer (IdentRegion name) m d t v _ noInformation refl)
+      kept-checked (IdentRegion name) m d t v _ _ (sound-inv m d t v) refl (λ c. kept-answer (IdentRegion name) m d t v _ noInformation refl)
 
   pub keeps-size : (id a : ℕ) → Kept (SegmentSize id a) t (segmentSize m d id a)
   unfolding segmentSize every
   keeps-size id a =
-      kept-checked (SegmentSize id a) m d t v _ _ (G .sound m d t v) refl (λ c. kept-answer (SegmentSize id a) m d t v _ noInformation refl)
+      kept-checked (SegmentSize id a) m d t v _ _ (sound-inv m d t v) refl (λ c. kept-answer (SegmentSize id a) m d t v _ noInformation refl)
 
   pub keeps-information : (id : ℕ) → Kept (RegionInformation id) t (regionInformation m d id)
   unfolding regionInformation every
   keeps-information id =
-      kept-checked (RegionInformation id) m d t v _ _ (G .sound m d t v) refl (λ c. kept-answer (RegionInformation id) m d t v 0 _ refl)
+      kept-checked (RegionInformation id) m d t v _ _ (sound-inv m d t v) refl (λ c. kept-answer (RegionInformation id) m d t v 0 _ refl)
 
 -- WHAT THEY ANSWER
 module _ (m : List ℕ) (d : Manager) (t : Receipts) (v : Inv m d t) (ok : sound m d ≡ true) (id : ℕ) (e : RegionEntry) (q : t .regions id ≡ some e) where

@@ -39,7 +39,7 @@ use Rattle.trace.proofs.Regions.Checks.{Passed, note-done, Kept, kept-c
 use Rattle.trace.proofs.Regions.Live.{law, slot-none}
 use Rattle.trace.proofs.Regions.Picture.{Picture, pictured, with-waits, words-same}
 use Rattle.trace.proofs.Regions.Lending.{none-there, registering, waits-put}
-use Rattle.trace.proofs.Regions.Given.{Given}
+use Rattle.trace.proofs.Regions.Queue.{sound-inv}
 
 -- what is found passes the test
 index-passes : {A : Type 0} (z : A) (t : A → Bool) (l : List A) → indexOf t l < length l → t (getD l (indexOf t l) z) ≡ true
@@ -88,7 +88,7 @@ module _ (m : List ℕ) (e : RegionEntry) (fresh : e .loans ≡ []) (named : ¬ 
 
 -- ---- in a slot that is empty
 
-module _ (G : Given) (m : List ℕ) (d : Manager) (t : Receipts) (v : Inv m d t) (name start bytes page : ℕ) (order : Order) where
+module _ (m : List ℕ) (d : Manager) (t : Receipts) (v : Inv m d t) (name start bytes page : ℕ) (order : Order) where
   abbrev asks : Call
   asks = CreateRegion name start bytes page order
 
@@ -145,7 +145,7 @@ module _ (G : Given) (m : List ℕ) (d : Manager) (t : Receipts) (v : Inv m d t)
   pub keeps-create : Kept asks t (createRegion m d name start bytes page order)
   unfolding createRegion lists.every Passed
   keeps-create =
-      kept-checked asks m d t v _ _ (G .sound m d t v) refl
+      kept-checked asks m d t v _ _ (sound-inv m d t v) refl
       (λ c. let named = eqb-false name 0 (c .0) in
       let started = eqb-false start 0 (c .1 .0) in
       let upto = ltb-false (4 * length m) (start + bytes) (c .1 .1 .0) in

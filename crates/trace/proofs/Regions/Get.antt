@@ -46,7 +46,7 @@ use Rattle.trace.proofs.Regions.Checks.{Passed, refuses, refusing, acts
 use Rattle.trace.proofs.Regions.Live.{law, slot-entry, not-dead, map-drawing}
 use Rattle.trace.proofs.Regions.Picture.{lending, on-region, Picture, pictured, with-waits, any-queue, changed-map}
 use Rattle.trace.proofs.Regions.Lending.{waits-lent, enter-some}
-use Rattle.trace.proofs.Regions.Given.{Given}
+use Rattle.trace.proofs.Regions.Queue.{sound-inv, wait-inv}
 
 -- what a get does in a region, once its checks pass
 abbrev getting : List ℕ → Manager → asking.Wait → Waiter → Region → ℕ → Result
@@ -68,7 +68,7 @@ pub lend-page : (m : List ℕ) (e : RegionEntry) → RegionIs m e → (p size : 
     → lend (addressIn e p) size e ≡ withLoans (enter p (pagesFor size (unit e)) (e .loans)) e
 lend-page m e is p size = ap (λ (q : ℕ). withLoans (enter q (pagesFor size (unit e)) (e .loans)) e) (page-address m e is p)
 
-module _ (G : Given) (m : List ℕ) (d : Manager) (t : Receipts) (v : Inv m d t) (id size : ℕ) (wait : asking.Wait) (task priority ticks : ℕ) where
+module _ (m : List ℕ) (d : Manager) (t : Receipts) (v : Inv m d t) (id size : ℕ) (wait : asking.Wait) (task priority ticks : ℕ) where
   abbrev asks : Call
   asks = GetSegment id size wait task priority ticks
 
@@ -115,7 +115,7 @@ module _ (G : Given) (m : List ℕ) (d : Manager) (t : Receipts) (v : Inv m d t)
           record {
             inv = rw (note-waiting asks m (enqueue d waiter) t 0 Waiting refl refl)
                 (with-waits (any-queue m d t (enqueue d waiter .waiters) (t .waits ++ (entry ∷ [])) (pictured v))
-                (rw as-waiter at (G .wait m d t v entry (entry-is c) refl (c .1 .1 .1 .1 .0))));
+                (rw as-waiter at (wait-inv m d t v entry (entry-is c) (c .1 .1 .1 .1 .0))));
             sound = λ (x : Waiting ≡ InternalError). let y : _≡_ {A = ℕ} 0 1 = cc in omega arith;
           }
 
@@ -149,7 +149,7 @@ module _ (G : Given) (m : List ℕ) (d : Manager) (t : Receipts) (v : Inv m d t)
   pub keeps-get : Kept asks t (getSegment m d id size wait task priority ticks)
   unfolding getSegment every Passed
   keeps-get =
-      kept-checked asks m d t v _ _ (G .sound m d t v) (wait-refuses d wait task priority)
+      kept-checked asks m d t v _ _ (sound-inv m d t v) (wait-refuses d wait task priority)
       (λ c. let s = slot-entry m (regionOf d id) (t .regions id) (v .regions id) (c .1 .0) in
       subst (λ (r : Region). Kept asks t (getting m d wait waiter r (pagesAsked r size))) (sym (s .2 .region))
       (act-kept (s .0) (s .1) (s .2 .is) (let y = eqb-false size 0 (c .0) in omega arith)
