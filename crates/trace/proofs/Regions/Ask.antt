@@ -1,18 +1,17 @@
 -- The directives that change nothing: ident, size and information, and what they answer by the receipts. Assumes nothing.
-use mathlib.Core.Path.{_≡_, refl, sym, ap, _∙_, subst}
-use mathlib.Core.Bool.{Bool, true, false}
-use mathlib.Core.List.{List, [], _∷_}
+use mathlib.Core.Path.{_≡_, refl, ap, _∙_}
+use mathlib.Core.Bool.{true}
+use mathlib.Core.List.{List, []}
 use mathlib.Core.Option.{some}
-use Prim.Native.Nat.{ℕ, _*_, _<_}
+use Prim.Native.Nat.{ℕ, _*_}
 use native.Mathlib.Omega.{arith}
-use lib.Dec.{eqb}
 use borrow.Author.Tests.{ne-eqb}
 use Rattle.manager.specs.Record.{noInformation, regionOf}
-use Rattle.manager.specs.Result.{Result, done}
+use Rattle.manager.specs.Result.{Result}
 use Rattle.manager.specs.Lists.{every}
 use Rattle.manager.specs.Map.{Segment, freeSizes, heldSizes}
 use Rattle.manager.specs.Region.{segments, heldAt}
-use Rattle.manager.specs.Regions.{identRegion, segmentSize, regionInformation, informationOf, informed}
+use Rattle.manager.specs.Regions.{identRegion, segmentSize, regionInformation, informationOf}
 use Rattle.manager.specs.Perform.{perform}
 use Rattle.manager.specs.Sound.{sound}
 use Rattle.manager.specs.declared.Manager.{Manager}
@@ -22,13 +21,12 @@ use Rattle.manager.specs.declared.Call.{Call}
 use Rattle.manager.specs.declared.Call.the-variants.{IdentRegion, SegmentSize, RegionInformation}
 use Rattle.manager.specs.declared.Status.the-variants.{Successful, InternalError}
 use Rattle.trace.specs.Loans.{Lent, drawn, loanPages}
-use Rattle.trace.specs.Receipts.{Receipts, RegionEntry, unit, pagesIn, addressIn, entered, note, allNoticed, replyOf}
+use Rattle.trace.specs.Receipts.{Receipts, RegionEntry, unit, pagesIn, addressIn, entered, note, allNoticed}
 use Rattle.trace.proofs.Invariant.{regionFor, Inv}
 use Rattle.trace.proofs.Clients.{RegionAt, region-at}
 use Rattle.trace.proofs.Held.{loan-held}
 use Rattle.trace.proofs.Loans.Drawn.{lent-some}
-use Rattle.trace.proofs.Loans.Lawful.{Lawful, Drawing}
-use Rattle.trace.proofs.Regions.Checks.{Passed, acts, note-done, Kept, kept-checked}
+use Rattle.trace.proofs.Regions.Checks.{Passed, acts, Kept, kept-checked}
 use Rattle.trace.proofs.Regions.Live.{law, not-dead, map-drawing}
 use Rattle.trace.proofs.Regions.Queue.{sound-inv}
 

@@ -10,7 +10,6 @@ use Rattle.trace.specs.Claims.{RegionClaims}
 use Rattle.trace.proofs.Invariant.{regionFor, Inv}
 use Rattle.trace.proofs.Clients.{RegionAt, region-at}
 use Rattle.trace.proofs.Access.{read-some}
-use Rattle.trace.proofs.Loans.Lawful.{Lawful}
 use Rattle.trace.proofs.Regions.Live.{law, map-drawing}
 use Rattle.trace.proofs.Regions.Queue.{sound-inv, queue-inv}
 use Rattle.trace.proofs.Regions.Get.{get-unsatisfied, get-lowest}

@@ -1,16 +1,15 @@
 -- A delete of a region with nothing held: nobody waits for it, and its slot is emptied. Assumes nothing.
 use mathlib.Core.Path.{_≡_, refl, sym, ap, _∙_, subst}
-use mathlib.Core.Bool.{Bool, true, false, cond}
-use mathlib.Core.List.{List, [], _∷_}
-use mathlib.Core.Option.{Option, none, some}
-use Prim.Native.Nat.{ℕ, _<_}
+use mathlib.Core.Bool.{Bool, false, cond}
+use mathlib.Core.List.{List, []}
+use mathlib.Core.Option.{none, some}
+use Prim.Native.Nat.{ℕ}
 use native.Mathlib.Omega.{arith}
 use lib.ListN.{length-set}
 use Rattle.manager.specs.Record.{noRegion, regionOf, slotOf, idOf, withRegion}
 use Rattle.manager.specs.Result.{done}
 use Rattle.manager.specs.Lists as lists
-use Rattle.manager.specs.Map.{isHeldSegment}
-use Rattle.manager.specs.Region.{dead, segments, anyHeld, kind}
+use Rattle.manager.specs.Region.{anyHeld}
 use Rattle.manager.specs.Regions.{deleteRegion}
 use Rattle.manager.specs.declared.Manager.{Manager}
 use Rattle.manager.specs.declared.Region.{Region}

@@ -3,29 +3,25 @@
 use mathlib.Core.Path.{_≡_, refl, sym, ap, _∙_, subst}
 use mathlib.Core.Bool.{Bool, true, false, cond}
 use mathlib.Core.List.{List, [], _∷_, _++_}
-use mathlib.Core.Option.{Option, none, some}
-use Prim.Native.Nat.{ℕ, suc, _≤_, _<_}
+use mathlib.Core.Option.{some}
+use Prim.Native.Nat.{ℕ, suc, _≤_}
 use native.Mathlib.Omega.{arith}
 use lib.ListN.{length}
-use lib.Dec.{eqb}
-use Rattle.manager.specs.Record.{slots, tasks, regionOf, slotOf, idOf}
-use Rattle.manager.specs.Lists as lists
-use Rattle.manager.specs.Map.{Segment, isHeldSegment}
-use Rattle.manager.specs.Region.{dead, segments, anyHeld, pagesOf, pagesAsked}
-use Rattle.manager.specs.Queue.{firstOf, enqueue, dequeue, waiting}
+use Rattle.manager.specs.Record.{slots, tasks, regionOf}
+use Rattle.manager.specs.Region.{segments, anyHeld}
+use Rattle.manager.specs.Queue.{enqueue, waiting}
 use Rattle.manager.specs.Sound.{sound}
 use Rattle.manager.specs.declared.Manager.{Manager}
 use Rattle.manager.specs.declared.Region.{Region}
-use Rattle.manager.specs.declared.Order.{Order}
 use Rattle.trace.specs.Loans.{Loan, loan}
-use Rattle.trace.specs.Receipts.{Receipts, RegionEntry, Wait, put, withLoans, withWaits, pagesIn}
+use Rattle.trace.specs.Receipts.{Receipts, RegionEntry, Wait, withLoans, withWaits, pagesIn}
 use Rattle.trace.specs.Claims.{waitsIn, queueOf, waiterOf, waitersOf, waitersFor}
 use Rattle.trace.proofs.Invariant.{regionFor, RegionIs, WaitIs, Waits, Inv}
-use Rattle.trace.proofs.Areas.{OfSlot, region-slot}
-use Rattle.trace.proofs.Clients.{RegionAt, region-at}
+use Rattle.trace.proofs.Areas.{region-slot}
+use Rattle.trace.proofs.Clients.{region-at}
 use Rattle.trace.proofs.Sound.{inv-sound}
 use Rattle.trace.proofs.Loans.Tests.{by-eqb}
-use Rattle.trace.proofs.Loans.Lawful.{Lawful, Drawing}
+use Rattle.trace.proofs.Loans.Lawful.{Drawing}
 use Rattle.trace.proofs.Loans.Pages.{pages}
 use Rattle.trace.proofs.Queue.Line.{In, line, length-line, true-false}
 use Rattle.trace.proofs.Queue.Order.{goes, orders, orderIn, queue-of}

@@ -1,7 +1,7 @@
 -- A resize: the loan has the new size where the pages that it lacks are unheld, else 13; the value is the old length. Assumes nothing.
 use mathlib.Core.Path.{_≡_, refl, sym, ap, _∙_, subst}
 use mathlib.Core.Bool.{Bool, true, false, cond}
-use mathlib.Core.List.{List, [], _∷_}
+use mathlib.Core.List.{List}
 use mathlib.Core.Logic.{inl, inr, _↔_}
 use mathlib.Core.Option.{some}
 use Prim.Native.Nat.{ℕ, _*_, _≤_, _<_}
@@ -14,8 +14,7 @@ use Rattle.manager.specs.Record.{regionOf}
 use Rattle.manager.specs.Result.{Result, done, replied}
 use Rattle.manager.specs.Lists.{every}
 use Rattle.manager.specs.Map.{Segment}
-use Rattle.manager.specs.Paged.{Kind}
-use Rattle.manager.specs.Region.{dead, kind, pageAt, segments, withSegments, heldAt, pagesAsked}
+use Rattle.manager.specs.Region.{kind, pageAt, segments, withSegments, heldAt, pagesAsked}
 use Rattle.manager.specs.Regions.{resizeSegment}
 use Rattle.manager.specs.Perform.{perform}
 use Rattle.manager.specs.Sound.{sound}
@@ -28,11 +27,11 @@ use Rattle.trace.specs.Receipts.{Receipts, RegionEntry, unit, pagesIn, a
 use Rattle.trace.proofs.Invariant.{regionFor, RegionIs, Inv}
 use Rattle.trace.proofs.Frame.{region-unit}
 use Rattle.trace.proofs.Clients.{RegionAt, region-at}
-use Rattle.trace.proofs.Held.{Holds, page-address, loan-held}
+use Rattle.trace.proofs.Held.{page-address, loan-held}
 use Rattle.trace.proofs.Loans.Tests.{by-leb}
 use Rattle.trace.proofs.Loans.Drawn.{lent-some}
 use Rattle.trace.proofs.Loans.Book.{amend-is}
-use Rattle.trace.proofs.Loans.Lawful.{Lawful, Drawing}
+use Rattle.trace.proofs.Loans.Lawful.{Drawing}
 use Rattle.trace.proofs.Loans.Pages.{pages}
 use Rattle.trace.proofs.Regions.Checks.{Passed, acts, note-done, Kept, kept-refused, kept-checked}
 use Rattle.trace.proofs.Regions.Live.{law, slot-entry, not-dead, map-drawing, lent-held}

@@ -1,18 +1,16 @@
 -- A return: the loan is struck, and then the region's queue is served. Assumes nothing.
 use mathlib.Core.Path.{_≡_, refl, sym, ap, _∙_, subst}
-use mathlib.Core.Bool.{Bool, true, false}
-use mathlib.Core.List.{List, [], _∷_}
-use mathlib.Core.Logic.{inl, inr}
+use mathlib.Core.Bool.{false}
+use mathlib.Core.List.{List, []}
+use mathlib.Core.Logic.{inl}
 use mathlib.Core.Option.{some}
-use Prim.Native.Nat.{ℕ, _≤_, _<_}
+use Prim.Native.Nat.{ℕ}
 use native.Mathlib.Omega.{arith}
 use lib.Dec.{eqb}
 use borrow.Author.Tests.{ne-eqb}
 use Rattle.manager.specs.Record.{tasks, regionOf}
-use Rattle.manager.specs.Result.{Result}
 use Rattle.manager.specs.Lists.{every}
-use Rattle.manager.specs.Paged.{Kind}
-use Rattle.manager.specs.Region.{dead, kind, pageAt, segments, withSegments, heldAt}
+use Rattle.manager.specs.Region.{kind, pageAt, segments, withSegments, heldAt}
 use Rattle.manager.specs.Serve.{Served, serve, fromServed}
 use Rattle.manager.specs.Regions.{returnSegment}
 use Rattle.manager.specs.Perform.{perform}
@@ -21,13 +19,12 @@ use Rattle.manager.specs.declared.Region.{Region}
 use Rattle.manager.specs.declared.Call.the-variants.{ReturnSegment}
 use Rattle.manager.specs.declared.Status.the-variants.{Successful, InternalError}
 use Rattle.trace.specs.Loans.{Loan, amend, Lent}
-use Rattle.trace.specs.Receipts.{Receipts, RegionEntry, pagesIn, addressIn, pageIn, giveBack, onRegion, withLoans, replyOf, note}
+use Rattle.trace.specs.Receipts.{Receipts, RegionEntry, pagesIn, addressIn, pageIn, giveBack, onRegion, withLoans, note}
 use Rattle.trace.specs.Claims.{queueOf, Grants}
-use Rattle.trace.proofs.Invariant.{regionFor, RegionIs, Inv}
+use Rattle.trace.proofs.Invariant.{regionFor, Inv}
 use Rattle.trace.proofs.Clients.{RegionAt, region-at}
-use Rattle.trace.proofs.Held.{Holds, page-address, loan-held}
+use Rattle.trace.proofs.Held.{page-address, loan-held}
 use Rattle.trace.proofs.Loans.Drawn.{lent-some}
-use Rattle.trace.proofs.Loans.Lawful.{Lawful}
 use Rattle.trace.proofs.Regions.Checks.{Passed, acts, Kept, kept-checked}
 use Rattle.trace.proofs.Regions.Live.{law, slot-entry, not-dead, map-drawing, lent-held}
 use Rattle.trace.proofs.Regions.Picture.{put-here, lending, on-region, lending-again, pictured, changed-map}

@@ -1,41 +1,38 @@
 -- Serving a region's queue: the first wait gets the lowest run, then the next, up to the first that has none. In between a region may lend
 -- nothing while others wait; in the end it does not, since where nothing is lent the first wait has a run. Assumes nothing.
 use mathlib.Core.Path.{_≡_, refl, sym, ap, _∙_, subst}
-use mathlib.Core.Bool.{Bool, true, false}
-use mathlib.Core.List.{List, [], _∷_, _++_}
+use mathlib.Core.List.{List, [], _∷_}
 use mathlib.Core.Logic.{_⊎_, inl, inr}
-use mathlib.Core.Option.{Option, none, some}
-use Prim.Native.Nat.{ℕ, zero, suc, _+_, _≤_, _<_}
+use mathlib.Core.Option.{some}
+use Prim.Native.Nat.{ℕ, zero, suc, _≤_, _<_}
 use native.Mathlib.Omega.{arith}
 use lib.ListN.{length, getD}
-use lib.Dec.{ltb}
 use borrow.Author.Tests.{lt-ltb, le-ltb}
 use Rattle.arith.specs.Round.{pagesFor}
 use Rattle.arith.specs.Round.Laws.{pages-some}
 use Rattle.manager.specs.Record.{slots, tasks, noWaiter, regionOf}
 use Rattle.manager.specs.Map.{Segment}
-use Rattle.manager.specs.Paged.{Kind}
-use Rattle.manager.specs.Region.{kind, addressOf, segments, withSegments, pagesAsked}
+use Rattle.manager.specs.Region.{addressOf, withSegments, pagesAsked}
 use Rattle.manager.specs.Queue.{firstOf, dequeue}
 use Rattle.manager.specs.Serve.{onPlace, placed, taken, Served, quiet, granted, telling, serveUpTo}
 use Rattle.manager.specs.declared.Manager.{Manager}
 use Rattle.manager.specs.declared.Region.{Region}
 use Rattle.manager.specs.declared.Waiter.{Waiter}
 use Rattle.manager.specs.declared.Place.{Place}
-use Rattle.trace.specs.Loans.{Loan, loan, enter, Run}
-use Rattle.trace.specs.Receipts.{Receipts, RegionEntry, Wait, unit, pagesIn, addressIn, lend, onRegion, withLoans, put, withWaits, without, waitOf, noticed, allNoticed}
+use Rattle.trace.specs.Loans.{Loan, loan, enter}
+use Rattle.trace.specs.Receipts.{Receipts, RegionEntry, Wait, unit, pagesIn, addressIn, lend, onRegion, withLoans, put, withWaits, without, noticed, allNoticed}
 use Rattle.trace.specs.Claims.{queueOf, waitsIn, waiterOf, Grants, all, stop, grant}
-use Rattle.trace.proofs.Invariant.{regionFor, RegionIs, WaitIs, Waits, Inv}
+use Rattle.trace.proofs.Invariant.{regionFor, WaitIs, Waits, Inv}
 use Rattle.trace.proofs.Frame.{region-unit}
 use Rattle.trace.proofs.Clients.{RegionAt, region-at}
-use Rattle.trace.proofs.Loans.Lawful.{Lawful, Drawing, Gets, given, nothing}
+use Rattle.trace.proofs.Loans.Lawful.{Drawing, Gets, given, nothing}
 use Rattle.trace.proofs.Loans.Pages.{pages}
 use Rattle.trace.proofs.Queue.Tasks.{all-in}
 use Rattle.trace.proofs.Queue.Shown.{Ids, queued}
 use Rattle.trace.proofs.Queue.Grant as queue
 use Rattle.trace.proofs.Regions.Live.{law, map-drawing}
 use Rattle.trace.proofs.Regions.Picture.{put-here, lending, on-region, lending-again, lending-same, Picture, with-waits, any-queue, changed-map}
-use Rattle.trace.proofs.Regions.Lending.{none-arranged, waits-lent, enter-some}
+use Rattle.trace.proofs.Regions.Lending.{none-arranged, waits-lent}
 use Rattle.trace.proofs.Regions.Queue.{region-ids, lending-ids}
 use Rattle.trace.proofs.Regions.Get.{empty-run, lend-page}
 
@@ -138,7 +135,7 @@ module _ (id : ℕ) (e : RegionEntry) where
               (without (w .task) (t .waits)) (changed-map m d t (v .picture) id (withLoans l e) (v .entry) (enter p pages-asked l) s g);
           entry = put-here id (some (withLoans (enter p pages-asked l) e)) (t .regions);
           waits = rw (lending-again id e (withWaits (without (w .task) (t .waits)) t) (enter p pages-asked l) something)
-          (queue.waits-struck d (dequeue d (firstOf id (d .waiters))) (lending id e something t) (w .task) (v .waits) (shadow-ids m d t l (w ∷ ws) v) (first .shown));
+              (queue.waits-struck d (dequeue d (firstOf id (d .waiters))) (lending id e something t) (w .task) (v .waits) (shadow-ids m d t l (w ∷ ws) v) (first .shown));
           queue = first .rest;
         }
 
