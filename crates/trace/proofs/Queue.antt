@@ -8,3 +8,5 @@ pub mod Enter
 pub mod Grant
 pub mod Ticks
 pub mod Sound
+pub mod Slots
+pub mod Live

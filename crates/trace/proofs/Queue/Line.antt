@@ -1,7 +1,7 @@
 -- A line into which each newcomer goes before the first that it goes before, or at the end: a stable order. What is kept of a line is the
 -- line of those kept, in the order in which they came. Assumes nothing.
 use mathlib.Core.Path.{_≡_, refl, sym, ap, _∙_}
-use mathlib.Core.Bool.{Bool, true, false, cond}
+use mathlib.Core.Bool.{Bool, true, false, cond, _&&_}
 use mathlib.Core.List.{List, [], _∷_, _++_}
 use mathlib.Core.Logic.{_⊎_, inl, inr, _↔_}
 use Prim.Native.Nat.{ℕ, zero, suc, _+_, _≤_, _<_}
@@ -15,6 +15,12 @@ by-case false Q f g = g refl
 
 pub true-false : (b : Bool) → b ≡ true → b ≡ false → ⊥
 true-false b e f = let z : _≡_ {A = ℕ} 0 1 = cc in omega arith
+
+and-swap : (a b : Bool) → (a && b) ≡ (b && a)
+and-swap true true = refl
+and-swap true false = refl
+and-swap false true = refl
+and-swap false false = refl
 
 module _ {A : Type 0} where
   -- an element is on a list
@@ -155,6 +161,26 @@ module _ {A : Type 0} where
   unfolding keep In
   keep-none p [] e = refl
   keep-none p (x ∷ l) e = rw (e x (inl refl)) (keep-none p l (λ y h. e y (inr h)))
+
+  -- one test after the other, in any order
+  pub keep-keep : (p r : A → Bool) (l : List A) → keep p (keep r l) ≡ keep (λ x. r x && p x) l
+  unfolding keep
+  keep-keep p r [] = refl
+  keep-keep p r (x ∷ l) =
+      let ih = keep-keep p r l in
+      by-case (r x) (λ t. keep p (cond t (x ∷ keep r l) (keep r l)) ≡ cond (t && p x) (x ∷ keep (λ y. r y && p y) l) (keep (λ y. r y && p y) l))
+      (λ t. rw ih) (λ f. ih)
+
+  pub keep-swap : (p r : A → Bool) (l : List A) → keep p (keep r l) ≡ keep r (keep p l)
+  keep-swap p r l =
+      keep-keep p r l ∙ keep-same (λ x. r x && p x) (λ x. p x && r x) l (λ x m. and-swap (r x) (p x)) ∙ sym (keep-keep r p l)
+
+  pub length-keep : (p : A → Bool) (l : List A) → length (keep p l) ≤ length l
+  unfolding keep
+  length-keep p [] = omega arith
+  length-keep p (x ∷ l) =
+      let ih = length-keep p l in
+      by-case (p x) (λ t. length (cond t (x ∷ keep p l) (keep p l)) ≤ suc (length l)) (λ t. omega arith) (λ f. omega arith)
 
   -- IN ORDER: `lt` is a strict order in which those that are not apart are alike
   pub record Strict (lt : A → A → Bool) : Type 0 where

@@ -23,7 +23,7 @@ use Rattle.trace.specs.Receipts.{Receipts, RegionEntry, Wait, Within, Di
 use Rattle.trace.specs.Claims.{queueOf, waiterOf, waitersOf, dueIn, dueOf, dueFrom}
 use Rattle.trace.proofs.Invariant.{WaitIs, AllWaits, Waits, tasksOf, queueAt, queuesFrom}
 use Rattle.trace.proofs.Loans.Tests.{by-eqb}
-use Rattle.trace.proofs.Queue.Line.{by-case, true-false, In, keep, settle, line, Sorted, in-keep, in-line, keep-line, keep-same, keep-all}
+use Rattle.trace.proofs.Queue.Line.{by-case, true-false, In, keep, settle, line, Sorted, in-keep, in-line, keep-line, keep-same, keep-all, keep-keep}
 use Rattle.trace.proofs.Queue.Order.{goes, goes-strict, orders, Listed, queues-line}
 use Rattle.trace.proofs.Queue.Places.{leaving-pad, staying-pad, some-in, in-some}
 use Rattle.trace.proofs.Queue.Tasks.{notOf, without-keep, keep-once, in-tasks, task-in, one-wait, all-in, in-all}
@@ -136,14 +136,6 @@ keep-later p (w ∷ ws) =
 -- one of q that is due has the task of x
 abbrev lateIn : List Wait → Wait → Bool
 lateIn q x = Lists.some (λ w. due w && eqb (x .task) (w .task)) q
-
-keep-keep : (p r : Wait → Bool) (l : List Wait) → keep p (keep r l) ≡ keep (λ x. r x && p x) l
-unfolding keep
-keep-keep p r [] = refl
-keep-keep p r (x ∷ l) =
-    let ih = keep-keep p r l in
-    by-case (r x) (λ t. keep p (cond t (x ∷ keep r l) (keep r l)) ≡ cond (t && p x) (x ∷ keep (λ y. r y && p y) l) (keep (λ y. r y && p y) l))
-    (λ t. rw ih) (λ f. ih)
 
 notices-strike : (q l : List Wait) (t : Receipts) → Distinct (tasksOf l)
     → allNoticed (dueIn q) (withWaits l t) ≡ withWaits (keep (λ x. not (lateIn q x)) l) t

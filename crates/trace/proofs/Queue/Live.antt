@@ -1,0 +1,1 @@
+-- The queue by the invariant. Assumes nothing.
