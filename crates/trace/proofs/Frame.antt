@@ -91,6 +91,10 @@ module _ (start bytes page : ℕ) (hp : 0 < page) (some : 1 ≤ pageCount start 
   pub map-before : w < mapStart start / 4 + pageCount start bytes page → 4 * w + 4 ≤ firstPage start page (pageCount start bytes page)
   map-before h = omega (arith, map-at start, count-map start bytes page hp)
 
+-- the map lies in a memory in which the area does
+pub map-fits : (start bytes page n : ℕ) → 0 < page → 1 ≤ pageCount start bytes page → start + bytes ≤ 4 * n → mapStart start / 4 + pageCount start bytes page ≤ n
+map-fits start bytes page n hp some h = omega (arith, map-at start, count-map start bytes page hp, count-end start bytes page hp some)
+
 -- the pages lie inside the area
 pub page-upto : (start bytes page : ℕ) → 0 < page → 1 ≤ pageCount start bytes page → (p : ℕ) → p ≤ pageCount start bytes page
     → firstPage start page (pageCount start bytes page) + p * page ≤ start + bytes
@@ -137,6 +141,10 @@ pub map-stored : (m : List ℕ) (r : Region) (ws : List ℕ) → length ws ≡ p
     → mapWords (sets m (mapAt r) ws) r ≡ ws
 map-stored m r ws e h = part-stored m (mapAt r) ws (pagesOf r) e h
 
+-- and has a word for each page
+pub map-length : (m : List ℕ) (r : Region) → mapAt r + pagesOf r ≤ length m → length (mapWords m r) ≡ pagesOf r
+map-length m r h = omega (arith, length-take (pagesOf r) (drop (mapAt r) m), length-drop (mapAt r) m)
+
 -- drawing a map changes only words of the area
 pub map-only : (m : List ℕ) (r : Region) (ws : List ℕ) → 0 < r .page → 1 ≤ pagesOf r → length ws ≡ pagesOf r
     → Only (r .start) (r .length) m (sets m (mapAt r) ws)
@@ -158,13 +166,7 @@ module _ (m : List ℕ) (e : RegionEntry) (is : RegionIs m e) where
 
   -- the map lies in the memory
   pub region-fits : mapAt (regionFor e) + pagesIn e ≤ length m
-  region-fits =
-      omega (
-        arith,
-        region-before (mapAt (regionFor e) + pagesIn e - 1) (omega (arith, is .some-page)),
-        page-upto (e .start) (e .bytes) (unit e) region-unit (is .some-page) 0 (omega arith),
-        inside-parts m (e .start) (e .bytes) (is .inside) .upto,
-      )
+  region-fits = map-fits (e .start) (e .bytes) (unit e) (length m) region-unit (is .some-page) (inside-parts m (e .start) (e .bytes) (is .inside) .upto)
 
   -- A LIVE REGION RESTS ON ITS MAP WORDS
   pub region-same : (m′ : List ℕ) → length m′ ≡ length m

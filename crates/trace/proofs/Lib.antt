@@ -7,3 +7,4 @@ pub mod Clients
 pub mod Held
 pub mod Apart
 pub mod Access
+pub mod Recover

@@ -1,0 +1,3 @@
+-- Receipts read off a sound record: with them the invariant holds. Assumes nothing.
+pub mod Region
+pub mod Waits
