@@ -8,3 +8,4 @@ pub mod Held
 pub mod Apart
 pub mod Access
 pub mod Recover
+pub mod Queue
