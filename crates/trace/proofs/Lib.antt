@@ -1,6 +1,7 @@
 pub mod Invariant
 pub mod Loans
 pub mod Frame
+pub mod Buffers
 pub mod Areas
 pub mod Sound
 pub mod Clients

@@ -75,20 +75,20 @@ no-waiter w e =
 
 -- ---- the used places come first
 
-adjacent-tail : {A : Type 0} (t : A → A → Bool) (x : A) (l : List A) → adjacent t (x ∷ l) ≡ true → adjacent t l ≡ true
+pub adjacent-tail : {A : Type 0} (t : A → A → Bool) (x : A) (l : List A) → adjacent t (x ∷ l) ≡ true → adjacent t l ≡ true
 unfolding adjacent
 adjacent-tail t x [] e = refl
 adjacent-tail t x (y ∷ l) e = and-second (t x y) (adjacent t (y ∷ l)) e
 
-adjacent-next : {A : Type 0} (t : A → A → Bool) (x y : A) (l : List A) → adjacent t (x ∷ y ∷ l) ≡ true → t x y ≡ true
+pub adjacent-next : {A : Type 0} (t : A → A → Bool) (x y : A) (l : List A) → adjacent t (x ∷ y ∷ l) ≡ true → t x y ≡ true
 unfolding adjacent
 adjacent-next t x y l e = and-first (t x y) (adjacent t (y ∷ l)) e
 
-every-here : {A : Type 0} (t : A → Bool) (x : A) (l : List A) → every t (x ∷ l) ≡ true → t x ≡ true
+pub every-here : {A : Type 0} (t : A → Bool) (x : A) (l : List A) → every t (x ∷ l) ≡ true → t x ≡ true
 unfolding every
 every-here t x l e = and-first (t x) (every t l) e
 
-every-tail : {A : Type 0} (t : A → Bool) (x : A) (l : List A) → every t (x ∷ l) ≡ true → every t l ≡ true
+pub every-tail : {A : Type 0} (t : A → Bool) (x : A) (l : List A) → every t (x ∷ l) ≡ true → every t l ≡ true
 unfolding every
 every-tail t x l e = and-second (t x) (every t l) e
 
@@ -102,7 +102,7 @@ module _ (m : List ℕ) (d : Manager) where
   unfolding goesBefore
   next-unused w x e f = ⊎-elim (λ (g : unused x ≡ true). g) (λ (g : unused x ≡ false). absurd (true≢false (sym (rw (g, f) at e)))) (either-way (unused x))
 
-  all-unused : (w : Waiter) (ws : List Waiter) → every (soundPlace m d) (w ∷ ws) ≡ true → adjacent (inOrder d) (w ∷ ws) ≡ true → unused w ≡ true
+  pub all-unused : (w : Waiter) (ws : List Waiter) → every (soundPlace m d) (w ∷ ws) ≡ true → adjacent (inOrder d) (w ∷ ws) ≡ true → unused w ≡ true
       → (w ∷ ws ≡ replicate (suc (length ws)) noWaiter) × (waitsOf (w ∷ ws) ≡ [])
   unfolding waitsOf
   all-unused w [] e o f = (ap (λ (x : Waiter). x ∷ []) (place-unused w (every-here (soundPlace m d) w [] e) f), waits-skip w [] f)
