@@ -126,7 +126,7 @@ pub record OfSlot (id : ℕ) : Type 0 where
   pub within : slotOf id < slots
   pub is : idOf (slotOf id) ≡ id
 
-slot-of : (id : ℕ) → OfSlot id ⊎ (slots ≤ slotOf id)
+pub slot-of : (id : ℕ) → OfSlot id ⊎ (slots ≤ slotOf id)
 slot-of zero = inr (omega arith)
 slot-of (suc i) = go (leb slots i) refl
   where

@@ -1,19 +1,22 @@
 -- Lists of buffers: all of a partition by address, and lists of which some are struck, as sets of numbers that are on them once. Assumes
 -- nothing.
 use mathlib.Core.Path.{_≡_, refl, sym, ap, _∙_, subst}
-use mathlib.Core.Bool.{Bool, true, false, cond, _&&_}
-use mathlib.Core.List.{List, [], _∷_, _++_}
+use mathlib.Core.Bool.{Bool, true, false, cond}
+use mathlib.Core.List.{List, [], _∷_}
 use mathlib.Core.Logic.{_⊎_, inl, inr, ⊎-elim}
-use Prim.Native.Nat.{ℕ, zero, suc, _+_, _-_, _*_, _/_, _%_, _≤_, _<_}
-use native.Mathlib.Nat.{mul-div-left, mul-mod-left, zero-mul, suc-mul}
+use Prim.Native.Nat.{ℕ, zero, suc, _+_, _-_, _*_, _%_, _<_}
+use native.Mathlib.Nat.{mul-div-left, mul-mod-left, zero-mul}
 use native.Mathlib.Omega.{arith}
 use lib.ListN.{length}
-use lib.Dec.{eqb, leb, ltb}
+use lib.Dec.{eqb}
 use borrow.Author.Tests.{eqb-true, eqb-false, eq-eqb, ne-eqb, le-leb, lt-ltb}
-use Rattle.manager.specs.Partition.{buffers, bufferAt, isBuffer}
+use Rattle.manager.specs.Partition.{buffers, isBuffer, chain}
+use Rattle.manager.specs.Partition.Distinct.{On, distinct, on-off, on-nil, on-head, on-tail, on-cases, distinct-head, distinct-tail}
+use Rattle.manager.specs.Partition.Laws.{chain-distinct}
+use Rattle.manager.specs.Sound.{livePartition}
 use Rattle.manager.specs.declared.Partition.{Partition}
 use Rattle.trace.specs.Receipts.{buffersFrom, Within, Distinct, strike}
-use Rattle.trace.proofs.Frame.{BufferIn, buffer-parts, same-or-apart}
+use Rattle.trace.proofs.Frame.{buffer-parts, live-parts}
 
 -- a number is on a list, or not
 pub within-or-not : (a : ℕ) (l : List ℕ) → Within a l ⊎ (¬ Within a l)
@@ -135,3 +138,32 @@ within-buffer p a h w =
     let r = buffers-numbered (buffers p) (p .size) (p .start) a w in
     let e : a - p .start ≡ r .k * p .size = omega (arith, r .at) in
     rw (le-leb (p .start) a (omega (arith, r .at)), e, eq-eqb (r .k * p .size % p .size) 0 (mul-mod-left (r .k) (p .size)), mul-div-left (r .k) h) (lt-ltb (r .k) (buffers p) (r .below))
+
+-- ---- the same as tests of the record have it
+
+pub within-on : (a : ℕ) (l : List ℕ) → Within a l → On a l
+unfolding Within
+within-on a [] h = absurd h
+within-on a (x ∷ l) (inl e) = on-head a x l (sym e)
+within-on a (x ∷ l) (inr h) = on-tail a x l (within-on a l h)
+
+pub on-within : (a : ℕ) (l : List ℕ) → On a l → Within a l
+unfolding Within
+on-within a [] h = absurd (on-nil a h)
+on-within a (x ∷ l) h = ⊎-elim (λ (e : a ≡ x). inl (sym e)) (λ (k : On a l). inr (on-within a l k)) (on-cases a x l h)
+
+pub distinct-is : (l : List ℕ) → distinct l ≡ true → Distinct l
+unfolding Distinct
+distinct-is [] e = tt
+distinct-is (x ∷ l) e = (λ h. on-off x l (within-on x l h) (distinct-head x l e), distinct-is l (distinct-tail x l e))
+
+-- A SOUND CHAIN HAS EACH BUFFER ONCE
+pub chain-once : (m : List ℕ) (p : Partition) → livePartition m p ≡ true → Distinct (chain m p)
+chain-once m p e =
+    let l = live-parts m p e in
+    distinct-is (chain m p)
+    (chain-distinct m p (record { start-in = pos (p .start) (l .placed .some-start); aligned = l .aligned; whole = l .whole; big = l .least }) (l .linked))
+  where
+    pos : (k : ℕ) → ¬ (k ≡ 0) → 0 < k
+    pos zero n = absurd (n refl)
+    pos (suc k) n = omega arith

@@ -8,5 +8,6 @@ pub mod Clients
 pub mod Held
 pub mod Apart
 pub mod Access
+pub mod Start
 pub mod Recover
 pub mod Queue

@@ -1,23 +1,23 @@
 -- The entry of a partition, read off a sound record: the buffers on its chain are not lent, and all the others are. Assumes nothing.
-use mathlib.Core.Path.{_≡_, refl, sym, ap, _∙_, subst}
+use mathlib.Core.Path.{_≡_, refl, sym, _∙_, subst}
 use mathlib.Core.Bool.{Bool, true, false, cond, _&&_}
 use mathlib.Core.List.{List, [], _∷_}
-use mathlib.Core.Logic.{_⊎_, inl, inr, ⊎-elim}
+use mathlib.Core.Logic.{inl, inr, ⊎-elim}
 use mathlib.Core.Option.{Option, none, some}
-use Prim.Native.Nat.{ℕ, zero, suc, _+_, _≤_, _<_}
+use Prim.Native.Nat.{ℕ, _+_, _<_}
 use native.Mathlib.Omega.{arith}
 use lib.ListN.{length}
 use lib.Dec.{eqb}
 use borrow.Author.Tests.{eqb-true, eqb-false}
 use Rattle.manager.specs.Lists.Laws.{and-first, and-second}
 use Rattle.manager.specs.Record.{noPartition}
-use Rattle.manager.specs.Partition.{deadPartition, buffers, isBuffer, chain}
+use Rattle.manager.specs.Partition.{deadPartition, buffers, chain}
 use Rattle.manager.specs.Sound.{emptyPartition, livePartition, soundPartition}
 use Rattle.manager.specs.declared.Partition.{Partition}
 use Rattle.trace.specs.Receipts.{PartitionEntry, buffersFrom, Within, Distinct, strike}
 use Rattle.trace.proofs.Invariant.{PartitionIs, PartitionSlot, empty, live}
 use Rattle.trace.proofs.Frame.{live-parts, linked-buffer}
-use Rattle.trace.proofs.Buffers.{within-or-not, within-strike, strike-other, strike-keeps, strike-distinct, strike-length, length-buffers, distinct-buffers, buffer-within, within-buffer}
+use Rattle.trace.proofs.Buffers.{chain-once, within-or-not, within-strike, strike-other, strike-keeps, strike-distinct, strike-length, length-buffers, distinct-buffers, buffer-within, within-buffer}
 
 -- ---- several numbers struck
 
@@ -91,9 +91,9 @@ no-partition p n e =
     let q₆ : p .free ≡ 0 = eqb-true (p .free) 0 (and-second g h e₄) in
     λ i. record { name = n i; start = q₁ i; length = q₂ i; size = q₃ i; front = q₄ i; rear = q₅ i; free = q₆ i }
 
--- a live partition, whose chain has each buffer once
-pub is-partition : (m : List ℕ) (p : Partition) → ¬ (p .name ≡ 0) → livePartition m p ≡ true → Distinct (chain m p) → PartitionIs m p (partitionEntry m p)
-is-partition m p n e d =
+-- a live partition
+pub is-partition : (m : List ℕ) (p : Partition) → ¬ (p .name ≡ 0) → livePartition m p ≡ true → PartitionIs m p (partitionEntry m p)
+is-partition m p n e =
     let l = live-parts m p e in
     let all = buffersFrom (buffers p) (p .size) (p .start) in
     let some : 0 < p .size = omega (arith, l .least) in
@@ -112,19 +112,19 @@ is-partition m p n e d =
           (λ (k : ¬ Within a (chain m p)). inl (struck-keeps a (chain m p) all (buffer-within p a h) k)) (within-or-not a (chain m p));
       apart = λ a h. struck-other a (chain m p) all once h;
       counted =
-          struck-length (chain m p) all d
+          struck-length (chain m p) all (chain-once m p e)
           (λ c k. buffer-within p c (linked-buffer (p .free) m p 0 (p .front) c (l .linked) k))
           ∙ length-buffers (buffers p) (p .size) (p .start);
     }
 
 -- A SOUND SLOT IS THE PICTURE OF ITS ENTRY
-pub partition-read : (m : List ℕ) (p : Partition) → soundPartition m p ≡ true → (livePartition m p ≡ true → Distinct (chain m p)) → PartitionSlot m p (partitionSlot m p)
+pub partition-read : (m : List ℕ) (p : Partition) → soundPartition m p ≡ true → PartitionSlot m p (partitionSlot m p)
 unfolding soundPartition
-partition-read m p e d = go (deadPartition p) refl
+partition-read m p e = go (deadPartition p) refl
   where
     go : (b : Bool) → deadPartition p ≡ b → PartitionSlot m p (cond b none (some (partitionEntry m p)))
     go true f =
         subst (λ (x : Partition). PartitionSlot m x none) (sym (no-partition p (eqb-true (p .name) 0 f) (rw f at e))) empty
     go false f =
         let g : livePartition m p ≡ true = rw f at e in
-        live p (partitionEntry m p) (is-partition m p (eqb-false (p .name) 0 f) g (d g))
+        live p (partitionEntry m p) (is-partition m p (eqb-false (p .name) 0 f) g)

@@ -1,34 +1,31 @@
 -- A sound queue is in the order of the receipts that are read off it: each of its waits stands where it would have been put. Assumes
 -- nothing.
 use mathlib.Core.Path.{_≡_, refl, sym, ap, _∙_, subst}
-use mathlib.Core.Bool.{Bool, true, false, cond, not, _&&_, _||_, true≢false}
+use mathlib.Core.Bool.{Bool, true, false, _&&_, _||_, true≢false}
 use mathlib.Core.List.{List, [], _∷_, _++_, append-assoc, append-nil}
-use mathlib.Core.Logic.{_⊎_, inl, inr, ⊎-elim}
-use mathlib.Core.Option.{Option, none, some}
-use Prim.Native.Nat.{ℕ, zero, suc, _+_, _-_, _≤_, _<_}
+use mathlib.Core.Logic.{_⊎_, inl, inr}
+use mathlib.Core.Option.{none, some}
+use Prim.Native.Nat.{ℕ, _-_, _≤_}
 use native.Mathlib.Omega.{arith}
 use lib.ListN.{length, replicate}
 use lib.Dec.{eqb, ltb}
-use borrow.Author.Tests.{not-true, eqb-false, eq-eqb}
+use borrow.Author.Tests.{not-true, eq-eqb}
 use Rattle.manager.specs.Lists.{every, pairwise, adjacent}
 use Rattle.manager.specs.Lists.Laws.{and-first, and-second}
-use Rattle.manager.specs.Record.{slots, tasks, noWaiter, idOf, slotOf, regionOf}
-use Rattle.manager.specs.Region.{dead}
+use Rattle.manager.specs.Record.{slots, tasks, noWaiter, regionOf}
 use Rattle.manager.specs.Result.{pad}
 use Rattle.manager.specs.Queue.{urgent, goesBefore}
 use Rattle.manager.specs.Sound.{unused, soundPlace, otherTask, inOrder, soundQueue, soundRegion}
 use Rattle.manager.specs.declared.Manager.{Manager}
-use Rattle.manager.specs.declared.Region.{Region}
 use Rattle.manager.specs.declared.Waiter.{Waiter}
-use Rattle.manager.specs.declared.Order.{Order}
 use Rattle.trace.specs.Receipts.{Receipts, RegionEntry, Wait, Distinct}
 use Rattle.trace.specs.Claims.{waitersOf}
 use Rattle.trace.proofs.Invariant.{WaitIs, AllWaits, tasksOf, queuesFrom, Waits}
 use Rattle.trace.proofs.Areas.{OfSlot, region-slot}
 use Rattle.trace.proofs.Queue.Line.{In, settle, line, Behind, Sorted, Strict}
-use Rattle.trace.proofs.Queue.Order.{goes, goes-strict, orders, orderIn, Listed, queues-line}
+use Rattle.trace.proofs.Queue.Order.{goes, goes-strict, orders, orderIn, queues-line}
 use Rattle.trace.proofs.Recover.Region.{entryOf, slotEntry}
-use Rattle.trace.proofs.Recover.Waits.{waiter-parts, waitFor, waitsOf, waits-cons, waits-skip, either-way, every-here, every-tail, adjacent-next, adjacent-tail, all-unused, queue-back, wait-is, all-waits, tasks-once}
+use Rattle.trace.proofs.Recover.Waits.{waiter-parts, waitFor, waitsOf, waits-cons, waits-skip, either-way, every-here, every-tail, adjacent-next, adjacent-tail, all-unused, queue-back, all-waits, tasks-once}
 
 -- ---- a line that is in order already
 

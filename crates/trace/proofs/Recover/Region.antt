@@ -1,19 +1,18 @@
 -- The entry of a region, read off a sound record: its numbers are the record's, and its loans are the held segments of its map. Assumes
 -- nothing.
 use mathlib.Core.Path.{_≡_, refl, sym, ap, _∙_, subst}
-use mathlib.Core.Bool.{Bool, true, false, cond, not, _&&_}
-use mathlib.Core.List.{List, [], _∷_}
+use mathlib.Core.Bool.{Bool, true, false, cond, _&&_}
+use mathlib.Core.List.{List}
 use mathlib.Core.Option.{Option, none, some}
-use Prim.Native.Nat.{ℕ, _+_, _*_, _%_, _≤_, _<_}
+use Prim.Native.Nat.{ℕ, _%_, _≤_}
 use native.Mathlib.Omega.{arith}
 use lib.ListN.{length}
 use lib.Dec.{eqb, leb}
 use borrow.Author.Tests.{eqb-true, eqb-false, leb-true}
-use Rattle.arith.specs.Round.{roundUp}
 use Rattle.manager.specs.Lists.Laws.{and-first, and-second}
-use Rattle.manager.specs.Map.{soundMap, draw, decode}
+use Rattle.manager.specs.Map.{soundMap, draw}
 use Rattle.manager.specs.Record.{noRegion}
-use Rattle.manager.specs.Region.{dead, pagesOf, mapAt, mapWords, segments}
+use Rattle.manager.specs.Region.{dead, pagesOf, mapWords, segments}
 use Rattle.manager.specs.Sound.{inside, soundPage, isFifo, emptyRegion, liveRegion, soundRegion}
 use Rattle.manager.specs.declared.Region.{Region}
 use Rattle.manager.specs.declared.Order.{Order}
