@@ -4,19 +4,18 @@ use mathlib.Core.Path.{_≡_, refl, sym, ap, _∙_, subst}
 use mathlib.Core.Bool.{Bool, true, false, cond}
 use mathlib.Core.List.{List, [], _∷_}
 use mathlib.Core.Logic.{_⊎_, inl, inr, ⊎-elim}
-use Prim.Native.Nat.{ℕ, zero, suc, _+_, _-_, _*_, _%_, _<_}
-use native.Mathlib.Nat.{mul-div-left, mul-mod-left, zero-mul}
+use Prim.Native.Nat.{ℕ, zero, suc, _+_, _*_, _<_}
+use native.Mathlib.Nat.{zero-mul}
 use native.Mathlib.Omega.{arith}
 use lib.ListN.{length}
 use lib.Dec.{eqb}
-use borrow.Author.Tests.{eqb-true, eqb-false, eq-eqb, ne-eqb, le-leb, lt-ltb}
+use borrow.Author.Tests.{eqb-true, eqb-false, eq-eqb, ne-eqb}
 use Rattle.manager.specs.Partition.{buffers, isBuffer, chain}
 use Rattle.manager.specs.Partition.Distinct.{On, distinct, on-off, on-nil, on-head, on-tail, on-cases, distinct-head, distinct-tail}
-use Rattle.manager.specs.Partition.Laws.{chain-distinct}
+use Rattle.manager.specs.Partition.Laws.{Shaped, buffer-of, of-buffer, chain-distinct, live-laid, live-chain}
 use Rattle.manager.specs.Sound.{livePartition}
 use Rattle.manager.specs.declared.Partition.{Partition}
 use Rattle.trace.specs.Receipts.{buffersFrom, Within, Distinct, strike}
-use Rattle.trace.proofs.Frame.{buffer-parts, live-parts}
 
 -- a number is on a list, or not
 pub within-or-not : (a : ℕ) (l : List ℕ) → Within a l ⊎ (¬ Within a l)
@@ -128,16 +127,16 @@ distinct-buffers (suc n) size a h =
     (λ w. let r = buffers-numbered n size (a + size) a w in omega (arith, r .at), distinct-buffers n size (a + size) h)
 
 -- an address of a partition's buffer is one of them
-pub buffer-within : (p : Partition) (a : ℕ) → isBuffer p a ≡ true → Within a (buffersFrom (buffers p) (p .size) (p .start))
-buffer-within p a h =
-    let b = buffer-parts p a h in
-    subst (λ (x : ℕ). Within x (buffersFrom (buffers p) (p .size) (p .start))) (sym (b .at)) (numbered-buffers (buffers p) (p .size) (p .start) (b .k) (b .below))
+module _ (p : Partition) (s : Shaped p) (a : ℕ) where
+  pub buffer-within : isBuffer p a ≡ true → Within a (buffersFrom (buffers p) (p .size) (p .start))
+  buffer-within h =
+      let b = buffer-of p s a h in
+      subst (λ (x : ℕ). Within x (buffersFrom (buffers p) (p .size) (p .start))) (sym (b .address)) (numbered-buffers (buffers p) (p .size) (p .start) (b .index) (b .within))
 
-pub within-buffer : (p : Partition) (a : ℕ) → 0 < p .size → Within a (buffersFrom (buffers p) (p .size) (p .start)) → isBuffer p a ≡ true
-within-buffer p a h w =
-    let r = buffers-numbered (buffers p) (p .size) (p .start) a w in
-    let e : a - p .start ≡ r .k * p .size = omega (arith, r .at) in
-    rw (le-leb (p .start) a (omega (arith, r .at)), e, eq-eqb (r .k * p .size % p .size) 0 (mul-mod-left (r .k) (p .size)), mul-div-left (r .k) h) (lt-ltb (r .k) (buffers p) (r .below))
+  pub within-buffer : Within a (buffersFrom (buffers p) (p .size) (p .start)) → isBuffer p a ≡ true
+  within-buffer w =
+      let r = buffers-numbered (buffers p) (p .size) (p .start) a w in
+      of-buffer p s a (record { index = r .k; within = r .below; address = r .at })
 
 -- ---- the same as tests of the record have it
 
@@ -159,11 +158,4 @@ distinct-is (x ∷ l) e = (λ h. on-off x l (within-on x l h) (distinct-head x l
 
 -- A SOUND CHAIN HAS EACH BUFFER ONCE
 pub chain-once : (m : List ℕ) (p : Partition) → livePartition m p ≡ true → Distinct (chain m p)
-chain-once m p e =
-    let l = live-parts m p e in
-    distinct-is (chain m p)
-    (chain-distinct m p (record { start-in = pos (p .start) (l .placed .some-start); aligned = l .aligned; whole = l .whole; big = l .least }) (l .linked))
-  where
-    pos : (k : ℕ) → ¬ (k ≡ 0) → 0 < k
-    pos zero n = absurd (n refl)
-    pos (suc k) n = omega arith
+chain-once m p e = distinct-is (chain m p) (chain-distinct m p (live-laid m p e .shaped) (live-chain m p e))

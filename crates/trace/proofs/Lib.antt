@@ -1,7 +1,7 @@
 pub mod Invariant
 pub mod Loans
-pub mod Frame
 pub mod Buffers
+pub mod Frame
 pub mod Areas
 pub mod Sound
 pub mod Clients
@@ -9,5 +9,5 @@ pub mod Held
 pub mod Apart
 pub mod Access
 pub mod Start
-pub mod Recover
 pub mod Queue
+pub mod Recover

@@ -16,8 +16,8 @@ use Rattle.manager.specs.Sound.{emptyPartition, livePartition, soundPartition}
 use Rattle.manager.specs.declared.Partition.{Partition}
 use Rattle.trace.specs.Receipts.{PartitionEntry, buffersFrom, Within, Distinct, strike}
 use Rattle.trace.proofs.Invariant.{PartitionIs, PartitionSlot, empty, live}
-use Rattle.trace.proofs.Frame.{live-parts, linked-buffer}
-use Rattle.trace.proofs.Buffers.{chain-once, within-or-not, within-strike, strike-other, strike-keeps, strike-distinct, strike-length, length-buffers, distinct-buffers, buffer-within, within-buffer}
+use Rattle.manager.specs.Partition.Laws.{live-laid, live-chain, linked-on}
+use Rattle.trace.proofs.Buffers.{chain-once, within-on, within-or-not, within-strike, strike-other, strike-keeps, strike-distinct, strike-length, length-buffers, distinct-buffers, buffer-within, within-buffer}
 
 -- ---- several numbers struck
 
@@ -94,9 +94,9 @@ no-partition p n e =
 -- a live partition
 pub is-partition : (m : List ℕ) (p : Partition) → ¬ (p .name ≡ 0) → livePartition m p ≡ true → PartitionIs m p (partitionEntry m p)
 is-partition m p n e =
-    let l = live-parts m p e in
+    let s = live-laid m p e .shaped in
     let all = buffersFrom (buffers p) (p .size) (p .start) in
-    let some : 0 < p .size = omega (arith, l .least) in
+    let some : 0 < p .size = omega (arith, s .big) in
     let once : Distinct all = distinct-buffers (buffers p) (p .size) (p .start) some in
     record {
       named = n;
@@ -107,13 +107,13 @@ is-partition m p n e =
       sound = e;
       chained = refl;
       once = struck-distinct (chain m p) all once;
-      buffer = λ a h. within-buffer p a some (within-struck a (chain m p) all h);
+      buffer = λ a h. within-buffer p s a (within-struck a (chain m p) all h);
       either = λ a h. ⊎-elim (λ (k : Within a (chain m p)). inr k)
-          (λ (k : ¬ Within a (chain m p)). inl (struck-keeps a (chain m p) all (buffer-within p a h) k)) (within-or-not a (chain m p));
+          (λ (k : ¬ Within a (chain m p)). inl (struck-keeps a (chain m p) all (buffer-within p s a h) k)) (within-or-not a (chain m p));
       apart = λ a h. struck-other a (chain m p) all once h;
       counted =
           struck-length (chain m p) all (chain-once m p e)
-          (λ c k. buffer-within p c (linked-buffer (p .free) m p 0 (p .front) c (l .linked) k))
+          (λ c k. buffer-within p s c (linked-on m p (p .free) 0 (p .front) c (live-chain m p e) (within-on c (chain m p) k)))
           ∙ length-buffers (buffers p) (p .size) (p .start);
     }
 
