@@ -11,7 +11,7 @@ use Rattle.manager.specs.declared.Manager.{Manager}
 use Rattle.trace.specs.Receipts.{Receipts, RegionEntry, PartitionEntry, unit, pagesIn, addressIn}
 use Rattle.trace.specs.Trace.{Object, region, partition, Loaned, segment, buffer}
 use Rattle.trace.proofs.Invariant.{Inv, RegionIs, PartitionIs}
-use Rattle.trace.proofs.Frame.{buffer-at, buffers-apart}
+use Rattle.trace.proofs.Frame.{buffers-apart}
 use Rattle.trace.proofs.Areas.{areaIn, sound-clear, clear-parts, same-object}
 use Rattle.trace.proofs.Clients.{SegmentLoan, BufferLoan, segment-loan, buffer-loan, region-at, partition-at, loan-in}
 use Rattle.trace.proofs.Loans.Book.{no-overlap}
@@ -32,9 +32,7 @@ segments-apart m e is a n b k x y = go (no-overlap (pagesIn e) 0 (e .loans) (is 
 -- two of one partition
 pub lent-apart : (m : List ℕ) (d : Manager) (id : ℕ) (e : PartitionEntry) → PartitionIs m (partitionOf d id) e → (a n b k : ℕ)
     → BufferLoan e a n → BufferLoan e b k → Alike a n b k
-lent-apart m d id e is a n b k x y =
-    let p = partitionOf d id in
-    go (buffers-apart p a b (buffer-at m p e is a (is .buffer a (x .lent))) (buffer-at m p e is b (is .buffer b (y .lent))))
+lent-apart m d id e is a n b k x y = go (buffers-apart m (partitionOf d id) e is a b (is .buffer a (x .lent)) (is .buffer b (y .lent)))
   where
     go : (a ≡ b) ⊎ ((a + partitionOf d id .size ≤ b) ⊎ (b + partitionOf d id .size ≤ a)) → Alike a n b k
     go (inl f) = inl (f, x .bytes ∙ sym (y .bytes))

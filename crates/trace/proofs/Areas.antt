@@ -25,7 +25,16 @@ use Rattle.manager.specs.declared.Partition.{Partition}
 use Rattle.trace.specs.Receipts.{Receipts, RegionEntry, PartitionEntry}
 use Rattle.trace.specs.Trace.{Object, region, partition}
 use Rattle.trace.proofs.Invariant.{Inside, Only, regionFor, RegionSlot, PartitionSlot, Inv, empty, live}
-use Rattle.trace.proofs.Frame.{region-inside, region-same, chained-buffer, buffer-inside, link-next, link-before, partition-same, same-or-apart}
+use Rattle.trace.proofs.Frame.{region-inside, region-same, chained-buffer, buffer-inside, link-next, link-before, partition-same}
+
+-- two numbers are equal, or one is below the other
+pub same-or-apart : (a b : ℕ) → (a ≡ b) ⊎ ((a < b) ⊎ (b < a))
+same-or-apart a b = go (leb a b) refl (leb b a) refl
+  where
+    go : (s : Bool) → leb a b ≡ s → (t : Bool) → leb b a ≡ t → (a ≡ b) ⊎ ((a < b) ⊎ (b < a))
+    go true e true f = inl (omega (arith, leb-true a b e, leb-true b a f))
+    go true e false f = inr (inl (leb-false b a f))
+    go false e t f = inr (inr (leb-false a b e))
 
 -- ---- tests over a list, by its places
 
@@ -126,7 +135,7 @@ pub record OfSlot (id : ℕ) : Type 0 where
   pub within : slotOf id < slots
   pub is : idOf (slotOf id) ≡ id
 
-slot-of : (id : ℕ) → OfSlot id ⊎ (slots ≤ slotOf id)
+pub slot-of : (id : ℕ) → OfSlot id ⊎ (slots ≤ slotOf id)
 slot-of zero = inr (omega arith)
 slot-of (suc i) = go (leb slots i) refl
   where

@@ -21,7 +21,7 @@ use Rattle.trace.specs.Receipts.{Receipts, RegionEntry, PartitionEntry, 
 use Rattle.trace.specs.Trace.{Object, region, partition, Loaned, segment, buffer, Owned, ClientsWrite}
 use Rattle.trace.proofs.Invariant.{Inside, regionFor, RegionIs, RegionSlot, PartitionIs, PartitionSlot, Inv, empty, live}
 use Rattle.trace.proofs.Loans.Drawn.{lent-within, lent-some}
-use Rattle.trace.proofs.Frame.{unit-whole, whole-times, page-upto, first-from, region-unit, region-inside, region-before, region-same, partition-parts, buffer-at, buffer-multiple, buffers-apart, chained-buffer, link-next, link-before, buffer-inside, partition-same}
+use Rattle.trace.proofs.Frame.{unit-whole, whole-times, page-upto, first-from, region-unit, region-inside, region-before, region-same, partition-shaped, buffer-lies, buffers-apart, chained-buffer, link-next, link-before, buffer-inside, partition-same}
 use Rattle.trace.proofs.Areas.{areaFor, areaIn, sound-clear, clear-words, same-object}
 
 -- ---- what stands in a live slot
@@ -102,12 +102,12 @@ module _ (m : List ℕ) (p : Partition) (e : PartitionEntry) (is : PartitionIs m
   pub buffer-in : LoanIn (areaOf p) a n
   buffer-in =
       let b = is .buffer a (l .lent) in
-      let c = buffer-at m p e is a b in
+      let c = buffer-lies m p e is a b in
       record {
-        from = c .from;
-        upto = omega (arith, c .upto, l .bytes, is .size);
-        whole = buffer-multiple m p e is a b;
-        whole-bytes = omega (arith, l .bytes, is .size, partition-parts m p e is .whole);
+        from = c .low;
+        upto = omega (arith, c .high, l .bytes, is .size);
+        whole = c .aligned;
+        whole-bytes = omega (arith, l .bytes, is .size, partition-shaped m p e is .whole);
       }
 
 -- EVERY LOAN LIES IN THE AREA OF ITS OBJECT
@@ -154,12 +154,10 @@ module _ (m : List ℕ) (d : Manager) (t : Receipts) (v : Inv m d t) where
       same : h .0 ≡ partition id → ⊥
       same q =
           let l = buffer-loan t id (h .1) (h .2) e f (subst (λ (o : Object). Loaned t o (h .1) (h .2)) q (h .3)) in
-          let x = buffer-at m (partitionOf d id) e s (h .1) (s .buffer (h .1) (l .lent)) in
-          let y = buffer-at m (partitionOf d id) e s a (chained-buffer m (partitionOf d id) e s a u) in
           ⊎-elim (λ (g : h .1 ≡ a). s .apart (h .1) (l .lent) (subst (λ (b : ℕ). Within b (e .unlent)) (sym g) u))
           (⊎-elim (λ (g : h .1 + partitionOf d id .size ≤ a). omega (arith, i .low, i .high, h .4, h .5, l .bytes, s .size))
           (λ (g : a + partitionOf d id .size ≤ h .1). omega (arith, i .low, i .high, h .4, h .5)))
-          (buffers-apart (partitionOf d id) (h .1) a x y)
+          (buffers-apart m (partitionOf d id) e s (h .1) a (s .buffer (h .1) (l .lent)) (chained-buffer m (partitionOf d id) e s a u))
 
       other : ¬ (h .0 ≡ partition id) → ⊥
       other n =

@@ -1,30 +1,33 @@
 -- Which words a part of the picture rests on: a region's map words, and the link words of a partition's chained buffers. Where these
 -- stay as they are, so does the picture, whatever happens elsewhere. The words lie inside the object's area. Assumes nothing.
 use mathlib.Core.Path.{_≡_, refl, sym, ap, _∙_, subst}
-use mathlib.Core.Bool.{Bool, true, false, not, _&&_}
+use mathlib.Core.Bool.{true, not}
 use mathlib.Core.List.{List, [], _∷_, _++_, append-assoc}
-use mathlib.Core.Logic.{_⊎_, inl, inr}
-use Prim.Native.Nat.{ℕ, zero, suc, _+_, _-_, _*_, _/_, _%_, _≤_, _<_}
-use native.Mathlib.Nat.{div-mul-le-self, div-add-mod', mul-le-mul-right}
+use mathlib.Core.Logic.{_⊎_, inl, inr, ⊎-elim}
+use Prim.Native.Nat.{ℕ, suc, _+_, _*_, _/_, _%_, _≤_, _<_}
+use native.Mathlib.Nat.{mul-le-mul-right}
 use native.Mathlib.Omega.{arith}
 use lib.ListN.{length, getD, take, drop, set, length-take, length-drop, length-set}
 use lib.Seq.{sets, length-sets, sets-eq, getD-set-other, getD-take, getD-drop, ext-getD, take-at, drop-at, length-take-le}
-use lib.Dec.{eqb, leb, ltb}
-use borrow.Author.Tests.{eqb-true, eqb-false, leb-true, leb-false, ltb-true, eq-eqb, ne-eqb, le-leb, not-true}
+use lib.Dec.{eqb, leb}
+use borrow.Author.Tests.{eqb-false, leb-true, ne-eqb, le-leb, not-true}
 use Rattle.arith.specs.Round.Laws.{round-multiple}
 use Rattle.arith.specs.Layout.{mapStart, firstPage, pageCount}
 use Rattle.arith.specs.Layout.Laws.{map-ge, count-map, count-end}
 use Rattle.manager.specs.Lists.Laws.{and-first, and-second}
 use Rattle.manager.specs.Map.{draw}
 use Rattle.manager.specs.Region.{pagesOf, baseOf, mapAt, mapWords, withSegments}
-use Rattle.manager.specs.Partition.{isBuffer, buffers, nextOf, beforeOf, follow, chain, linked, soundChain}
-use Rattle.manager.specs.Sound.{inside, soundSize, livePartition}
+use Rattle.manager.specs.Partition.{isBuffer, chain}
+use Rattle.manager.specs.Partition.Distinct.{On, same-or-not}
+use Rattle.manager.specs.Partition.Laws.{Shaped, Laid, Buffer, buffer-of, Placed, placed, apart, linked-on, Same, follow-same, linked-same, live-laid, live-size, live-chain, live-made}
+use Rattle.manager.specs.Sound.{inside}
 use Rattle.manager.specs.declared.Region.{Region}
 use Rattle.manager.specs.declared.Partition.{Partition}
 use Rattle.trace.specs.Loans.{Loan, Ordered, drawn}
 use Rattle.trace.specs.Receipts.{RegionEntry, PartitionEntry, unit, pagesIn, Within, withLoans}
 use Rattle.trace.proofs.Invariant.{Inside, Only, regionFor, RegionIs, PartitionIs}
 use Rattle.trace.proofs.Loans.Words.{size as drawn-size}
+use Rattle.trace.proofs.Buffers.{within-on, on-within}
 
 -- ---- words inside an area, and changes of nothing else
 
@@ -91,6 +94,10 @@ module _ (start bytes page : ℕ) (hp : 0 < page) (some : 1 ≤ pageCount start 
   pub map-before : w < mapStart start / 4 + pageCount start bytes page → 4 * w + 4 ≤ firstPage start page (pageCount start bytes page)
   map-before h = omega (arith, map-at start, count-map start bytes page hp)
 
+-- the map lies in a memory in which the area does
+pub map-fits : (start bytes page n : ℕ) → 0 < page → 1 ≤ pageCount start bytes page → start + bytes ≤ 4 * n → mapStart start / 4 + pageCount start bytes page ≤ n
+map-fits start bytes page n hp some h = omega (arith, map-at start, count-map start bytes page hp, count-end start bytes page hp some)
+
 -- the pages lie inside the area
 pub page-upto : (start bytes page : ℕ) → 0 < page → 1 ≤ pageCount start bytes page → (p : ℕ) → p ≤ pageCount start bytes page
     → firstPage start page (pageCount start bytes page) + p * page ≤ start + bytes
@@ -110,18 +117,18 @@ pub unit-whole : (e : RegionEntry) → unit e % 8 ≡ 0
 unit-whole e = round-multiple (e .page) 8
 
 -- an area inside the memory
-pub record Placed (m : List ℕ) (start bytes : ℕ) : Type 0 where
+pub record Fits (m : List ℕ) (start bytes : ℕ) : Type 0 where
   pub some-start : ¬ (start ≡ 0)
   pub upto : start + bytes ≤ 4 * length m
 
-pub inside-parts : (m : List ℕ) (start bytes : ℕ) → inside m start bytes ≡ true → Placed m start bytes
+pub inside-parts : (m : List ℕ) (start bytes : ℕ) → inside m start bytes ≡ true → Fits m start bytes
 inside-parts m start bytes e =
     record {
       some-start = eqb-false start 0 (not-true (eqb start 0) (and-first (not (eqb start 0)) (leb (start + bytes) (4 * length m)) e));
       upto = leb-true (start + bytes) (4 * length m) (and-second (not (eqb start 0)) (leb (start + bytes) (4 * length m)) e);
     }
 
-pub parts-inside : (m : List ℕ) (start bytes : ℕ) → Placed m start bytes → inside m start bytes ≡ true
+pub parts-inside : (m : List ℕ) (start bytes : ℕ) → Fits m start bytes → inside m start bytes ≡ true
 parts-inside m start bytes p = rw (ne-eqb start 0 (p .some-start), le-leb (start + bytes) (4 * length m) (p .upto))
 
 pub inside-same : (m m′ : List ℕ) (start bytes : ℕ) → length m′ ≡ length m → inside m start bytes ≡ true → inside m′ start bytes ≡ true
@@ -136,6 +143,10 @@ map-same m m′ r e h = part-same (pagesOf r) (mapAt r) m m′ e h
 pub map-stored : (m : List ℕ) (r : Region) (ws : List ℕ) → length ws ≡ pagesOf r → mapAt r + pagesOf r ≤ length m
     → mapWords (sets m (mapAt r) ws) r ≡ ws
 map-stored m r ws e h = part-stored m (mapAt r) ws (pagesOf r) e h
+
+-- and has a word for each page
+pub map-length : (m : List ℕ) (r : Region) → mapAt r + pagesOf r ≤ length m → length (mapWords m r) ≡ pagesOf r
+map-length m r h = omega (arith, length-take (pagesOf r) (drop (mapAt r) m), length-drop (mapAt r) m)
 
 -- drawing a map changes only words of the area
 pub map-only : (m : List ℕ) (r : Region) (ws : List ℕ) → 0 < r .page → 1 ≤ pagesOf r → length ws ≡ pagesOf r
@@ -158,13 +169,7 @@ module _ (m : List ℕ) (e : RegionEntry) (is : RegionIs m e) where
 
   -- the map lies in the memory
   pub region-fits : mapAt (regionFor e) + pagesIn e ≤ length m
-  region-fits =
-      omega (
-        arith,
-        region-before (mapAt (regionFor e) + pagesIn e - 1) (omega (arith, is .some-page)),
-        page-upto (e .start) (e .bytes) (unit e) region-unit (is .some-page) 0 (omega arith),
-        inside-parts m (e .start) (e .bytes) (is .inside) .upto,
-      )
+  region-fits = map-fits (e .start) (e .bytes) (unit e) (length m) region-unit (is .some-page) (inside-parts m (e .start) (e .bytes) (is .inside) .upto)
 
   -- A LIVE REGION RESTS ON ITS MAP WORDS
   pub region-same : (m′ : List ℕ) → length m′ ≡ length m
@@ -195,68 +200,6 @@ module _ (m : List ℕ) (e : RegionEntry) (is : RegionIs m e) where
 
 -- ---- a partition: the link words of its chained buffers
 
--- the numbers of a live partition
-pub record PartitionParts (m : List ℕ) (p : Partition) : Type 0 where
-  pub placed : Placed m (p .start) (p .length)
-  pub aligned : p .start % 4 ≡ 0
-  pub one : p .size ≤ p .length
-  pub whole : p .size % 4 ≡ 0
-  pub least : 8 ≤ p .size
-  pub linked : soundChain m p ≡ true
-
-pub live-parts : (m : List ℕ) (p : Partition) → livePartition m p ≡ true → PartitionParts m p
-unfolding livePartition
-live-parts m p e =
-    let e₁ = and-second (inside m (p .start) (p .length)) (eqb (p .start % 4) 0 && (soundSize (p .length) (p .size) && soundChain m p)) e in
-    let e₂ = and-second (eqb (p .start % 4) 0) (soundSize (p .length) (p .size) && soundChain m p) e₁ in
-    let s = and-first (soundSize (p .length) (p .size)) (soundChain m p) e₂ in
-    let s₁ = and-second (leb (p .size) (p .length)) (eqb (p .size % 4) 0 && leb 8 (p .size)) s in
-    record {
-      placed = inside-parts m (p .start) (p .length) (and-first (inside m (p .start) (p .length)) (eqb (p .start % 4) 0 && (soundSize (p .length) (p .size) && soundChain m p)) e);
-      aligned = eqb-true (p .start % 4) 0 (and-first (eqb (p .start % 4) 0) (soundSize (p .length) (p .size) && soundChain m p) e₁);
-      one = leb-true (p .size) (p .length) (and-first (leb (p .size) (p .length)) (eqb (p .size % 4) 0 && leb 8 (p .size)) s);
-      whole = eqb-true (p .size % 4) 0 (and-first (eqb (p .size % 4) 0) (leb 8 (p .size)) s₁);
-      least = leb-true 8 (p .size) (and-second (eqb (p .size % 4) 0) (leb 8 (p .size)) s₁);
-      linked = and-second (soundSize (p .length) (p .size)) (soundChain m p) e₂;
-    }
-
-pub parts-live : (m : List ℕ) (p : Partition) → PartitionParts m p → livePartition m p ≡ true
-unfolding livePartition
-parts-live m p h =
-    rw (
-      ne-eqb (p .start) 0 (h .placed .some-start),
-      le-leb (p .start + p .length) (4 * length m) (h .placed .upto),
-      eq-eqb (p .start % 4) 0 (h .aligned),
-      le-leb (p .size) (p .length) (h .one),
-      eq-eqb (p .size % 4) 0 (h .whole),
-      le-leb 8 (p .size) (h .least),
-    ) (h .linked)
-
--- a buffer: the k-th, of whole words, inside the area
-pub record BufferIn (p : Partition) (a : ℕ) : Type 0 where
-  pub k : ℕ
-  pub at : a ≡ p .start + k * p .size
-  pub below : k < buffers p
-  pub from : p .start ≤ a
-  pub upto : a + p .size ≤ p .start + p .length
-
-module _ (p : Partition) (a : ℕ) where
-  pub buffer-parts : isBuffer p a ≡ true → BufferIn p a
-  buffer-parts e =
-      let e₁ = and-second (leb (p .start) a) (eqb ((a - p .start) % p .size) 0 && ltb ((a - p .start) / p .size) (buffers p)) e in
-      let l : p .start ≤ a = leb-true (p .start) a (and-first (leb (p .start) a) (eqb ((a - p .start) % p .size) 0 && ltb ((a - p .start) / p .size) (buffers p)) e) in
-      let z : (a - p .start) % p .size ≡ 0 = eqb-true ((a - p .start) % p .size) 0 (and-first (eqb ((a - p .start) % p .size) 0) (ltb ((a - p .start) / p .size) (buffers p)) e₁) in
-      let b : (a - p .start) / p .size < buffers p = ltb-true ((a - p .start) / p .size) (buffers p) (and-second (eqb ((a - p .start) % p .size) 0) (ltb ((a - p .start) / p .size) (buffers p)) e₁) in
-      let f : suc ((a - p .start) / p .size) * p .size ≤ buffers p * p .size = mul-le-mul-right (p .size) b in
-      let g : a ≡ p .start + (a - p .start) / p .size * p .size = omega (arith, div-add-mod' (a - p .start) (p .size)) in
-      record {
-        k = (a - p .start) / p .size;
-        at = g;
-        below = b;
-        from = l;
-        upto = omega (arith, div-mul-le-self (p .length) (p .size));
-      }
-
 -- a multiple of whole words is of whole words
 pub whole-times : (k n : ℕ) → n % 4 ≡ 0 → k * n % 4 ≡ 0
 whole-times k n z =
@@ -264,112 +207,59 @@ whole-times k n z =
     let f : k * n ≡ 4 * (k * (n / 4)) = ap (λ (x : ℕ). k * x) e ∙ omega arith in
     omega arith
 
-pub buffer-whole : (p : Partition) (a : ℕ) → p .start % 4 ≡ 0 → p .size % 4 ≡ 0 → BufferIn p a → a % 4 ≡ 0
-buffer-whole p a s z b = omega (arith, whole-times (b .k) (p .size) z, b .at)
-
--- two numbers are equal, or one is below the other
-pub same-or-apart : (a b : ℕ) → (a ≡ b) ⊎ ((a < b) ⊎ (b < a))
-same-or-apart a b = go (leb a b) refl (leb b a) refl
-  where
-    go : (s : Bool) → leb a b ≡ s → (t : Bool) → leb b a ≡ t → (a ≡ b) ⊎ ((a < b) ⊎ (b < a))
-    go true e true f = inl (omega (arith, leb-true a b e, leb-true b a f))
-    go true e false f = inr (inl (leb-false b a f))
-    go false e t f = inr (inr (leb-false a b e))
-
--- two buffers share no byte
-pub buffers-apart : (p : Partition) (a b : ℕ) → BufferIn p a → BufferIn p b → (a ≡ b) ⊎ ((a + p .size ≤ b) ⊎ (b + p .size ≤ a))
-buffers-apart p a b x y = go (same-or-apart (x .k) (y .k))
-  where
-    go : (x .k ≡ y .k) ⊎ ((x .k < y .k) ⊎ (y .k < x .k)) → (a ≡ b) ⊎ ((a + p .size ≤ b) ⊎ (b + p .size ≤ a))
-    go (inl e) = inl (x .at ∙ ap (λ (k : ℕ). p .start + k * p .size) e ∙ sym (y .at))
-    go (inr (inl h)) = inr (inl (omega (arith, x .at, y .at, mul-le-mul-right (p .size) h)))
-    go (inr (inr h)) = inr (inr (omega (arith, x .at, y .at, mul-le-mul-right (p .size) h)))
-
--- ---- the chain
-
--- the link words of a buffer are as they were
-pub record SameLinks (m m′ : List ℕ) (a : ℕ) : Type 0 where
-  pub next : nextOf m′ a ≡ nextOf m a
-  pub before : beforeOf m′ a ≡ beforeOf m a
-
--- a buffer on a sound chain is a buffer
-pub linked-buffer : (n : ℕ) (m : List ℕ) (p : Partition) (before a b : ℕ) → linked n m p before a ≡ true → Within b (follow n m a) → isBuffer p b ≡ true
-unfolding linked follow Within
-linked-buffer zero m p before a b e h = absurd h
-linked-buffer (suc n) m p before a b e (inl q) =
-    subst (λ (x : ℕ). isBuffer p x ≡ true) q (and-first (isBuffer p a) (eqb (beforeOf m a) before && linked n m p a (nextOf m a)) e)
-linked-buffer (suc n) m p before a b e (inr h) =
-    linked-buffer n m p a (nextOf m a) b
-    (and-second (eqb (beforeOf m a) before) (linked n m p a (nextOf m a))
-    (and-second (isBuffer p a) (eqb (beforeOf m a) before && linked n m p a (nextOf m a)) e)) h
-
--- the chain and its soundness rest on the link words of the buffers on it
-pub follow-same : (n : ℕ) (m m′ : List ℕ) (a : ℕ) → ((b : ℕ) → Within b (follow n m a) → SameLinks m m′ b) → follow n m′ a ≡ follow n m a
-unfolding follow Within
-follow-same zero m m′ a h = refl
-follow-same (suc n) m m′ a h =
-    ap (λ (x : ℕ). a ∷ follow n m′ x) (h a (inl refl) .next)
-    ∙ ap (λ (l : List ℕ). a ∷ l) (follow-same n m m′ (nextOf m a) (λ b w. h b (inr w)))
-
-pub linked-same : (n : ℕ) (m m′ : List ℕ) (p : Partition) (before a : ℕ) → ((b : ℕ) → Within b (follow n m a) → SameLinks m m′ b)
-    → linked n m′ p before a ≡ linked n m p before a
-unfolding follow linked Within
-linked-same zero m m′ p before a h = refl
-linked-same (suc n) m m′ p before a h =
-    rw (h a (inl refl) .before, h a (inl refl) .next)
-    (ap (λ (b : Bool). isBuffer p a && (eqb (beforeOf m a) before && b)) (linked-same n m m′ p a (nextOf m a) (λ b w. h b (inr w))))
-
 -- what a live partition's entry says of its buffers
 module _ (m : List ℕ) (p : Partition) (e : PartitionEntry) (is : PartitionIs m p e) where
+  pub partition-laid : Laid m p
+  partition-laid = live-laid m p (is .sound)
+
+  pub partition-shaped : Shaped p
+  partition-shaped = partition-laid .shaped
+
+  pub buffer-is : (a : ℕ) → isBuffer p a ≡ true → Buffer p a
+  buffer-is a h = buffer-of p partition-shaped a h
+
+  pub buffer-lies : (a : ℕ) → isBuffer p a ≡ true → Placed p a
+  buffer-lies a h = placed p partition-shaped a (buffer-is a h)
+
+  -- a buffer on the chain is a buffer
   pub chained-buffer : (a : ℕ) → Within a (e .unlent) → isBuffer p a ≡ true
-  chained-buffer a w = linked-buffer (p .free) m p 0 (p .front) a (live-parts m p (is .sound) .linked) (rw (← is .chained) at w)
+  chained-buffer a w =
+      linked-on m p (p .free) 0 (p .front) a (live-chain m p (is .sound)) (within-on a (chain m p) (rw (← is .chained) at w))
+
+  -- two buffers share no byte
+  pub buffers-apart : (a b : ℕ) → isBuffer p a ≡ true → isBuffer p b ≡ true → (a ≡ b) ⊎ ((a + p .size ≤ b) ⊎ (b + p .size ≤ a))
+  buffers-apart a b x y =
+      ⊎-elim (λ (q : a ≡ b). inl q) (λ (q : a ≡ b → ⊥). inr (apart p partition-shaped a b (buffer-is a x) (buffer-is b y) q)) (same-or-not a b)
+
+  -- the words of a buffer lie inside the area, its link words among them
+  pub buffer-inside : (a w : ℕ) → isBuffer p a ≡ true → Inside a (p .size) w → Inside (p .start) (p .length) w
+  buffer-inside a w h i =
+      let b = buffer-lies a h in
+      inside-wider a (p .size) (p .start) (p .length) w (b .low) (b .high) i
+
+  pub link-next : (a : ℕ) → isBuffer p a ≡ true → Inside a (p .size) (a / 4)
+  link-next a h = omega (arith, buffer-lies a h .aligned, partition-shaped .big)
+
+  pub link-before : (a : ℕ) → isBuffer p a ≡ true → Inside a (p .size) (a / 4 + 1)
+  link-before a h = omega (arith, buffer-lies a h .aligned, partition-shaped .big)
 
   -- A LIVE PARTITION RESTS ON THE LINK WORDS OF ITS CHAINED BUFFERS
-  pub partition-same : (m′ : List ℕ) → length m′ ≡ length m → ((a : ℕ) → Within a (e .unlent) → SameLinks m m′ a) → PartitionIs m′ p e
+  pub partition-same : (m′ : List ℕ) → length m′ ≡ length m → ((a : ℕ) → Within a (e .unlent) → Same m m′ a) → PartitionIs m′ p e
   partition-same m′ s h =
-      let l = live-parts m p (is .sound) in
-      let h′ : (a : ℕ) → Within a (chain m p) → SameLinks m m′ a = λ a w. h a (rw (is .chained) at w) in
+      let h′ : (a : ℕ) → On a (chain m p) → Same m m′ a = λ a w. h a (rw (is .chained) at (on-within a (chain m p) w)) in
       record {
         named = is .named;
         name = is .name;
         start = is .start;
         bytes = is .bytes;
         size = is .size;
-        sound = parts-live m′ p (record {
-          placed = record { some-start = l .placed .some-start; upto = rw s (l .placed .upto) };
-          aligned = l .aligned;
-          one = l .one;
-          whole = l .whole;
-          least = l .least;
-          linked = linked-same (p .free) m m′ p 0 (p .front) h′ ∙ l .linked;
-        });
-        chained = follow-same (p .free) m m′ (p .front) h′ ∙ is .chained;
+        sound =
+            live-made m′ p (record { shaped = partition-shaped; inside = rw s (partition-laid .inside) }) (live-size m p (is .sound))
+            (linked-same m m′ p p (λ x. refl) refl (p .free) 0 (p .front) h′ (live-chain m p (is .sound)));
+        chained = follow-same m m′ (p .free) (p .front) (λ x w. h′ x w .next) ∙ is .chained;
         once = is .once;
         buffer = is .buffer;
         either = is .either;
         apart = is .apart;
         counted = is .counted;
       }
-
-  -- its numbers, and those of its buffers
-  pub partition-parts : PartitionParts m p
-  partition-parts = live-parts m p (is .sound)
-
-  pub buffer-at : (a : ℕ) → isBuffer p a ≡ true → BufferIn p a
-  buffer-at a h = buffer-parts p a h
-
-  pub buffer-multiple : (a : ℕ) → isBuffer p a ≡ true → a % 4 ≡ 0
-  buffer-multiple a h = buffer-whole p a (partition-parts .aligned) (partition-parts .whole) (buffer-parts p a h)
-
-  -- the words of a buffer lie inside the area
-  pub buffer-inside : (a w : ℕ) → isBuffer p a ≡ true → Inside a (p .size) w → Inside (p .start) (p .length) w
-  buffer-inside a w h i =
-      let b = buffer-parts p a h in
-      inside-wider a (p .size) (p .start) (p .length) w (b .from) (b .upto) i
-
-  -- so do its link words
-  pub link-next : (a : ℕ) → isBuffer p a ≡ true → Inside a (p .size) (a / 4)
-  link-next a h = omega (arith, buffer-multiple a h, partition-parts .least)
-
-  pub link-before : (a : ℕ) → isBuffer p a ≡ true → Inside a (p .size) (a / 4 + 1)
-  link-before a h = omega (arith, buffer-multiple a h, partition-parts .least)

@@ -1,5 +1,6 @@
 pub mod Invariant
 pub mod Loans
+pub mod Buffers
 pub mod Frame
 pub mod Areas
 pub mod Regions
@@ -8,4 +9,6 @@ pub mod Clients
 pub mod Held
 pub mod Apart
 pub mod Access
+pub mod Start
 pub mod Queue
+pub mod Recover

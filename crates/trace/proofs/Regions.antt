@@ -3,7 +3,7 @@ pub mod Checks
 pub mod Live
 pub mod Picture
 pub mod Lending
-pub mod Given
+pub mod Queue
 pub mod Get
 pub mod Serve
 pub mod Return

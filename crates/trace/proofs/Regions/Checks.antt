@@ -1,22 +1,23 @@
 -- A chain of checks: every check passes and the directive acts, or one refuses. A refusal leaves the memory, the record and the receipts
 -- as they were. Assumes nothing.
-use mathlib.Core.Path.{_≡_, refl, sym, ap, _∙_, subst}
+use mathlib.Core.Path.{_≡_, refl, _∙_, subst}
 use mathlib.Core.Bool.{Bool, true, false, cond, not, _&&_}
 use mathlib.Core.List.{List, [], _∷_}
 use Prim.Native.Nat.{ℕ}
 use native.Mathlib.Omega.{arith}
 use lib.Dec.{eqb}
+use borrow.Author.Tests.{not-true}
 use Rattle.manager.specs.Lists.{every}
 use Rattle.manager.specs.Lists.Laws.{and-first, and-second}
 use Rattle.manager.specs.Status.{numberOf}
-use Rattle.manager.specs.Result.{Result, Check, check, checked, replied, refused}
+use Rattle.manager.specs.Result.{Result, Check, checked, replied, refused}
 use Rattle.manager.specs.Regions.{answered}
 use Rattle.manager.specs.Sound.{sound}
 use Rattle.manager.specs.declared.Manager.{Manager}
 use Rattle.manager.specs.declared.Call.{Call}
 use Rattle.manager.specs.declared.Status.{Status}
 use Rattle.manager.specs.declared.Status.the-variants.{InternalError}
-use Rattle.trace.specs.Receipts.{Receipts, Reply, replyOf, note, allNoticed, isSuccess, isWaiting, entered, waited}
+use Rattle.trace.specs.Receipts.{Receipts, replyOf, note, allNoticed, isSuccess, isWaiting, entered, waited}
 use Rattle.trace.proofs.Invariant.{Inv}
 
 -- every check of a list passes
@@ -82,10 +83,6 @@ module _ (c : Call) (m : List ℕ) (d : Manager) (t : Receipts) where
 pub record Kept (c : Call) (t : Receipts) (s : Result) : Type 0 where
   pub inv : Inv (s .memory) (s .manager) (note c (replyOf s) t)
   pub sound : ¬ (s .status ≡ InternalError)
-
-not-true : (b : Bool) → not b ≡ true → b ≡ false
-not-true false e = refl
-not-true true e = sym e
 
 module _ (c : Call) (m : List ℕ) (d : Manager) (t : Receipts) (v : Inv m d t) where
   -- a refusal keeps it, with whatever value

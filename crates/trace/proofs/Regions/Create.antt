@@ -3,43 +3,39 @@
 use mathlib.Core.Path.{_≡_, refl, sym, ap, _∙_, subst}
 use mathlib.Core.Bool.{Bool, true, false, cond}
 use mathlib.Core.List.{List, [], _∷_}
-use mathlib.Core.Option.{Option, none, some}
-use Prim.Native.Nat.{ℕ, zero, suc, _+_, _-_, _*_, _≤_, _<_}
+use mathlib.Core.Option.{none, some}
+use Prim.Native.Nat.{ℕ, suc, _+_, _-_, _*_, _≤_, _<_}
 use native.Mathlib.Omega.{arith}
 use lib.ListN.{length, getD, length-set}
-use lib.Dec.{eqb, leb, ltb}
+use lib.Dec.{eqb}
 use borrow.Author.Tests.{eqb-true, eqb-false, ltb-false, leb-false}
 use Rattle.manager.specs.Record.{slots, noRegion, regionOf, partitionOf, idOf, withRegion}
-use Rattle.manager.specs.Result.{Result, done}
+use Rattle.manager.specs.Result.{done}
 use Rattle.manager.specs.Lists as lists
 use Rattle.manager.specs.Lists.{indexOf}
 use Rattle.manager.specs.Map.{draw}
-use Rattle.manager.specs.Paged.{Kind, free+}
-use Rattle.manager.specs.Region.{kind, pagesOf, mapAt, mapWords, withSegments}
-use Rattle.manager.specs.Regions.{overlaps, pastMemory, regionNamed, newRegion, createRegion}
+use Rattle.manager.specs.Paged.{free+}
+use Rattle.manager.specs.Region.{mapAt, withSegments}
+use Rattle.manager.specs.Regions.{overlaps, regionNamed, createRegion}
 use Rattle.manager.specs.Sound.{inside}
 use Rattle.manager.specs.declared.Manager.{Manager}
 use Rattle.manager.specs.declared.Region.{Region}
-use Rattle.manager.specs.declared.Area.{Area}
 use Rattle.manager.specs.declared.Order.{Order}
 use Rattle.manager.specs.declared.Call.{Call}
 use Rattle.manager.specs.declared.Call.the-variants.{CreateRegion}
 use Rattle.manager.specs.declared.Status.the-variants.{Successful, InternalError}
-use Rattle.trace.specs.Loans.{Loan}
 use Rattle.trace.specs.Receipts.{Receipts, RegionEntry, unit, pagesIn, put}
-use Rattle.trace.specs.Claims.{waitsIn}
 use Rattle.trace.specs.Trace.{region, partition}
 use Rattle.trace.proofs.Invariant.{Only, regionFor, RegionIs, RegionSlot, live, Inv}
 use Rattle.trace.proofs.Frame.{unit-least, page-upto, map-before, map-stored, map-only, parts-inside}
 use Rattle.trace.proofs.Areas.{areaFor, overlaps-clear, region-there, region-elsewhere, areas-new-region, region-kept, partition-kept}
 use Rattle.trace.proofs.Loans.Tests.{by-eqb}
 use Rattle.trace.proofs.Loans.Words.{drawn-new, ordered-new}
-use Rattle.trace.proofs.Loans.Lawful.{Lawful}
 use Rattle.trace.proofs.Regions.Checks.{Passed, note-done, Kept, kept-checked}
 use Rattle.trace.proofs.Regions.Live.{law, slot-none}
-use Rattle.trace.proofs.Regions.Picture.{Picture, pictured, with-waits, words-same}
+use Rattle.trace.proofs.Regions.Picture.{Picture, with-waits, words-same}
 use Rattle.trace.proofs.Regions.Lending.{none-there, registering, waits-put}
-use Rattle.trace.proofs.Regions.Given.{Given}
+use Rattle.trace.proofs.Regions.Queue.{sound-inv}
 
 -- what is found passes the test
 index-passes : {A : Type 0} (z : A) (t : A → Bool) (l : List A) → indexOf t l < length l → t (getD l (indexOf t l) z) ≡ true
@@ -88,7 +84,7 @@ module _ (m : List ℕ) (e : RegionEntry) (fresh : e .loans ≡ []) (named : ¬ 
 
 -- ---- in a slot that is empty
 
-module _ (G : Given) (m : List ℕ) (d : Manager) (t : Receipts) (v : Inv m d t) (name start bytes page : ℕ) (order : Order) where
+module _ (m : List ℕ) (d : Manager) (t : Receipts) (v : Inv m d t) (name start bytes page : ℕ) (order : Order) where
   abbrev asks : Call
   asks = CreateRegion name start bytes page order
 
@@ -145,7 +141,7 @@ module _ (G : Given) (m : List ℕ) (d : Manager) (t : Receipts) (v : Inv m d t)
   pub keeps-create : Kept asks t (createRegion m d name start bytes page order)
   unfolding createRegion lists.every Passed
   keeps-create =
-      kept-checked asks m d t v _ _ (G .sound m d t v) refl
+      kept-checked asks m d t v _ _ (sound-inv m d t v) refl
       (λ c. let named = eqb-false name 0 (c .0) in
       let started = eqb-false start 0 (c .1 .0) in
       let upto = ltb-false (4 * length m) (start + bytes) (c .1 .1 .0) in

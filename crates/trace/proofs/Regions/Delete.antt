@@ -1,16 +1,15 @@
 -- A delete of a region with nothing held: nobody waits for it, and its slot is emptied. Assumes nothing.
 use mathlib.Core.Path.{_≡_, refl, sym, ap, _∙_, subst}
-use mathlib.Core.Bool.{Bool, true, false, cond}
-use mathlib.Core.List.{List, [], _∷_}
-use mathlib.Core.Option.{Option, none, some}
-use Prim.Native.Nat.{ℕ, _<_}
+use mathlib.Core.Bool.{Bool, false, cond}
+use mathlib.Core.List.{List, []}
+use mathlib.Core.Option.{none, some}
+use Prim.Native.Nat.{ℕ}
 use native.Mathlib.Omega.{arith}
 use lib.ListN.{length-set}
 use Rattle.manager.specs.Record.{noRegion, regionOf, slotOf, idOf, withRegion}
 use Rattle.manager.specs.Result.{done}
 use Rattle.manager.specs.Lists as lists
-use Rattle.manager.specs.Map.{isHeldSegment}
-use Rattle.manager.specs.Region.{dead, segments, anyHeld, kind}
+use Rattle.manager.specs.Region.{anyHeld}
 use Rattle.manager.specs.Regions.{deleteRegion}
 use Rattle.manager.specs.declared.Manager.{Manager}
 use Rattle.manager.specs.declared.Region.{Region}
@@ -28,9 +27,9 @@ use Rattle.trace.proofs.Regions.Checks.{Passed, note-done, Kept, kept-c
 use Rattle.trace.proofs.Regions.Live.{law, slot-entry, map-drawing}
 use Rattle.trace.proofs.Regions.Picture.{Picture, with-waits}
 use Rattle.trace.proofs.Regions.Lending.{none-lent, registering, waits-put}
-use Rattle.trace.proofs.Regions.Given.{Given}
+use Rattle.trace.proofs.Regions.Queue.{sound-inv}
 
-module _ (G : Given) (m : List ℕ) (d : Manager) (t : Receipts) (v : Inv m d t) (id : ℕ) where
+module _ (m : List ℕ) (d : Manager) (t : Receipts) (v : Inv m d t) (id : ℕ) where
   module _ (e : RegionEntry) (q : t .regions id ≡ some e) (at : RegionAt m (regionOf d id) e) (h : anyHeld m (regionFor e) ≡ false) where
     slot : OfSlot id
     slot =
@@ -73,6 +72,6 @@ module _ (G : Given) (m : List ℕ) (d : Manager) (t : Receipts) (v : Inv m d t)
   pub keeps-delete : Kept (DeleteRegion id) t (deleteRegion m d id)
   unfolding deleteRegion lists.every Passed
   keeps-delete =
-      kept-checked (DeleteRegion id) m d t v _ _ (G .sound m d t v) refl
+      kept-checked (DeleteRegion id) m d t v _ _ (sound-inv m d t v) refl
       (λ c. let s = slot-entry m (regionOf d id) (t .regions id) (v .regions id) (c .0) in
       act-kept (s .0) (s .1) (s .2) (subst (λ (r : Region). anyHeld m r ≡ false) (s .2 .region) (c .1 .0)))

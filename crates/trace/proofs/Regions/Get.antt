@@ -1,52 +1,47 @@
 -- A get: at the lowest run of unheld pages, which is then lent; where there is none, 13, or the task waits. Assumes nothing.
 use mathlib.Core.Path.{_≡_, refl, sym, ap, _∙_, subst}
-use mathlib.Core.Bool.{Bool, true, false}
+use mathlib.Core.Bool.{true}
 use mathlib.Core.List.{List, [], _∷_, _++_}
 use mathlib.Core.Logic.{_⊎_, inl, inr, _↔_}
-use mathlib.Core.Option.{Option, none, some}
-use Prim.Native.Nat.{ℕ, _+_, _-_, _≤_, _<_}
+use mathlib.Core.Option.{some}
+use Prim.Native.Nat.{ℕ, _≤_, _<_}
 use native.Mathlib.Omega.{arith}
-use lib.Dec.{eqb, ltb}
 use borrow.Author.Tests.{eqb-false, ne-eqb, ltb-false, le-ltb}
 use Rattle.arith.specs.Round.{pagesFor}
 use Rattle.arith.specs.Round.Laws.{pages-some}
 use Rattle.manager.specs.Record.{tasks, regionOf}
-use Rattle.manager.specs.Result.{Result, Check, check, done, replied, refused}
+use Rattle.manager.specs.Result.{Result, done, replied, refused}
 use Rattle.manager.specs.Lists.{every}
 use Rattle.manager.specs.Map.{Segment}
-use Rattle.manager.specs.Paged.{Kind}
-use Rattle.manager.specs.Region.{dead, kind, pagesOf, addressOf, segments, withSegments, pagesAsked}
-use Rattle.manager.specs.Queue.{enqueue, waiting}
+use Rattle.manager.specs.Region.{kind, pagesOf, addressOf, segments, withSegments, pagesAsked}
+use Rattle.manager.specs.Queue.{enqueue}
 use Rattle.manager.specs.Serve.{onPlace, placed, taken}
-use Rattle.manager.specs.Regions.{answered, waitChecks, unplaced, getSegment}
+use Rattle.manager.specs.Regions.{waitChecks, unplaced, getSegment}
 use Rattle.manager.specs.Perform.{perform}
 use Rattle.manager.specs.Sound.{sound}
 use Rattle.manager.specs.declared.Manager.{Manager}
 use Rattle.manager.specs.declared.Region.{Region}
 use Rattle.manager.specs.declared.Waiter.{Waiter}
 use Rattle.manager.specs.declared.Place.{Place}
-use Rattle.manager.specs.declared.Place.the-variants.{At, Nowhere}
 use Rattle.manager.specs.declared.Wait as asking
 use Rattle.manager.specs.declared.Wait.the-variants.{No, Yes}
 use Rattle.manager.specs.declared.Call.{Call}
 use Rattle.manager.specs.declared.Call.the-variants.{GetSegment}
-use Rattle.manager.specs.declared.Status.{Status}
-use Rattle.manager.specs.declared.Status.the-variants.{Successful, InvalidId, InvalidSize, Unsatisfied, InternalError, Waiting}
-use Rattle.trace.specs.Loans.{Loan, enter, Held, Run, Lowest, drawn, Ordered}
-use Rattle.trace.specs.Receipts.{Receipts, RegionEntry, Wait, unit, pagesIn, addressIn, pageIn, lend, onRegion, withLoans, replyOf, note, entered}
-use Rattle.trace.specs.Claims.{waiterOf}
+use Rattle.manager.specs.declared.Status.the-variants.{Successful, Unsatisfied, InternalError, Waiting}
+use Rattle.trace.specs.Loans.{Loan, enter, Held, Run, Lowest}
+use Rattle.trace.specs.Receipts.{Receipts, RegionEntry, Wait, unit, pagesIn, addressIn, lend, withLoans}
 use Rattle.trace.proofs.Invariant.{regionFor, RegionIs, WaitIs, Inv}
 use Rattle.trace.proofs.Frame.{region-unit}
 use Rattle.trace.proofs.Clients.{RegionAt, region-at}
 use Rattle.trace.proofs.Held.{page-address}
-use Rattle.trace.proofs.Loans.Tests.{by-eqb}
-use Rattle.trace.proofs.Loans.Lawful.{Lawful, Drawing, Gets, given, nothing, nowhere}
+use Rattle.trace.proofs.Loans.Lawful.{Drawing, Gets, given, nothing}
 use Rattle.trace.proofs.Loans.Pages.{pages}
-use Rattle.trace.proofs.Regions.Checks.{Passed, refuses, refusing, acts, note-done, note-waiting, Kept, kept-refused, kept-checked}
+use Rattle.trace.proofs.Queue.Enter.{new-waiter, new-time}
+use Rattle.trace.proofs.Regions.Checks.{Passed, refuses, acts, note-done, note-waiting, Kept, kept-refused, kept-checked}
 use Rattle.trace.proofs.Regions.Live.{law, slot-entry, not-dead, map-drawing}
-use Rattle.trace.proofs.Regions.Picture.{lending, on-region, Picture, pictured, with-waits, any-queue, changed-map}
+use Rattle.trace.proofs.Regions.Picture.{lending, on-region, pictured, with-waits, any-queue, changed-map}
 use Rattle.trace.proofs.Regions.Lending.{waits-lent, enter-some}
-use Rattle.trace.proofs.Regions.Given.{Given}
+use Rattle.trace.proofs.Regions.Queue.{sound-inv, wait-inv}
 
 -- what a get does in a region, once its checks pass
 abbrev getting : List ℕ → Manager → asking.Wait → Waiter → Region → ℕ → Result
@@ -68,7 +63,7 @@ pub lend-page : (m : List ℕ) (e : RegionEntry) → RegionIs m e → (p size : 
     → lend (addressIn e p) size e ≡ withLoans (enter p (pagesFor size (unit e)) (e .loans)) e
 lend-page m e is p size = ap (λ (q : ℕ). withLoans (enter q (pagesFor size (unit e)) (e .loans)) e) (page-address m e is p)
 
-module _ (G : Given) (m : List ℕ) (d : Manager) (t : Receipts) (v : Inv m d t) (id size : ℕ) (wait : asking.Wait) (task priority ticks : ℕ) where
+module _ (m : List ℕ) (d : Manager) (t : Receipts) (v : Inv m d t) (id size : ℕ) (wait : asking.Wait) (task priority ticks : ℕ) where
   abbrev asks : Call
   asks = GetSegment id size wait task priority ticks
 
@@ -86,11 +81,6 @@ module _ (G : Given) (m : List ℕ) (d : Manager) (t : Receipts) (v : Inv m d t)
     abbrev entry : Wait
     entry = record { task = task; id = id; size = size; priority = priority; ticks = ticks; since = 0 }
 
-    as-waiter : waiterOf entry ≡ waiter
-    as-waiter =
-        let s : ticks - 0 ≡ ticks = omega arith in
-        ap (λ (n : ℕ). record { task = task; region = id; size = size; priority = priority; ticks = n }) s
-
     module _ (no-run : (p : ℕ) → ¬ Run (pagesIn e) (e .loans) wants p) where
       entry-is : Passed (waitChecks d Yes task priority) → WaitIs t entry
       unfolding Passed
@@ -105,7 +95,7 @@ module _ (G : Given) (m : List ℕ) (d : Manager) (t : Receipts) (v : Inv m d t)
             size-most = h;
             priority-some = let y = eqb-false priority 0 (c .1 .1 .0) in omega arith;
             priority-most = ltb-false 255 priority (c .1 .1 .1 .0);
-            time = by-eqb ticks 0 (λ (b : Bool). (ticks ≡ 0) ⊎ (0 < ticks)) (λ y. inl y) (λ y. inr (omega arith));
+            time = new-time ticks;
           }
 
       -- the task waits
@@ -115,7 +105,7 @@ module _ (G : Given) (m : List ℕ) (d : Manager) (t : Receipts) (v : Inv m d t)
           record {
             inv = rw (note-waiting asks m (enqueue d waiter) t 0 Waiting refl refl)
                 (with-waits (any-queue m d t (enqueue d waiter .waiters) (t .waits ++ (entry ∷ [])) (pictured v))
-                (rw as-waiter at (G .wait m d t v entry (entry-is c) refl (c .1 .1 .1 .1 .0))));
+                (rw (new-waiter task id size priority ticks) at (wait-inv m d t v entry (entry-is c) (c .1 .1 .1 .1 .0))));
             sound = λ (x : Waiting ≡ InternalError). let y : _≡_ {A = ℕ} 0 1 = cc in omega arith;
           }
 
@@ -149,7 +139,7 @@ module _ (G : Given) (m : List ℕ) (d : Manager) (t : Receipts) (v : Inv m d t)
   pub keeps-get : Kept asks t (getSegment m d id size wait task priority ticks)
   unfolding getSegment every Passed
   keeps-get =
-      kept-checked asks m d t v _ _ (G .sound m d t v) (wait-refuses d wait task priority)
+      kept-checked asks m d t v _ _ (sound-inv m d t v) (wait-refuses d wait task priority)
       (λ c. let s = slot-entry m (regionOf d id) (t .regions id) (v .regions id) (c .1 .0) in
       subst (λ (r : Region). Kept asks t (getting m d wait waiter r (pagesAsked r size))) (sym (s .2 .region))
       (act-kept (s .0) (s .1) (s .2 .is) (let y = eqb-false size 0 (c .0) in omega arith)

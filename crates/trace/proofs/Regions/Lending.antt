@@ -2,21 +2,23 @@
 -- nobody waits. Assumes nothing.
 use mathlib.Core.Path.{_≡_, refl, sym, ap, _∙_, subst}
 use mathlib.Core.Bool.{Bool, true, false, cond}
-use mathlib.Core.List.{List, [], _∷_, _++_}
+use mathlib.Core.List.{List, [], _∷_}
 use mathlib.Core.Option.{Option, none, some}
 use mathlib.Core.Logic.{_⊎_, inl, inr}
 use Prim.Native.Nat.{ℕ, zero, suc}
 use native.Mathlib.Omega.{arith}
-use lib.Dec.{eqb, ltb}
+use lib.Dec.{eqb}
 use borrow.Author.Tests.{eqb-true, eqb-false}
-use Rattle.manager.specs.Record.{tasks, slots, noWaiter, idOf}
+use Rattle.manager.specs.Record.{slots, idOf}
 use Rattle.manager.specs.declared.Manager.{Manager}
 use Rattle.manager.specs.declared.Order.{Order}
 use Rattle.trace.specs.Loans.{Loan, loan, enter, Lent}
-use Rattle.trace.specs.Receipts.{Receipts, RegionEntry, Wait, put, withLoans, withWaits}
-use Rattle.trace.specs.Claims.{waitsIn, queueOf, arranged, behind, urgentThan}
+use Rattle.trace.specs.Receipts.{Receipts, RegionEntry, Wait, put, withLoans}
+use Rattle.trace.specs.Claims.{waitsIn, arranged, behind, urgentThan}
 use Rattle.trace.proofs.Invariant.{WaitIs, AllWaits, Waits, queueAt, queuesFrom}
 use Rattle.trace.proofs.Loans.Tests.{by-eqb, by-leb}
+use Rattle.trace.proofs.Queue.Order.{no-waits}
+use Rattle.trace.proofs.Queue.Tasks.{all-in}
 use Rattle.trace.proofs.Regions.Picture.{put-here, put-else, lending}
 
 -- ---- waits of a region
@@ -68,23 +70,21 @@ arranged-none o = refl
 module _ (t : Receipts) (id : ℕ) where
   -- a region that is not there has none
   pub none-there : (ws : List Wait) → AllWaits t ws → t .regions id ≡ none → waitsIn id ws ≡ []
-  unfolding AllWaits waitsIn
-  none-there [] a q = refl
-  none-there (w ∷ ws) a q =
-      by-eqb (w .id) id (λ (b : Bool). cond b (w ∷ waitsIn id ws) (waitsIn id ws) ≡ [])
-      (λ h. let f : t .regions id ≡ some (a .0 .entry) = subst (λ (j : ℕ). t .regions j ≡ some (a .0 .entry)) h (a .0 .found) in
-      let z : _≡_ {A = ℕ} 0 1 = cc in absurd (omega arith))
-      (λ h. none-there ws (a .1) q)
+  none-there ws a q =
+      no-waits id ws (λ w i f.
+      let x = all-in t ws a w i in
+      let y : none ≡ some (x .entry) = sym q ∙ ap (t .regions) (sym f) ∙ x .found in
+      let z : _≡_ {A = ℕ} 0 1 = cc in
+      omega arith)
 
   -- A REGION THAT LENDS NOTHING HAS NO WAITER
   pub none-lent : (e : RegionEntry) (ws : List Wait) → AllWaits t ws → t .regions id ≡ some e → e .loans ≡ [] → waitsIn id ws ≡ []
-  unfolding AllWaits waitsIn
-  none-lent e [] a q n = refl
-  none-lent e (w ∷ ws) a q n =
-      by-eqb (w .id) id (λ (b : Bool). cond b (w ∷ waitsIn id ws) (waitsIn id ws) ≡ [])
-      (λ h. let f : t .regions id ≡ some (a .0 .entry) = subst (λ (j : ℕ). t .regions j ≡ some (a .0 .entry)) h (a .0 .found) in
-      let s : a .0 .entry ≡ e = cc in absurd (a .0 .lending (ap (λ (g : RegionEntry). g .loans) s ∙ n)))
-      (λ h. none-lent e ws (a .1) q n)
+  none-lent e ws a q n =
+      no-waits id ws (λ w i f.
+      let x = all-in t ws a w i in
+      let y : some e ≡ some (x .entry) = sym q ∙ ap (t .regions) (sym f) ∙ x .found in
+      let s : x .entry ≡ e = cc in
+      x .lending (ap (λ (g : RegionEntry). g .loans) s ∙ n))
 
 -- ---- other loans of one region
 

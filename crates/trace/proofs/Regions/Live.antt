@@ -1,13 +1,12 @@
 -- A live region under an id: the record has what its entry asks for, and its map is lawfully the one drawn from its loans. Assumes nothing.
 use mathlib.Core.Path.{_≡_, refl}
-use mathlib.Core.Bool.{Bool, false}
+use mathlib.Core.Bool.{false}
 use mathlib.Core.List.{List}
 use mathlib.Core.Option.{Option, none, some}
-use Prim.Native.Nat.{ℕ, _<_}
+use Prim.Native.Nat.{ℕ}
 use native.Mathlib.Omega.{arith}
 use lib.Dec.{eqb}
 use borrow.Author.Tests.{eqb-false, ne-eqb}
-use Rattle.manager.specs.Paged.{Kind}
 use Rattle.manager.specs.Region.{dead, kind, mapWords, segments, heldAt}
 use Rattle.manager.specs.declared.Region.{Region}
 use Rattle.trace.specs.Receipts.{RegionEntry, pagesIn}

@@ -1,27 +1,24 @@
 -- The picture of the objects, without the waits: the memory and the record as the receipts say. Replacing one region's map by the one
 -- drawn from other loans, and its loans by these, keeps the picture. Assumes nothing.
 use mathlib.Core.Path.{_≡_, refl, sym, ap, _∙_, subst, fun-ext}
-use mathlib.Core.Bool.{Bool, true, false, cond}
-use mathlib.Core.List.{List, [], _∷_}
-use mathlib.Core.Option.{Option, none, some}
+use mathlib.Core.Bool.{Bool, true, cond}
+use mathlib.Core.List.{List}
+use mathlib.Core.Option.{Option, some}
 use Prim.Native.Nat.{ℕ}
 use native.Mathlib.Omega.{arith}
 use lib.ListN.{length}
-use lib.Seq.{length-sets}
-use lib.Dec.{eqb}
 use borrow.Author.Tests.{eq-eqb, ne-eqb}
 use Rattle.manager.specs.Record.{slots, regionOf, partitionOf, withQueue}
 use Rattle.manager.specs.Map.{Segment, draw}
-use Rattle.manager.specs.Region.{mapAt, withSegments}
+use Rattle.manager.specs.Region.{withSegments}
 use Rattle.manager.specs.Sound.{soundLength, soundAreas}
 use Rattle.manager.specs.declared.Manager.{Manager}
 use Rattle.manager.specs.declared.Region.{Region}
 use Rattle.manager.specs.declared.Waiter.{Waiter}
-use Rattle.manager.specs.declared.Area.{Area}
 use Rattle.trace.specs.Loans.{Loan, Ordered, drawn}
 use Rattle.trace.specs.Receipts.{Receipts, RegionEntry, Wait, pagesIn, put, mapOption, onRegion, withLoans, withWaits}
 use Rattle.trace.specs.Trace.{Object, region, partition}
-use Rattle.trace.proofs.Invariant.{Only, regionFor, RegionIs, RegionSlot, live, PartitionSlot, Waits, Inv}
+use Rattle.trace.proofs.Invariant.{Only, regionFor, RegionSlot, live, PartitionSlot, Waits, Inv}
 use Rattle.trace.proofs.Frame.{map-only, region-redrawn, region-unit}
 use Rattle.trace.proofs.Areas.{areaFor, areaIn, Clear, sound-clear, region-kept, partition-kept}
 use Rattle.trace.proofs.Loans.Tests.{by-eqb}

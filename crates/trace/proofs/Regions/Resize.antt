@@ -1,7 +1,7 @@
 -- A resize: the loan has the new size where the pages that it lacks are unheld, else 13; the value is the old length. Assumes nothing.
 use mathlib.Core.Path.{_≡_, refl, sym, ap, _∙_, subst}
 use mathlib.Core.Bool.{Bool, true, false, cond}
-use mathlib.Core.List.{List, [], _∷_}
+use mathlib.Core.List.{List}
 use mathlib.Core.Logic.{inl, inr, _↔_}
 use mathlib.Core.Option.{some}
 use Prim.Native.Nat.{ℕ, _*_, _≤_, _<_}
@@ -14,8 +14,7 @@ use Rattle.manager.specs.Record.{regionOf}
 use Rattle.manager.specs.Result.{Result, done, replied}
 use Rattle.manager.specs.Lists.{every}
 use Rattle.manager.specs.Map.{Segment}
-use Rattle.manager.specs.Paged.{Kind}
-use Rattle.manager.specs.Region.{dead, kind, pageAt, segments, withSegments, heldAt, pagesAsked}
+use Rattle.manager.specs.Region.{kind, pageAt, segments, withSegments, heldAt, pagesAsked}
 use Rattle.manager.specs.Regions.{resizeSegment}
 use Rattle.manager.specs.Perform.{perform}
 use Rattle.manager.specs.Sound.{sound}
@@ -28,17 +27,17 @@ use Rattle.trace.specs.Receipts.{Receipts, RegionEntry, unit, pagesIn, a
 use Rattle.trace.proofs.Invariant.{regionFor, RegionIs, Inv}
 use Rattle.trace.proofs.Frame.{region-unit}
 use Rattle.trace.proofs.Clients.{RegionAt, region-at}
-use Rattle.trace.proofs.Held.{Holds, page-address, loan-held}
+use Rattle.trace.proofs.Held.{page-address, loan-held}
 use Rattle.trace.proofs.Loans.Tests.{by-leb}
 use Rattle.trace.proofs.Loans.Drawn.{lent-some}
 use Rattle.trace.proofs.Loans.Book.{amend-is}
-use Rattle.trace.proofs.Loans.Lawful.{Lawful, Drawing}
+use Rattle.trace.proofs.Loans.Lawful.{Drawing}
 use Rattle.trace.proofs.Loans.Pages.{pages}
 use Rattle.trace.proofs.Regions.Checks.{Passed, acts, note-done, Kept, kept-refused, kept-checked}
 use Rattle.trace.proofs.Regions.Live.{law, slot-entry, not-dead, map-drawing, lent-held}
 use Rattle.trace.proofs.Regions.Picture.{on-region, pictured, with-waits, changed-map}
 use Rattle.trace.proofs.Regions.Lending.{waits-lent, lent-list}
-use Rattle.trace.proofs.Regions.Given.{Given}
+use Rattle.trace.proofs.Regions.Queue.{sound-inv}
 
 -- what a resize does in a region, once its checks pass
 abbrev resized : List ℕ → Manager → ℕ → Region → ℕ → Bool → Result
@@ -49,7 +48,7 @@ resized m d a r k b =
 abbrev resizing : List ℕ → Manager → ℕ → Region → ℕ → Result
 resizing m d a r k = resized m d a r k (leb k (kind r .reach (pageAt r a) (segments m r)))
 
-module _ (G : Given) (m : List ℕ) (d : Manager) (t : Receipts) (v : Inv m d t) (id a size : ℕ) where
+module _ (m : List ℕ) (d : Manager) (t : Receipts) (v : Inv m d t) (id a size : ℕ) where
   module _ (e : RegionEntry) (q : t .regions id ≡ some e) (is : RegionIs m e) (z : 0 < size) (j : ℕ) (x : Lent (e .loans) (pageIn e a) j) where
     abbrev wants : ℕ
     wants = pagesFor size (unit e)
@@ -86,7 +85,7 @@ module _ (G : Given) (m : List ℕ) (d : Manager) (t : Receipts) (v : Inv m d t)
   pub keeps-resize : Kept (ResizeSegment id a size) t (resizeSegment m d id a size)
   unfolding resizeSegment every Passed
   keeps-resize =
-      kept-checked (ResizeSegment id a size) m d t v _ _ (G .sound m d t v) refl
+      kept-checked (ResizeSegment id a size) m d t v _ _ (sound-inv m d t v) refl
       (λ c. let s = slot-entry m (regionOf d id) (t .regions id) (v .regions id) (c .1 .0) in
       let h = lent-held m (s .0) (s .2 .is) a (subst (λ (r : Region). eqb (heldAt m r a) 0 ≡ false) (s .2 .region) (c .1 .1 .0)) in
       subst (λ (r : Region). Kept (ResizeSegment id a size) t (resizing m d a r (pagesAsked r size))) (sym (s .2 .region))
