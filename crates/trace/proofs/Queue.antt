@@ -8,3 +8,4 @@ pub mod Enter
 pub mod Grant
 pub mod Ticks
 pub mod Sound
+pub mod Clock

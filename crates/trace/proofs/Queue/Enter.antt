@@ -2,21 +2,20 @@
 use mathlib.Core.Path.{_≡_, refl, sym, ap, _∙_, subst}
 use mathlib.Core.List.{List, [], _∷_, _++_}
 use mathlib.Core.Logic.{_⊎_, inl, inr}
-use mathlib.Core.Option.{Option, none, some}
-use Prim.Native.Nat.{ℕ, zero, suc, _+_, _-_, _≤_, _<_}
+use mathlib.Core.Option.{some}
+use Prim.Native.Nat.{ℕ, zero, suc, _-_, _≤_, _<_}
 use native.Mathlib.Omega.{arith}
 use lib.ListN.{length}
 use Rattle.manager.specs.Record.{slots, tasks, noWaiter, regionOf}
 use Rattle.manager.specs.Result.{pad}
 use Rattle.manager.specs.Queue.{insert, enqueue}
 use Rattle.manager.specs.declared.Manager.{Manager}
-use Rattle.manager.specs.declared.Waiter.{Waiter}
 use Rattle.manager.specs.declared.Order.{Order}
-use Rattle.trace.specs.Receipts.{Receipts, RegionEntry, Wait, Within, Distinct, withWaits}
+use Rattle.trace.specs.Receipts.{Receipts, RegionEntry, Wait, Within, withWaits}
 use Rattle.trace.specs.Claims.{waiterOf, waitersOf}
-use Rattle.trace.proofs.Invariant.{WaitIs, AllWaits, Waits, tasksOf, queuesFrom}
-use Rattle.trace.proofs.Queue.Line.{In, settle, line, in-append, line-append, length-line}
-use Rattle.trace.proofs.Queue.Order.{goes, orderIn, orders, Listed, queues-line}
+use Rattle.trace.proofs.Invariant.{WaitIs, Waits, tasksOf, queuesFrom}
+use Rattle.trace.proofs.Queue.Line.{In, settle, line, in-append, line-append}
+use Rattle.trace.proofs.Queue.Order.{goes, orderIn, orders, queues-line}
 use Rattle.trace.proofs.Queue.Places.{insert-pad}
 use Rattle.trace.proofs.Queue.Tasks.{append-once, all-in, in-all}
 use Rattle.trace.proofs.Queue.Shown.{Queued, Ids, Shown, queued, settle-waiters, length-waiters, length-queues, fewer-waits, row-some}

@@ -1,27 +1,27 @@
 -- The first waiter of a region: where he stands in the array, and what is left when he is taken out. Assumes nothing.
 use mathlib.Core.Path.{_≡_, refl, sym, ap, _∙_, subst}
-use mathlib.Core.Bool.{Bool, true, false, not, _&&_}
+use mathlib.Core.Bool.{Bool}
 use mathlib.Core.List.{List, [], _∷_, _++_, append-assoc}
-use mathlib.Core.Logic.{_⊎_, inl, inr}
-use mathlib.Core.Option.{Option, none, some}
-use Prim.Native.Nat.{ℕ, zero, suc, _+_, _-_, _≤_, _<_}
+use mathlib.Core.Logic.{inl, inr}
+use mathlib.Core.Option.{some}
+use Prim.Native.Nat.{ℕ, _-_, _≤_, _<_}
 use native.Mathlib.Omega.{arith}
 use lib.ListN.{length, getD, replicate, length-append}
 use lib.Seq.{getD-append-seam}
 use lib.Dec.{eqb}
 use borrow.Author.Tests.{eqb-true, eq-eqb, ne-eqb}
-use Rattle.manager.specs.Record.{slots, tasks, noWaiter, regionOf}
+use Rattle.manager.specs.Record.{slots, tasks, noWaiter}
 use Rattle.manager.specs.Result.{pad}
 use Rattle.manager.specs.Lists.{indexOf}
 use Rattle.manager.specs.Queue.{waitsFor, firstOf, removeAt, dequeue}
 use Rattle.manager.specs.declared.Manager.{Manager}
 use Rattle.manager.specs.declared.Waiter.{Waiter}
-use Rattle.trace.specs.Receipts.{Receipts, RegionEntry, Wait, Within, Distinct, withWaits, without, waitOf}
+use Rattle.trace.specs.Receipts.{Receipts, RegionEntry, Wait, Distinct, withWaits, without, waitOf}
 use Rattle.trace.specs.Claims.{waitsIn, queueOf, waiterOf, waitersOf}
-use Rattle.trace.proofs.Invariant.{WaitIs, AllWaits, Waits, tasksOf, queuesFrom}
+use Rattle.trace.proofs.Invariant.{Waits, tasksOf, queuesFrom}
 use Rattle.trace.proofs.Queue.Line.{In, keep, line, Sorted, in-append, in-keep, keep-append, keep-line}
-use Rattle.trace.proofs.Queue.Order.{goes, goes-strict, orders, Listed, queues-line, queue-of, waits-keep}
-use Rattle.trace.proofs.Queue.Places.{First, first-is, first-at, first-none, remove-pad, length-pad}
+use Rattle.trace.proofs.Queue.Order.{goes, goes-strict, orders, queues-line, queue-of, waits-keep}
+use Rattle.trace.proofs.Queue.Places.{first-is, first-at, first-none, remove-pad, length-pad}
 use Rattle.trace.proofs.Queue.Tasks.{notOf, without-keep, keep-others, keep-once, line-once, wait-of, all-in, in-all}
 use Rattle.trace.proofs.Queue.Shown.{Queued, Ids, Shown, queued, waiters-append, length-waiters, keep-waiters, keep-row, in-queues, length-queues, few-waits, row-some}
 use Rattle.trace.proofs.Queue.Enter.{wait-kept}

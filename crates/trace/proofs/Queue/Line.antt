@@ -4,7 +4,7 @@ use mathlib.Core.Path.{_≡_, refl, sym, ap, _∙_}
 use mathlib.Core.Bool.{Bool, true, false, cond, _&&_}
 use mathlib.Core.List.{List, [], _∷_, _++_}
 use mathlib.Core.Logic.{_⊎_, inl, inr, _↔_}
-use Prim.Native.Nat.{ℕ, zero, suc, _+_, _≤_, _<_}
+use Prim.Native.Nat.{ℕ, suc, _+_}
 use native.Mathlib.Omega.{arith}
 use lib.ListN.{length}
 
@@ -150,11 +150,6 @@ module _ {A : Type 0} where
   unfolding keep In
   keep-all p [] e = refl
   keep-all p (x ∷ l) e = rw (e x (inl refl), keep-all p l (λ y h. e y (inr h)))
-
-  pub keep-none : (p : A → Bool) (l : List A) → ((x : A) → In x l → p x ≡ false) → keep p l ≡ []
-  unfolding keep In
-  keep-none p [] e = refl
-  keep-none p (x ∷ l) e = rw (e x (inl refl)) (keep-none p l (λ y h. e y (inr h)))
 
   -- one test after the other
   pub keep-keep : (p r : A → Bool) (l : List A) → keep p (keep r l) ≡ keep (λ x. r x && p x) l

@@ -7,7 +7,6 @@ use mathlib.Core.Logic.{_⊎_, inl, inr, _↔_}
 use mathlib.Core.Option.{Option, none, some}
 use Prim.Native.Nat.{ℕ, zero, suc, _+_, _≤_, _<_}
 use native.Mathlib.Omega.{arith}
-use lib.ListN.{length}
 use lib.Dec.{ltb, eqb}
 use borrow.Author.Tests.{ltb-true, ltb-false, eqb-true, eqb-false, lt-ltb, le-ltb, eq-eqb, ne-eqb}
 use Rattle.manager.specs.Record.{idOf}
@@ -17,7 +16,7 @@ use Rattle.manager.specs.declared.Order.the-variants.{Fifo, Priority}
 use Rattle.trace.specs.Receipts.{Receipts, RegionEntry, Wait}
 use Rattle.trace.specs.Claims.{waitsIn, urgentThan, behind, arranged, queueOf}
 use Rattle.trace.proofs.Invariant.{queueAt, queuesFrom}
-use Rattle.trace.proofs.Queue.Line.{by-case, true-false, In, keep, settle, line, Behind, Sorted, Strict, in-keep, in-settle, in-line, sorted-line, keep-line, line-same}
+use Rattle.trace.proofs.Queue.Line.{by-case, true-false, In, keep, settle, line, Behind, Sorted, Strict, in-keep, in-settle, in-line, sorted-line, keep-line}
 
 -- PAIRS OF NUMBERS IN ORDER
 unfoldable lex : ℕ → ℕ → ℕ → ℕ → Bool

@@ -1,15 +1,14 @@
 -- The record's array of places: waiters in front, unused places behind. What entering, removing, seeking, ageing and the tests over all
 -- places come to, said of the waiters alone. Assumes nothing.
 use mathlib.Core.Path.{_≡_, refl, sym, ap, _∙_}
-use mathlib.Core.Bool.{Bool, true, false, cond, not, _&&_, _||_}
+use mathlib.Core.Bool.{Bool, true, false, cond, _||_}
 use mathlib.Core.List.{List, [], _∷_, _++_, append-nil, append-assoc}
-use mathlib.Core.Logic.{_⊎_, inl, inr, _↔_}
+use mathlib.Core.Logic.{inl, inr}
 use Prim.Native.Nat.{ℕ, zero, suc, _+_, _-_, _≤_, _<_}
 use native.Mathlib.Omega.{arith}
-use native.Mathlib.Numerals.{add-one}
-use lib.ListN.{length, take, drop, getD, replicate, length-append, length-replicate, replicate-append-replicate}
-use lib.Seq.{take-append-seam, drop-append-seam, getD-append-seam}
-use lib.Dec.{ltb, eqb}
+use lib.ListN.{length, replicate, length-append, length-replicate, replicate-append-replicate}
+use lib.Seq.{take-append-seam, drop-append-seam}
+use lib.Dec.{eqb}
 use Rattle.manager.specs.Record.{noWaiter}
 use Rattle.manager.specs.Result.{pad}
 use Rattle.manager.specs.Lists.{every, some, indexOf, pairwise, adjacent}
@@ -173,11 +172,6 @@ module _ {A : Type 0} where
   unfolding every In
   every-in t [] h = refl
   every-in t (x ∷ l) h = rw (h x (inl refl)) (every-in t l (λ y k. h y (inr k)))
-
-  pub some-none : (t : A → Bool) (l : List A) → ((x : A) → In x l → t x ≡ false) → some t l ≡ false
-  unfolding some In
-  some-none t [] h = refl
-  some-none t (x ∷ l) h = rw (h x (inl refl)) (some-none t l (λ y k. h y (inr k)))
 
   pub some-in : (t : A → Bool) (l : List A) (x : A) → In x l → t x ≡ true → some t l ≡ true
   unfolding some In

@@ -1,27 +1,27 @@
 -- How the array of waiters shows the waits: what is asked of the waits (`Queued`), and what stands in the array for each region. Over any
 -- number n of slots and k of tasks. Assumes nothing.
 use mathlib.Core.Path.{_≡_, refl, sym, ap, _∙_, subst}
-use mathlib.Core.Bool.{Bool, true, false, cond, not, _&&_, _||_}
-use mathlib.Core.List.{List, [], _∷_, _++_, append-nil, append-assoc}
+use mathlib.Core.Bool.{true, cond}
+use mathlib.Core.List.{List, [], _∷_, _++_, append-nil}
 use mathlib.Core.Logic.{_⊎_, inl, inr, _↔_}
-use mathlib.Core.Option.{Option, none, some}
-use Prim.Native.Nat.{ℕ, zero, suc, _+_, _-_, _≤_, _<_}
+use mathlib.Core.Option.{some}
+use Prim.Native.Nat.{ℕ, suc, _-_, _≤_, _<_}
 use native.Mathlib.Omega.{arith}
 use lib.ListN.{length, replicate}
-use lib.Dec.{ltb, eqb}
-use borrow.Author.Tests.{eqb-true, eqb-false, eq-eqb, ne-eqb}
-use Rattle.manager.specs.Record.{slots, tasks, noWaiter, regionOf}
+use lib.Dec.{eqb}
+use borrow.Author.Tests.{eqb-true, eq-eqb, ne-eqb}
+use Rattle.manager.specs.Record.{slots, tasks, noWaiter}
 use Rattle.manager.specs.Result.{pad}
 use Rattle.manager.specs.Queue.{goesBefore, waitsFor, waiting}
 use Rattle.manager.specs.declared.Manager.{Manager}
 use Rattle.manager.specs.declared.Waiter.{Waiter}
 use Rattle.manager.specs.declared.Order.{Order}
-use Rattle.trace.specs.Receipts.{Receipts, RegionEntry, Wait, Within, Distinct, withWaits}
+use Rattle.trace.specs.Receipts.{Receipts, RegionEntry, Wait, Within, Distinct}
 use Rattle.trace.specs.Claims.{waitsIn, arranged, queueOf, waiterOf, waitersOf, waitersFor}
-use Rattle.trace.proofs.Invariant.{WaitIs, AllWaits, Waits, tasksOf, queuesFrom}
-use Rattle.trace.proofs.Queue.Line.{by-case, true-false, In, keep, settle, line, in-line, in-keep, in-append, keep-append, length-line, line-same}
-use Rattle.trace.proofs.Queue.Order.{goes, orderIn, orders, Listed, queues-line, queue-of, waits-keep, no-waits}
-use Rattle.trace.proofs.Queue.Places.{keep-replicate, some-in, in-some, some-none, in-replicate}
+use Rattle.trace.proofs.Invariant.{AllWaits, Waits, tasksOf, queuesFrom}
+use Rattle.trace.proofs.Queue.Line.{by-case, In, keep, settle, line, in-line, in-append, keep-append, length-line, line-same}
+use Rattle.trace.proofs.Queue.Order.{goes, orders, Listed, queues-line, queue-of, no-waits}
+use Rattle.trace.proofs.Queue.Places.{keep-replicate, some-in, in-some, in-replicate}
 use Rattle.trace.proofs.Queue.Tasks.{few, fewer, length-tasks, in-tasks, task-in, all-in}
 
 -- WAITS AS WAITERS, one by one
@@ -129,25 +129,20 @@ module _ (n k : ℕ) (t : Receipts) (a : Queued n k t) where
   length-queues = ap length (queues-line n t (a .listed)) ∙ (let h = length-line (goes (orders t)) [] (t .waits) in omega arith)
 
   -- no more waits than tasks, and fewer where a task does not wait
+  task-bounds : (b : ℕ) → Within b (tasksOf (t .waits)) → (1 ≤ b) × (b ≤ k)
+  task-bounds b m =
+      let r = task-in b (t .waits) m in
+      (omega (arith, a .task-some (r .0) (r .1)), omega (arith, a .task-most (r .0) (r .1)))
+
   pub few-waits : length (t .waits) ≤ k
   few-waits =
-      let h = few k (tasksOf (t .waits)) (a .once) (λ b m. bounds b m) in
+      let h = few k (tasksOf (t .waits)) (a .once) task-bounds in
       omega (arith, length-tasks (t .waits))
-    where
-      bounds : (b : ℕ) → Within b (tasksOf (t .waits)) → (1 ≤ b) × (b ≤ k)
-      bounds b m =
-          let r = task-in b (t .waits) m in
-          (omega (arith, a .task-some (r .0) (r .1)), omega (arith, a .task-most (r .0) (r .1)))
 
   pub fewer-waits : (b : ℕ) → 1 ≤ b → b ≤ k → ¬ Within b (tasksOf (t .waits)) → length (t .waits) < k
   fewer-waits b p q g =
-      let h = fewer k b (tasksOf (t .waits)) (a .once) (λ c m. bounds c m) p q g in
+      let h = fewer k b (tasksOf (t .waits)) (a .once) task-bounds p q g in
       omega (arith, length-tasks (t .waits))
-    where
-      bounds : (b : ℕ) → Within b (tasksOf (t .waits)) → (1 ≤ b) × (b ≤ k)
-      bounds b m =
-          let r = task-in b (t .waits) m in
-          (omega (arith, a .task-some (r .0) (r .1)), omega (arith, a .task-most (r .0) (r .1)))
 
   pub row-some : (w : Wait) → In w (queuesFrom n 0 t) → 1 ≤ w .task
   row-some w m = a .task-some w (in-queues w .0 m)

@@ -1,33 +1,31 @@
 -- The waits give a sound queue: every place is a wait of a live region that lends something, or unused; each task waits once; the waiters
 -- stand region by region, each region's in its order, and unused places behind them. Assumes nothing.
 use mathlib.Core.Path.{_≡_, refl, sym, ap, _∙_, subst}
-use mathlib.Core.Bool.{Bool, true, false, cond, not, _&&_, _||_}
-use mathlib.Core.List.{List, [], _∷_, _++_}
-use mathlib.Core.Logic.{_⊎_, inl, inr}
-use mathlib.Core.Option.{Option, none, some}
-use Prim.Native.Nat.{ℕ, zero, suc, _-_, _≤_, _<_}
+use mathlib.Core.Bool.{Bool, true, false, not, _||_}
+use mathlib.Core.List.{List, [], _∷_}
+use mathlib.Core.Logic.{inl, inr}
+use Prim.Native.Nat.{ℕ, _-_, _≤_}
 use native.Mathlib.Omega.{arith}
-use lib.ListN.{length, replicate, getD, List·getD-eq-default}
-use lib.Dec.{eqb, leb}
-use borrow.Author.Tests.{eq-eqb, ne-eqb, le-leb}
-use Rattle.manager.specs.Record.{slots, tasks, noWaiter, noRegion, slotOf, regionOf}
+use lib.ListN.{length, replicate}
+use lib.Dec.{eqb}
+use borrow.Author.Tests.{ne-eqb, le-leb}
+use Rattle.manager.specs.Record.{slots, tasks, noWaiter, regionOf}
 use Rattle.manager.specs.Result.{pad}
 use Rattle.manager.specs.Lists.{every, pairwise, adjacent}
 use Rattle.manager.specs.Region.{dead, pagesOf, anyHeld, pagesAsked}
 use Rattle.manager.specs.Queue.{goesBefore}
 use Rattle.manager.specs.Sound.{soundWaiter, soundPlace, otherTask, inOrder, soundQueue}
 use Rattle.manager.specs.declared.Manager.{Manager}
-use Rattle.manager.specs.declared.Region.{Region}
 use Rattle.manager.specs.declared.Waiter.{Waiter}
 use Rattle.manager.specs.declared.Order.{Order}
-use Rattle.trace.specs.Receipts.{Receipts, RegionEntry, Wait, Within, Distinct}
+use Rattle.trace.specs.Receipts.{Receipts, Wait, Within, Distinct}
 use Rattle.trace.specs.Claims.{waiterOf, waitersOf}
-use Rattle.trace.proofs.Invariant.{regionFor, RegionIs, RegionSlot, empty, live, WaitIs, AllWaits, Waits, tasksOf, queuesFrom}
-use Rattle.trace.proofs.Queue.Line.{by-case, In, line, Behind, Sorted, in-append, sorted-line}
-use Rattle.trace.proofs.Queue.Order.{goes, goes-strict, orderIn, orders, Listed, queues-line}
+use Rattle.trace.proofs.Invariant.{WaitIs, Waits, tasksOf, queuesFrom}
+use Rattle.trace.proofs.Queue.Line.{by-case, In, Behind, Sorted, in-append, sorted-line}
+use Rattle.trace.proofs.Queue.Order.{goes, goes-strict, orders, queues-line}
 use Rattle.trace.proofs.Queue.Places.{every-in, in-replicate, adjacent-pad, pairwise-pad}
 use Rattle.trace.proofs.Queue.Tasks.{in-tasks, line-once, all-in}
-use Rattle.trace.proofs.Queue.Shown.{Queued, Ids, Shown, queued, in-queues, in-waiters, row-some}
+use Rattle.trace.proofs.Queue.Shown.{Queued, Ids, queued, in-queues, in-waiters, row-some}
 
 -- EACH TASK ONCE
 once-pairwise : (q : List Wait) → Distinct (tasksOf q) → pairwise otherTask (waitersOf q) ≡ true

@@ -1,18 +1,18 @@
 -- The tasks of waits: each waits once, so there are no more waits than tasks, a task names its wait, and a wait is struck by its task.
 -- Assumes nothing.
 use mathlib.Core.Path.{_≡_, refl, sym, ap, _∙_, subst}
-use mathlib.Core.Bool.{Bool, true, false, cond, not}
+use mathlib.Core.Bool.{Bool, true, cond, not}
 use mathlib.Core.List.{List, [], _∷_, _++_}
-use mathlib.Core.Logic.{_⊎_, inl, inr, _↔_}
-use Prim.Native.Nat.{ℕ, zero, suc, _+_, _≤_, _<_}
+use mathlib.Core.Logic.{inl, inr}
+use Prim.Native.Nat.{ℕ, zero, suc, _≤_, _<_}
 use native.Mathlib.Omega.{arith}
 use lib.ListN.{length}
 use lib.Dec.{eqb}
-use borrow.Author.Tests.{eqb-true, eqb-false, eq-eqb, ne-eqb}
-use Rattle.trace.specs.Receipts.{Receipts, Wait, Within, Distinct, strike, without, waitOf, later, allLater}
+use borrow.Author.Tests.{eq-eqb, ne-eqb}
+use Rattle.trace.specs.Receipts.{Receipts, Wait, Within, Distinct, strike, without, waitOf}
 use Rattle.trace.proofs.Invariant.{WaitIs, AllWaits, tasksOf}
 use Rattle.trace.proofs.Loans.Tests.{by-eqb}
-use Rattle.trace.proofs.Queue.Line.{by-case, true-false, In, keep, settle, line, in-settle, in-keep, in-append, keep-all}
+use Rattle.trace.proofs.Queue.Line.{by-case, In, keep, settle, line, in-settle, in-keep, in-append, keep-all}
 
 -- NUMBERS FROM 1 TO n, EACH ONCE, ARE AT MOST n
 strike-less : (a x : ℕ) (l : List ℕ) → Within x (strike a l) → Within x l

@@ -3,30 +3,29 @@
 use mathlib.Core.Path.{_≡_, refl, sym, ap, _∙_, subst}
 use mathlib.Core.Bool.{Bool, true, false, cond, not, _&&_, _||_}
 use mathlib.Core.List.{List, [], _∷_, _++_}
-use mathlib.Core.Logic.{_⊎_, inl, inr, _↔_}
+use mathlib.Core.Logic.{_⊎_, inl, inr}
 use mathlib.Core.Option.{Option, none, some}
 use Prim.Native.Nat.{ℕ, zero, suc, _+_, _-_, _≤_, _<_}
 use native.Mathlib.Omega.{arith}
-use lib.ListN.{length}
 use lib.Dec.{eqb}
 use borrow.Author.Tests.{eqb-true, eqb-false, eq-eqb, ne-eqb, not-true}
 use Rattle.manager.specs.Record.{slots, tasks, noWaiter, idOf}
 use Rattle.manager.specs.Result.{pad}
 use Rattle.manager.specs.Lists as Lists
 use Rattle.manager.specs.Lists.Laws.{and-first, and-second}
-use Rattle.manager.specs.Queue.{leaving, staying, aged, expired, afterTick}
+use Rattle.manager.specs.Queue.{leaving, staying, aged, afterTick}
 use Rattle.manager.specs.declared.Manager.{Manager}
 use Rattle.manager.specs.declared.Waiter.{Waiter}
 use Rattle.manager.specs.declared.Notice.{Notice}
 use Rattle.manager.specs.declared.Status.the-variants.{Timeout}
-use Rattle.trace.specs.Receipts.{Receipts, RegionEntry, Wait, Within, Distinct, withWaits, without, later, allLater, allNoticed}
-use Rattle.trace.specs.Claims.{queueOf, waiterOf, waitersOf, dueIn, dueOf, dueFrom}
-use Rattle.trace.proofs.Invariant.{WaitIs, AllWaits, Waits, tasksOf, queueAt, queuesFrom}
+use Rattle.trace.specs.Receipts.{Receipts, RegionEntry, Wait, Distinct, withWaits, without, later, allLater, allNoticed}
+use Rattle.trace.specs.Claims.{waiterOf, waitersOf, dueIn, dueOf, dueFrom}
+use Rattle.trace.proofs.Invariant.{WaitIs, Waits, tasksOf, queueAt, queuesFrom}
 use Rattle.trace.proofs.Loans.Tests.{by-eqb}
-use Rattle.trace.proofs.Queue.Line.{by-case, true-false, In, keep, settle, line, Sorted, in-keep, in-line, keep-line, keep-same, keep-all, keep-keep}
-use Rattle.trace.proofs.Queue.Order.{goes, goes-strict, orders, Listed, queues-line}
+use Rattle.trace.proofs.Queue.Line.{by-case, true-false, In, keep, settle, line, Sorted, in-keep, keep-line, keep-same, keep-all, keep-keep}
+use Rattle.trace.proofs.Queue.Order.{goes, goes-strict, orders, queues-line}
 use Rattle.trace.proofs.Queue.Places.{leaving-pad, staying-pad, some-in, in-some}
-use Rattle.trace.proofs.Queue.Tasks.{notOf, without-keep, keep-once, in-tasks, task-in, one-wait, all-in, in-all}
+use Rattle.trace.proofs.Queue.Tasks.{notOf, without-keep, keep-once, one-wait, all-in, in-all}
 use Rattle.trace.proofs.Queue.Shown.{Queued, Ids, Shown, queued, in-queues, length-waiters, length-queues, few-waits}
 
 -- a wait whose time runs out at this tick
