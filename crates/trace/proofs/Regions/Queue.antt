@@ -1,11 +1,12 @@
--- The queue of a pictured state: the record is sound, a region's waiters are its queue by the receipts, and a wait can be entered.
--- Assumes nothing.
+-- The queue of a pictured state: the record is sound, a region's waiters are its queue by the receipts, a wait can be entered, and the
+-- first can be taken out. Assumes nothing.
 use mathlib.Core.Path.{_≡_, refl, sym, ap, _∙_, subst}
-use mathlib.Core.Bool.{true, false}
+use mathlib.Core.Bool.{Bool, true, false, cond}
 use mathlib.Core.List.{List, [], _∷_, _++_}
 use mathlib.Core.Option.{some}
-use Prim.Native.Nat.{ℕ}
+use Prim.Native.Nat.{ℕ, suc, _≤_}
 use native.Mathlib.Omega.{arith}
+use lib.ListN.{length}
 use Rattle.manager.specs.Record.{slots, tasks, regionOf}
 use Rattle.manager.specs.Region.{segments, anyHeld}
 use Rattle.manager.specs.Queue.{enqueue, waiting}
@@ -13,22 +14,23 @@ use Rattle.manager.specs.Sound.{sound}
 use Rattle.manager.specs.declared.Manager.{Manager}
 use Rattle.manager.specs.declared.Region.{Region}
 use Rattle.trace.specs.Loans.{Loan, loan}
-use Rattle.trace.specs.Receipts.{Receipts, RegionEntry, Wait, withWaits, pagesIn}
-use Rattle.trace.specs.Claims.{queueOf, waiterOf, waitersOf, waitersFor}
+use Rattle.trace.specs.Receipts.{Receipts, RegionEntry, Wait, withLoans, withWaits, pagesIn}
+use Rattle.trace.specs.Claims.{waitsIn, queueOf, waiterOf, waitersOf, waitersFor}
 use Rattle.trace.proofs.Invariant.{regionFor, RegionIs, WaitIs, Waits, Inv}
 use Rattle.trace.proofs.Areas.{region-slot}
 use Rattle.trace.proofs.Clients.{region-at}
 use Rattle.trace.proofs.Sound.{inv-sound}
+use Rattle.trace.proofs.Loans.Tests.{by-eqb}
 use Rattle.trace.proofs.Loans.Lawful.{Drawing}
 use Rattle.trace.proofs.Loans.Pages.{pages}
-use Rattle.trace.proofs.Queue.Line.{In, true-false}
-use Rattle.trace.proofs.Queue.Order.{orderIn}
+use Rattle.trace.proofs.Queue.Line.{In, line, length-line, true-false}
+use Rattle.trace.proofs.Queue.Order.{goes, orders, orderIn, queue-of}
 use Rattle.trace.proofs.Queue.Tasks.{all-in}
-use Rattle.trace.proofs.Queue.Shown.{Ids, queued, waiters-for, task-waits}
+use Rattle.trace.proofs.Queue.Shown.{Ids, queued, few-waits, waiters-for, task-waits}
 use Rattle.trace.proofs.Queue.Enter.{waits-entered}
 use Rattle.trace.proofs.Queue.Sound.{Waitable, sound-queue}
 use Rattle.trace.proofs.Regions.Live.{law, not-dead, map-drawing}
-use Rattle.trace.proofs.Regions.Picture.{lending, Picture, pictured}
+use Rattle.trace.proofs.Regions.Picture.{put-else, lending, Picture, pictured}
 
 -- ---- ids
 
@@ -38,6 +40,12 @@ region-ids m d t v id e q =
     let a = region-at m (regionOf d id) (t .regions id) e (v .regions id) q in
     let s = region-slot d (v .region-slots) (v .partition-slots) id (subst (λ (r : Region). ¬ (r .name ≡ 0)) (sym (a .region)) (a .is .named)) in
     (omega (arith, s .is), omega (arith, s .within, s .is))
+
+pub lending-ids : (t : Receipts) (id : ℕ) (e : RegionEntry) (l : List Loan) → Ids slots t → t .regions id ≡ some e → Ids slots (lending id e l t)
+lending-ids t id e l i q j f p =
+    by-eqb j id (λ (b : Bool). (1 ≤ j) × (j ≤ slots))
+    (λ h. subst (λ (k : ℕ). (1 ≤ k) × (k ≤ slots)) (sym h) (i id e q))
+    (λ h. i j f (sym (put-else id (some (withLoans l e)) (t .regions) j h) ∙ p))
 
 -- ---- the queue is sound
 
@@ -74,3 +82,22 @@ module _ (m : List ℕ) (d : Manager) (t : Receipts) (v : Inv m d t) where
       let r = region-at m (regionOf d (w .id)) (t .regions (w .id)) (a .entry) (v .regions (w .id)) (a .found) in
       waits-entered d t w (v .waits) i a (ap (λ (x : Region). x .order) (r .region))
       (λ h. true-false (waiting d (w .task)) (task-waits slots tasks t (queued d t (v .waits) i) d (v .waits .queue) (w .task) h) n)
+
+-- ---- as many wait as there are tasks, at most
+
+waits-fewer : (id : ℕ) (ws : List Wait) → length (waitsIn id ws) ≤ length ws
+unfolding waitsIn
+waits-fewer id [] = omega arith
+waits-fewer id (w ∷ ws) =
+    by-eqb (w .id) id (λ (b : Bool). length (cond b (w ∷ waitsIn id ws) (waitsIn id ws)) ≤ suc (length ws))
+    (λ h. omega (arith, waits-fewer id ws)) (λ h. omega (arith, waits-fewer id ws))
+
+pub few-queue : (d : Manager) (t : Receipts) (id : ℕ) (e : RegionEntry) → Waits d t → Ids slots t → t .regions id ≡ some e → length (queueOf id e t) ≤ tasks
+few-queue d t id e w i q =
+    omega (
+      arith,
+      ap length (queue-of id e t q),
+      waits-fewer id (line (goes (orders t)) [] (t .waits)),
+      length-line (goes (orders t)) [] (t .waits),
+      few-waits slots tasks t (queued d t w i),
+    )

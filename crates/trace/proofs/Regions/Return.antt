@@ -25,12 +25,11 @@ use Rattle.trace.proofs.Invariant.{regionFor, Inv}
 use Rattle.trace.proofs.Clients.{RegionAt, region-at}
 use Rattle.trace.proofs.Held.{page-address, loan-held}
 use Rattle.trace.proofs.Loans.Drawn.{lent-some}
-use Rattle.trace.proofs.Queue.Slots.{few-waiting}
 use Rattle.trace.proofs.Regions.Checks.{Passed, acts, Kept, kept-checked}
 use Rattle.trace.proofs.Regions.Live.{law, slot-entry, not-dead, map-drawing, lent-held}
 use Rattle.trace.proofs.Regions.Picture.{put-here, lending, on-region, lending-again, pictured, changed-map}
 use Rattle.trace.proofs.Regions.Lending.{waits-lent}
-use Rattle.trace.proofs.Regions.Queue.{sound-inv, region-ids}
+use Rattle.trace.proofs.Regions.Queue.{sound-inv, region-ids, few-queue}
 use Rattle.trace.proofs.Regions.Serve.{Outcome, Serving, something, served}
 
 -- what a return does in a region, once its checks pass
@@ -59,7 +58,7 @@ module _ (m : List ℕ) (d : Manager) (t : Receipts) (v : Inv m d t) (id a : ℕ
 
       outcome : Outcome e rest (queueOf id e t) (onRegion id (giveBack a) t) (returning m d id a (regionFor e))
       unfolding serve
-      outcome = rw struck (served id e tasks _ d _ rest (queueOf id e t) serving (let i = region-ids m d t (pictured v) id e q in few-waiting d t (v .waits) id e (i .0) (i .1) q))
+      outcome = rw struck (served id e tasks _ d _ rest (queueOf id e t) serving (few-queue d t id e (v .waits) (region-ids m d t (pictured v)) q))
 
   -- A RETURN KEEPS THE PICTURE
   pub keeps-return : Kept (ReturnSegment id a) t (returnSegment m d id a)

@@ -27,11 +27,13 @@ use Rattle.trace.proofs.Frame.{region-unit}
 use Rattle.trace.proofs.Clients.{RegionAt, region-at}
 use Rattle.trace.proofs.Loans.Lawful.{Drawing, Gets, given, nothing}
 use Rattle.trace.proofs.Loans.Pages.{pages}
-use Rattle.trace.proofs.Queue.Slots.{FirstWait, first-none, first-wait}
+use Rattle.trace.proofs.Queue.Tasks.{all-in}
+use Rattle.trace.proofs.Queue.Shown.{Ids, queued}
+use Rattle.trace.proofs.Queue.Grant as queue
 use Rattle.trace.proofs.Regions.Live.{law, map-drawing}
 use Rattle.trace.proofs.Regions.Picture.{put-here, lending, on-region, lending-again, lending-same, Picture, with-waits, any-queue, changed-map}
 use Rattle.trace.proofs.Regions.Lending.{none-arranged, waits-lent}
-use Rattle.trace.proofs.Regions.Queue.{region-ids}
+use Rattle.trace.proofs.Regions.Queue.{region-ids, lending-ids}
 use Rattle.trace.proofs.Regions.Get.{empty-run, lend-page}
 
 -- one turn
@@ -71,9 +73,9 @@ module _ (id : ℕ) (e : RegionEntry) where
     region-is : RegionAt m (regionOf d id) (withLoans l e)
     region-is = region-at m (regionOf d id) (t .regions id) (withLoans l e) (v .picture .regions id) (v .entry)
 
-    -- its id is of a slot
-    slot : (1 ≤ id) × (id ≤ slots)
-    slot = region-ids m d t (v .picture) id (withLoans l e) (v .entry)
+    -- the ids of the receipts, were something lent
+    shadow-ids : Ids slots (lending id e something t)
+    shadow-ids = lending-ids t id (withLoans l e) something (region-ids m d t (v .picture)) (v .entry)
 
     -- it ends where something is lent, or nobody waits
     ended : (¬ (l ≡ [])) ⊎ (ws ≡ []) → Inv m d t
@@ -91,10 +93,13 @@ module _ (id : ℕ) (e : RegionEntry) where
     abbrev pages-asked : ℕ
     pages-asked = pagesFor (w .size) (unit e)
 
-    first : FirstWait d (lending id e something t) id (withLoans something e) w ws
+    first : queue.Granted slots tasks d (lending id e something t) id (withLoans something e) w ws
     first =
-        first-wait d (lending id e something t) (v .waits) id (withLoans something e) (slot m d t l (w ∷ ws) v .0) (slot m d t l (w ∷ ws) v .1)
-        (put-here id (some (withLoans something e)) (t .regions)) w ws (v .queue)
+        queue.granted slots tasks (lending id e something t) (queued d (lending id e something t) (v .waits) (shadow-ids m d t l (w ∷ ws) v)) d (v .waits .queue)
+        id (withLoans something e) (put-here id (some (withLoans something e)) (t .regions)) w ws (v .queue)
+
+    first-is : WaitIs (lending id e something t) w
+    first-is = all-in (lending id e something t) (t .waits) (v .waits .all) w (first .waits)
 
     -- he asks for pages that the region has
     asker : (u : WaitIs (lending id e something t) w) → u .entry ≡ withLoans something e
@@ -105,10 +110,10 @@ module _ (id : ℕ) (e : RegionEntry) where
         cc
 
     fits : pages-asked ≤ pagesIn e
-    fits = subst (λ (f : RegionEntry). pagesFor (w .size) (unit f) ≤ pagesIn f) (asker (first .is)) (first .is .size-most)
+    fits = subst (λ (f : RegionEntry). pagesFor (w .size) (unit f) ≤ pagesIn f) (asker first-is) (first-is .size-most)
 
     some-asked : 0 < pages-asked
-    some-asked = pages-some (w .size) (unit e) (region-unit m (withLoans l e) (region-is m d t l (w ∷ ws) v .is)) (first .is .size-some)
+    some-asked = pages-some (w .size) (unit e) (region-unit m (withLoans l e) (region-is m d t l (w ∷ ws) v .is)) (first-is .size-some)
 
     -- what his notice enters
     lends : (p : ℕ) → noticed (granted (waiterOf w) (addressIn e p)) t
@@ -129,7 +134,8 @@ module _ (id : ℕ) (e : RegionEntry) where
           picture = any-queue (withSegments m (regionFor e) s) d (lending id e (enter p pages-asked l) t) (dequeue d (firstOf id (d .waiters)) .waiters)
               (without (w .task) (t .waits)) (changed-map m d t (v .picture) id (withLoans l e) (v .entry) (enter p pages-asked l) s g);
           entry = put-here id (some (withLoans (enter p pages-asked l) e)) (t .regions);
-          waits = rw (lending-again id e (withWaits (without (w .task) (t .waits)) t) (enter p pages-asked l) something) (first .left);
+          waits = rw (lending-again id e (withWaits (without (w .task) (t .waits)) t) (enter p pages-asked l) something)
+              (queue.waits-struck d (dequeue d (firstOf id (d .waiters))) (lending id e something t) (w .task) (v .waits) (shadow-ids m d t l (w ∷ ws) v) (first .shown));
           queue = first .rest;
         }
 
@@ -166,8 +172,9 @@ module _ (id : ℕ) (e : RegionEntry) where
   served zero m d t l (w ∷ ws) v h = absurd (omega arith)
   served (suc f) m d t l [] v h =
       rw (serve-nobody f m d id
-      (let k = first-none d (lending id e something t) (v .waits) id (withLoans something e) (slot m d t l [] v .0) (slot m d t l [] v .1)
-      (put-here id (some (withLoans something e)) (t .regions)) (v .queue) in omega arith))
+      (let i = queued d (lending id e something t) (v .waits) (shadow-ids m d t l [] v) in
+      let k = queue.none-first slots tasks (lending id e something t) i d (v .waits .queue) id (withLoans something e) (put-here id (some (withLoans something e)) (t .regions)) (v .queue) in
+      omega arith))
       (record { grants = all; inv = ended m d t l [] v (inr refl) })
   served (suc f) m d t l (w ∷ ws) v h =
       took-turn m d t l w ws v f (λ m′ d′ t′ l′ v′. served f m′ d′ t′ l′ ws v′ (omega arith))
