@@ -8,5 +8,3 @@ pub mod Enter
 pub mod Grant
 pub mod Ticks
 pub mod Sound
-pub mod Slots
-pub mod Live

@@ -16,12 +16,6 @@ by-case false Q f g = g refl
 pub true-false : (b : Bool) → b ≡ true → b ≡ false → ⊥
 true-false b e f = let z : _≡_ {A = ℕ} 0 1 = cc in omega arith
 
-and-swap : (a b : Bool) → (a && b) ≡ (b && a)
-and-swap true true = refl
-and-swap true false = refl
-and-swap false true = refl
-and-swap false false = refl
-
 module _ {A : Type 0} where
   -- an element is on a list
   unfoldable pub In : A → List A → Type 0
@@ -162,7 +156,7 @@ module _ {A : Type 0} where
   keep-none p [] e = refl
   keep-none p (x ∷ l) e = rw (e x (inl refl)) (keep-none p l (λ y h. e y (inr h)))
 
-  -- one test after the other, in any order
+  -- one test after the other
   pub keep-keep : (p r : A → Bool) (l : List A) → keep p (keep r l) ≡ keep (λ x. r x && p x) l
   unfolding keep
   keep-keep p r [] = refl
@@ -170,17 +164,6 @@ module _ {A : Type 0} where
       let ih = keep-keep p r l in
       by-case (r x) (λ t. keep p (cond t (x ∷ keep r l) (keep r l)) ≡ cond (t && p x) (x ∷ keep (λ y. r y && p y) l) (keep (λ y. r y && p y) l))
       (λ t. rw ih) (λ f. ih)
-
-  pub keep-swap : (p r : A → Bool) (l : List A) → keep p (keep r l) ≡ keep r (keep p l)
-  keep-swap p r l =
-      keep-keep p r l ∙ keep-same (λ x. r x && p x) (λ x. p x && r x) l (λ x m. and-swap (r x) (p x)) ∙ sym (keep-keep r p l)
-
-  pub length-keep : (p : A → Bool) (l : List A) → length (keep p l) ≤ length l
-  unfolding keep
-  length-keep p [] = omega arith
-  length-keep p (x ∷ l) =
-      let ih = length-keep p l in
-      by-case (p x) (λ t. length (cond t (x ∷ keep p l) (keep p l)) ≤ suc (length l)) (λ t. omega arith) (λ f. omega arith)
 
   -- IN ORDER: `lt` is a strict order in which those that are not apart are alike
   pub record Strict (lt : A → A → Bool) : Type 0 where

@@ -1,1 +1,0 @@
--- The queue by the invariant. Assumes nothing.
