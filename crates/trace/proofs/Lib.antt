@@ -3,6 +3,7 @@ pub mod Loans
 pub mod Buffers
 pub mod Frame
 pub mod Areas
+pub mod Regions
 pub mod Sound
 pub mod Clients
 pub mod Held
