@@ -2,3 +2,5 @@
 pub mod Slot
 pub mod Get
 pub mod Return
+pub mod Delete
+pub mod Create
