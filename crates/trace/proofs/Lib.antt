@@ -12,3 +12,4 @@ pub mod Access
 pub mod Start
 pub mod Queue
 pub mod Recover
+pub mod Partitions
