@@ -1,0 +1,193 @@
+-- What clients hold lies in the areas of the objects that lent it, and holds none of the words that the manager keeps for itself: a
+-- region's map lies before its pages, and a chained buffer is not lent. So whatever clients write into what they hold keeps the
+-- invariant. Assumes nothing.
+use mathlib.Core.Path.{_≡_, refl, sym, ap, subst}
+use mathlib.Core.List.{List}
+use mathlib.Core.Logic.{⊎-elim}
+use mathlib.Core.Option.{Option, some}
+use Prim.Native.Nat.{ℕ, _+_, _*_, _/_, _%_, _≤_, _<_}
+use native.Mathlib.Omega.{arith}
+use lib.ListN.{length}
+use Rattle.arith.specs.Layout.{mapStart}
+use Rattle.arith.specs.Round.{pagesFor}
+use Rattle.manager.specs.Record.{regionOf, partitionOf}
+use Rattle.manager.specs.Region.{baseOf, mapAt, areaOf}
+use Rattle.manager.specs.declared.Area.{Area}
+use Rattle.manager.specs.declared.Manager.{Manager}
+use Rattle.manager.specs.declared.Region.{Region}
+use Rattle.manager.specs.declared.Partition.{Partition}
+use Rattle.trace.specs.Loans.{Lent}
+use Rattle.trace.specs.Receipts.{Receipts, RegionEntry, PartitionEntry, unit, pagesIn, addressIn, Within}
+use Rattle.trace.specs.Trace.{Object, region, partition, Loaned, segment, buffer, Owned, ClientsWrite}
+use Rattle.trace.proofs.Invariant.{Inside, regionFor, RegionIs, RegionSlot, PartitionIs, PartitionSlot, Inv, empty, live}
+use Rattle.trace.proofs.Loans.Drawn.{lent-within, lent-some}
+use Rattle.trace.proofs.Frame.{unit-whole, whole-times, page-upto, first-from, region-unit, region-inside, region-before, region-same, partition-shaped, buffer-lies, buffers-apart, chained-buffer, link-next, link-before, buffer-inside, partition-same}
+use Rattle.trace.proofs.Areas.{areaFor, areaIn, sound-clear, clear-words, same-object}
+
+-- ---- what stands in a live slot
+
+pub record RegionAt (m : List ℕ) (r : Region) (e : RegionEntry) : Type 0 where
+  pub region : r ≡ regionFor e
+  pub is : RegionIs m e
+
+pub region-at : (m : List ℕ) (r : Region) (o : Option RegionEntry) (e : RegionEntry) → RegionSlot m r o → o ≡ some e → RegionAt m r e
+region-at m r o e empty f = absurd (let z : _≡_ {A = ℕ} 0 1 = cc in omega arith)
+region-at m r o e (live e′ is) f =
+    let g : e′ ≡ e = cc in
+    record { region = ap regionFor g; is = subst (λ (x : RegionEntry). RegionIs m x) g is }
+
+pub partition-at : (m : List ℕ) (p : Partition) (o : Option PartitionEntry) (e : PartitionEntry) → PartitionSlot m p o → o ≡ some e → PartitionIs m p e
+partition-at m p o e empty f = absurd (let z : _≡_ {A = ℕ} 0 1 = cc in omega arith)
+partition-at m p o e (live q e′ is) f =
+    let g : e′ ≡ e = cc in
+    subst (λ (x : PartitionEntry). PartitionIs m p x) g is
+
+-- ---- the loans of an object
+
+-- a loan of a region is a segment of its loans; of a partition, a lent buffer
+pub record SegmentLoan (e : RegionEntry) (a n : ℕ) : Type 0 where
+  pub p : ℕ
+  pub k : ℕ
+  pub lent : Lent (e .loans) p k
+  pub at : a ≡ addressIn e p
+  pub bytes : n ≡ k * unit e
+
+pub record BufferLoan (e : PartitionEntry) (a n : ℕ) : Type 0 where
+  pub lent : Within a (e .lent)
+  pub bytes : n ≡ e .size
+
+pub segment-loan : (t : Receipts) (id a n : ℕ) (e : RegionEntry) → t .regions id ≡ some e → Loaned t (region id) a n → SegmentLoan e a n
+segment-loan t id a n e f (segment e′ g p k l) =
+    let h : e′ ≡ e = cc in
+    record {
+      p = p;
+      k = k;
+      lent = subst (λ (x : RegionEntry). Lent (x .loans) p k) h l;
+      at = ap (λ (x : RegionEntry). addressIn x p) h;
+      bytes = ap (λ (x : RegionEntry). k * unit x) h;
+    }
+
+pub buffer-loan : (t : Receipts) (id a n : ℕ) (e : PartitionEntry) → t .partitions id ≡ some e → Loaned t (partition id) a n → BufferLoan e a n
+buffer-loan t id a n e f (buffer e′ g l) =
+    let h : e′ ≡ e = cc in
+    record { lent = subst (λ (x : PartitionEntry). Within a (x .lent)) h l; bytes = ap (λ (x : PartitionEntry). x .size) h }
+
+-- of whole words, in an area
+pub record LoanIn (a : Area) (address bytes : ℕ) : Type 0 where
+  pub from : a .start ≤ address
+  pub upto : address + bytes ≤ a .start + a .length
+  pub whole : address % 4 ≡ 0
+  pub whole-bytes : bytes % 4 ≡ 0
+
+-- where a loan of a region lies: at or behind its first page
+module _ (m : List ℕ) (e : RegionEntry) (is : RegionIs m e) (a n : ℕ) (l : SegmentLoan e a n) where
+  pub segment-behind : baseOf (regionFor e) ≤ a
+  segment-behind = omega (arith, l .at)
+
+  pub segment-some : 0 < l .k
+  segment-some = lent-some (pagesIn e) 0 (e .loans) (l .p) (l .k) (is .ordered) (l .lent)
+
+  pub segment-in : LoanIn (areaFor (regionFor e)) a n
+  segment-in =
+      let w : unit e % 4 ≡ 0 = omega (arith, unit-whole e) in
+      let u = page-upto (e .start) (e .bytes) (unit e) (region-unit m e is) (is .some-page) (l .p + l .k) (lent-within (pagesIn e) 0 (e .loans) (l .p) (l .k) (is .ordered) (l .lent)) in
+      record {
+        from = omega (arith, l .at, first-from (e .start) (e .bytes) (unit e) (region-unit m e is));
+        upto = omega (arith, l .at, l .bytes, u);
+        whole = omega (arith, l .at, whole-times (pagesFor (mapStart (e .start) + 4 * pagesIn e) (unit e)) (unit e) w, whole-times (l .p) (unit e) w);
+        whole-bytes = omega (arith, l .bytes, whole-times (l .k) (unit e) w);
+      }
+
+module _ (m : List ℕ) (p : Partition) (e : PartitionEntry) (is : PartitionIs m p e) (a n : ℕ) (l : BufferLoan e a n) where
+  pub buffer-in : LoanIn (areaOf p) a n
+  buffer-in =
+      let b = is .buffer a (l .lent) in
+      let c = buffer-lies m p e is a b in
+      record {
+        from = c .low;
+        upto = omega (arith, c .high, l .bytes, is .size);
+        whole = c .aligned;
+        whole-bytes = omega (arith, l .bytes, is .size, partition-shaped m p e is .whole);
+      }
+
+-- EVERY LOAN LIES IN THE AREA OF ITS OBJECT
+module _ (m : List ℕ) (d : Manager) (t : Receipts) (v : Inv m d t) where
+  pub loan-in : (o : Object) (a n : ℕ) → Loaned t o a n → LoanIn (areaIn d o) a n
+  loan-in (region id) a n (segment e g p k h) =
+      let r = region-at m (regionOf d id) (t .regions id) e (v .regions id) g in
+      rw (r .region) (segment-in m e (r .is) (addressIn e p) (k * unit e) (record { p = p; k = k; lent = h; at = refl; bytes = refl }))
+  loan-in (partition id) a n (buffer e g h) =
+      let s = partition-at m (partitionOf d id) (t .partitions id) e (v .partitions id) g in
+      buffer-in m (partitionOf d id) e s a (e .size) (record { lent = h; bytes = refl })
+
+  -- a word that clients hold lies in the area of the object that lent it
+  pub owned-inside : (w : ℕ) (h : Owned t w) → Inside (areaIn d (h .0) .start) (areaIn d (h .0) .length) w
+  owned-inside w h =
+      let l = loan-in (h .0) (h .1) (h .2) (h .3) in
+      omega (arith, l .from, l .upto, l .whole, l .whole-bytes, h .4, h .5)
+
+  -- A WORD OF A MAP IS NOT HELD BY CLIENTS
+  pub map-not-owned : (id : ℕ) (e : RegionEntry) → t .regions id ≡ some e → (w : ℕ) → mapAt (regionFor e) ≤ w → w < mapAt (regionFor e) + pagesIn e → ¬ Owned t w
+  map-not-owned id e f w lo hi h = ⊎-elim same other (same-object (h .0) (region id))
+    where
+      r : RegionAt m (regionOf d id) e
+      r = region-at m (regionOf d id) (t .regions id) e (v .regions id) f
+
+      same : h .0 ≡ region id → ⊥
+      same q =
+          let l = segment-loan t id (h .1) (h .2) e f (subst (λ (o : Object). Loaned t o (h .1) (h .2)) q (h .3)) in
+          omega (arith, segment-behind m e (r .is) (h .1) (h .2) l, region-before m e (r .is) w hi, h .4)
+
+      other : ¬ (h .0 ≡ region id) → ⊥
+      other n =
+          clear-words (areaIn d (h .0)) (areaIn d (region id)) w
+          (sound-clear d (v .region-slots) (v .partition-slots) (v .areas) (h .0) (region id) n)
+          (owned-inside w h) (rw (r .region) (region-inside m e (r .is) w lo hi))
+
+  -- NOR IS A WORD OF A BUFFER THAT IS NOT LENT
+  pub buffer-not-owned : (id : ℕ) (e : PartitionEntry) → t .partitions id ≡ some e → (a w : ℕ) → Within a (e .unlent) → Inside a (partitionOf d id .size) w → ¬ Owned t w
+  buffer-not-owned id e f a w u i h = ⊎-elim same other (same-object (h .0) (partition id))
+    where
+      s : PartitionIs m (partitionOf d id) e
+      s = partition-at m (partitionOf d id) (t .partitions id) e (v .partitions id) f
+
+      same : h .0 ≡ partition id → ⊥
+      same q =
+          let l = buffer-loan t id (h .1) (h .2) e f (subst (λ (o : Object). Loaned t o (h .1) (h .2)) q (h .3)) in
+          ⊎-elim (λ (g : h .1 ≡ a). s .apart (h .1) (l .lent) (subst (λ (b : ℕ). Within b (e .unlent)) (sym g) u))
+          (⊎-elim (λ (g : h .1 + partitionOf d id .size ≤ a). omega (arith, i .low, i .high, h .4, h .5, l .bytes, s .size))
+          (λ (g : a + partitionOf d id .size ≤ h .1). omega (arith, i .low, i .high, h .4, h .5)))
+          (buffers-apart m (partitionOf d id) e s (h .1) a (s .buffer (h .1) (l .lent)) (chained-buffer m (partitionOf d id) e s a u))
+
+      other : ¬ (h .0 ≡ partition id) → ⊥
+      other n =
+          clear-words (areaIn d (h .0)) (areaIn d (partition id)) w
+          (sound-clear d (v .region-slots) (v .partition-slots) (v .areas) (h .0) (partition id) n)
+          (owned-inside w h) (buffer-inside m (partitionOf d id) e s a w (chained-buffer m (partitionOf d id) e s a u) i)
+
+  -- WHATEVER CLIENTS WRITE KEEPS THE INVARIANT
+  pub clients-keep : (m′ : List ℕ) → ClientsWrite t m m′ → Inv m′ d t
+  clients-keep m′ c =
+      record {
+        words = rw (c .size) (v .words);
+        region-slots = v .region-slots;
+        partition-slots = v .partition-slots;
+        regions = λ id. keep-region id (regionOf d id) (t .regions id) refl (v .regions id);
+        partitions = λ id. keep-partition id (partitionOf d id) (t .partitions id) refl refl (v .partitions id);
+        areas = v .areas;
+        waits = v .waits;
+      }
+    where
+      keep-region : (id : ℕ) (r : Region) (o : Option RegionEntry) → t .regions id ≡ o → RegionSlot m r o → RegionSlot m′ r o
+      keep-region id r o f empty = empty
+      keep-region id r o f (live e is) = live e (region-same m e is m′ (c .size) (λ w lo hi. c .others w (map-not-owned id e f w lo hi)))
+
+      keep-partition : (id : ℕ) (p : Partition) (o : Option PartitionEntry) → partitionOf d id ≡ p → t .partitions id ≡ o → PartitionSlot m p o → PartitionSlot m′ p o
+      keep-partition id p o q f empty = empty
+      keep-partition id p o q f (live x e is) =
+          live p e (partition-same m p e is m′ (c .size)
+          (λ a u. let b = chained-buffer m p e is a u in
+          record {
+            next = c .others (a / 4) (buffer-not-owned id e f a (a / 4) u (rw q (link-next m p e is a b)));
+            before = c .others (a / 4 + 1) (buffer-not-owned id e f a (a / 4 + 1) u (rw q (link-before m p e is a b)));
+          }))

@@ -1,0 +1,265 @@
+-- Which words a part of the picture rests on: a region's map words, and the link words of a partition's chained buffers. Where these
+-- stay as they are, so does the picture, whatever happens elsewhere. The words lie inside the object's area. Assumes nothing.
+use mathlib.Core.Path.{_≡_, refl, sym, ap, _∙_, subst}
+use mathlib.Core.Bool.{true, not}
+use mathlib.Core.List.{List, [], _∷_, _++_, append-assoc}
+use mathlib.Core.Logic.{_⊎_, inl, inr, ⊎-elim}
+use Prim.Native.Nat.{ℕ, suc, _+_, _*_, _/_, _%_, _≤_, _<_}
+use native.Mathlib.Nat.{mul-le-mul-right}
+use native.Mathlib.Omega.{arith}
+use lib.ListN.{length, getD, take, drop, set, length-take, length-drop, length-set}
+use lib.Seq.{sets, length-sets, sets-eq, getD-set-other, getD-take, getD-drop, ext-getD, take-at, drop-at, length-take-le}
+use lib.Dec.{eqb, leb}
+use borrow.Author.Tests.{eqb-false, leb-true, ne-eqb, le-leb, not-true}
+use Rattle.arith.specs.Round.Laws.{round-multiple}
+use Rattle.arith.specs.Layout.{mapStart, firstPage, pageCount}
+use Rattle.arith.specs.Layout.Laws.{map-ge, count-map, count-end}
+use Rattle.manager.specs.Lists.Laws.{and-first, and-second}
+use Rattle.manager.specs.Map.{draw}
+use Rattle.manager.specs.Region.{pagesOf, baseOf, mapAt, mapWords, withSegments}
+use Rattle.manager.specs.Partition.{isBuffer, chain}
+use Rattle.manager.specs.Partition.Distinct.{On, same-or-not}
+use Rattle.manager.specs.Partition.Laws.{Shaped, Laid, Buffer, buffer-of, Placed, placed, apart, linked-on, Same, follow-same, linked-same, live-laid, live-size, live-chain, live-made}
+use Rattle.manager.specs.Sound.{inside}
+use Rattle.manager.specs.declared.Region.{Region}
+use Rattle.manager.specs.declared.Partition.{Partition}
+use Rattle.trace.specs.Loans.{Loan, Ordered, drawn}
+use Rattle.trace.specs.Receipts.{RegionEntry, PartitionEntry, unit, pagesIn, Within, withLoans}
+use Rattle.trace.proofs.Invariant.{Inside, Only, regionFor, RegionIs, PartitionIs}
+use Rattle.trace.proofs.Loans.Words.{size as drawn-size}
+use Rattle.trace.proofs.Buffers.{within-on, on-within}
+
+-- ---- words inside an area, and changes of nothing else
+
+pub inside-wider : (a n b k w : ℕ) → b ≤ a → a + n ≤ b + k → Inside a n w → Inside b k w
+inside-wider a n b k w l h i = omega arith
+
+pub only-refl : (a n : ℕ) (m : List ℕ) → Only a n m m
+only-refl a n m = record { size = refl; same = λ w h. refl }
+
+pub only-trans : (a n : ℕ) (m m′ m″ : List ℕ) → Only a n m m′ → Only a n m′ m″ → Only a n m m″
+only-trans a n m m′ m″ p q = record { size = q .size ∙ p .size; same = λ w h. q .same w h ∙ p .same w h }
+
+pub only-wider : (a n b k : ℕ) (m m′ : List ℕ) → b ≤ a → a + n ≤ b + k → Only a n m m′ → Only b k m m′
+only-wider a n b k m m′ l h o = record { size = o .size; same = λ w i. o .same w (λ j. i (inside-wider a n b k w l h j)) }
+
+-- one word stored, and a run of words
+pub only-set : (a n : ℕ) (m : List ℕ) (i v : ℕ) → Inside a n i → Only a n m (set m i v)
+only-set a n m i v h =
+    record {
+      size = length-set m i v;
+      same = λ w o. getD-set-other m i w v 0 (λ e. o (subst (λ (k : ℕ). Inside a n k) (sym e) h));
+    }
+
+pub only-sets : (a n : ℕ) (m : List ℕ) (i : ℕ) (ws : List ℕ) → a ≤ 4 * i → 4 * (i + length ws) ≤ a + n → Only a n m (sets m i ws)
+only-sets a n m i [] l h = only-refl a n m
+only-sets a n m i (w ∷ ws) l h =
+    only-trans a n m (set m i w) (sets (set m i w) (suc i) ws)
+    (only-set a n m i w (record { low = l; high = omega arith }))
+    (only-sets a n (set m i w) (suc i) ws (omega arith) (omega arith))
+
+-- a part of the memory, by its words
+pub part-same : (n b : ℕ) (m m′ : List ℕ) → length m′ ≡ length m → ((k : ℕ) → b ≤ k → k < b + n → getD m′ k 0 ≡ getD m k 0)
+    → take n (drop b m′) ≡ take n (drop b m)
+part-same n b m m′ e h =
+    ext-getD 0 (take n (drop b m′)) (take n (drop b m)) (simp (length-take, length-drop, e))
+    (λ i l. let u : i < n = omega (arith, length-take n (drop b m′), l) in
+    getD-take n (drop b m′) i 0 u ∙ getD-drop b m′ i 0
+    ∙ h (b + i) (omega arith) (omega arith)
+    ∙ sym (getD-take n (drop b m) i 0 u ∙ getD-drop b m i 0))
+
+-- words stored are the words that stand there
+pub part-stored : (m : List ℕ) (b : ℕ) (ws : List ℕ) (n : ℕ) → length ws ≡ n → b + n ≤ length m → take n (drop b (sets m b ws)) ≡ ws
+part-stored m b ws n e h =
+    let u : b + length ws ≤ length m = omega arith in
+    ap (λ (l : List ℕ). take n (drop b l)) (sets-eq ws m b u ∙ append-assoc (take b m) ws (drop (b + length ws) m))
+    ∙ ap (take n) (drop-at (take b m) (ws ++ drop (b + length ws) m) b (length-take-le b m (omega arith)))
+    ∙ take-at ws (drop (b + length ws) m) n e
+
+-- ---- a region: its map words
+
+-- the place of a map's first word is its start
+pub map-at : (start : ℕ) → 4 * (mapStart start / 4) ≡ mapStart start
+map-at start = omega arith
+
+-- a word of the map lies inside the area, and before the first page
+module _ (start bytes page : ℕ) (hp : 0 < page) (some : 1 ≤ pageCount start bytes page) (w : ℕ) where
+  pub map-inside : mapStart start / 4 ≤ w → w < mapStart start / 4 + pageCount start bytes page → Inside start bytes w
+  map-inside l h =
+      record {
+        low = omega (arith, map-at start, map-ge start);
+        high = omega (arith, map-at start, count-map start bytes page hp, count-end start bytes page hp some);
+      }
+
+  pub map-before : w < mapStart start / 4 + pageCount start bytes page → 4 * w + 4 ≤ firstPage start page (pageCount start bytes page)
+  map-before h = omega (arith, map-at start, count-map start bytes page hp)
+
+-- the map lies in a memory in which the area does
+pub map-fits : (start bytes page n : ℕ) → 0 < page → 1 ≤ pageCount start bytes page → start + bytes ≤ 4 * n → mapStart start / 4 + pageCount start bytes page ≤ n
+map-fits start bytes page n hp some h = omega (arith, map-at start, count-map start bytes page hp, count-end start bytes page hp some)
+
+-- the pages lie inside the area
+pub page-upto : (start bytes page : ℕ) → 0 < page → 1 ≤ pageCount start bytes page → (p : ℕ) → p ≤ pageCount start bytes page
+    → firstPage start page (pageCount start bytes page) + p * page ≤ start + bytes
+page-upto start bytes page hp some p h = omega (arith, count-end start bytes page hp some, mul-le-mul-right page h)
+
+pub first-from : (start bytes page : ℕ) → 0 < page → start ≤ firstPage start page (pageCount start bytes page)
+first-from start bytes page hp = omega (arith, map-ge start, count-map start bytes page hp)
+
+-- the page size of an entry: whole, and in bounds
+pub unit-least : (e : RegionEntry) → 1 ≤ e .page → 8 ≤ unit e
+unit-least e h = omega arith
+
+pub unit-most : (e : RegionEntry) → e .page ≤ 4096 → unit e ≤ 4096
+unit-most e h = omega arith
+
+pub unit-whole : (e : RegionEntry) → unit e % 8 ≡ 0
+unit-whole e = round-multiple (e .page) 8
+
+-- an area inside the memory
+pub record Fits (m : List ℕ) (start bytes : ℕ) : Type 0 where
+  pub some-start : ¬ (start ≡ 0)
+  pub upto : start + bytes ≤ 4 * length m
+
+pub inside-parts : (m : List ℕ) (start bytes : ℕ) → inside m start bytes ≡ true → Fits m start bytes
+inside-parts m start bytes e =
+    record {
+      some-start = eqb-false start 0 (not-true (eqb start 0) (and-first (not (eqb start 0)) (leb (start + bytes) (4 * length m)) e));
+      upto = leb-true (start + bytes) (4 * length m) (and-second (not (eqb start 0)) (leb (start + bytes) (4 * length m)) e);
+    }
+
+pub parts-inside : (m : List ℕ) (start bytes : ℕ) → Fits m start bytes → inside m start bytes ≡ true
+parts-inside m start bytes p = rw (ne-eqb start 0 (p .some-start), le-leb (start + bytes) (4 * length m) (p .upto))
+
+pub inside-same : (m m′ : List ℕ) (start bytes : ℕ) → length m′ ≡ length m → inside m start bytes ≡ true → inside m′ start bytes ≡ true
+inside-same m m′ start bytes e h = rw e h
+
+-- its map words give its map
+pub map-same : (m m′ : List ℕ) (r : Region) → length m′ ≡ length m
+    → ((w : ℕ) → mapAt r ≤ w → w < mapAt r + pagesOf r → getD m′ w 0 ≡ getD m w 0) → mapWords m′ r ≡ mapWords m r
+map-same m m′ r e h = part-same (pagesOf r) (mapAt r) m m′ e h
+
+-- a map that is drawn is the map
+pub map-stored : (m : List ℕ) (r : Region) (ws : List ℕ) → length ws ≡ pagesOf r → mapAt r + pagesOf r ≤ length m
+    → mapWords (sets m (mapAt r) ws) r ≡ ws
+map-stored m r ws e h = part-stored m (mapAt r) ws (pagesOf r) e h
+
+-- and has a word for each page
+pub map-length : (m : List ℕ) (r : Region) → mapAt r + pagesOf r ≤ length m → length (mapWords m r) ≡ pagesOf r
+map-length m r h = omega (arith, length-take (pagesOf r) (drop (mapAt r) m), length-drop (mapAt r) m)
+
+-- drawing a map changes only words of the area
+pub map-only : (m : List ℕ) (r : Region) (ws : List ℕ) → 0 < r .page → 1 ≤ pagesOf r → length ws ≡ pagesOf r
+    → Only (r .start) (r .length) m (sets m (mapAt r) ws)
+map-only m r ws hp some e =
+    only-sets (r .start) (r .length) m (mapAt r) ws
+    (omega (arith, map-at (r .start), map-ge (r .start)))
+    (omega (arith, map-at (r .start), count-map (r .start) (r .length) (r .page) hp, count-end (r .start) (r .length) (r .page) hp some))
+
+-- what a live region's entry says of its numbers
+module _ (m : List ℕ) (e : RegionEntry) (is : RegionIs m e) where
+  pub region-unit : 0 < unit e
+  region-unit = omega (arith, unit-least e (is .page-some))
+
+  pub region-inside : (w : ℕ) → mapAt (regionFor e) ≤ w → w < mapAt (regionFor e) + pagesIn e → Inside (e .start) (e .bytes) w
+  region-inside w l h = map-inside (e .start) (e .bytes) (unit e) region-unit (is .some-page) w l h
+
+  pub region-before : (w : ℕ) → w < mapAt (regionFor e) + pagesIn e → 4 * w + 4 ≤ baseOf (regionFor e)
+  region-before w h = map-before (e .start) (e .bytes) (unit e) region-unit (is .some-page) w h
+
+  -- the map lies in the memory
+  pub region-fits : mapAt (regionFor e) + pagesIn e ≤ length m
+  region-fits = map-fits (e .start) (e .bytes) (unit e) (length m) region-unit (is .some-page) (inside-parts m (e .start) (e .bytes) (is .inside) .upto)
+
+  -- A LIVE REGION RESTS ON ITS MAP WORDS
+  pub region-same : (m′ : List ℕ) → length m′ ≡ length m
+      → ((w : ℕ) → mapAt (regionFor e) ≤ w → w < mapAt (regionFor e) + pagesIn e → getD m′ w 0 ≡ getD m w 0) → RegionIs m′ e
+  region-same m′ s h =
+      record {
+        named = is .named;
+        inside = inside-same m m′ (e .start) (e .bytes) s (is .inside);
+        page-some = is .page-some;
+        page-most = is .page-most;
+        some-page = is .some-page;
+        ordered = is .ordered;
+        map = map-same m m′ (regionFor e) s h ∙ is .map;
+      }
+
+  -- A LIVE REGION WITH OTHER LOANS, and the map drawn from them
+  pub region-redrawn : (l : List Loan) → Ordered (pagesIn e) 0 l → RegionIs (withSegments m (regionFor e) (drawn (pagesIn e) 0 l)) (withLoans l e)
+  region-redrawn l o =
+      record {
+        named = is .named;
+        inside = inside-same m (withSegments m (regionFor e) (drawn (pagesIn e) 0 l)) (e .start) (e .bytes) (length-sets m (mapAt (regionFor e)) (draw (drawn (pagesIn e) 0 l))) (is .inside);
+        page-some = is .page-some;
+        page-most = is .page-most;
+        some-page = is .some-page;
+        ordered = o;
+        map = map-stored m (regionFor e) (draw (drawn (pagesIn e) 0 l)) (drawn-size (pagesIn e) l o) region-fits;
+      }
+
+-- ---- a partition: the link words of its chained buffers
+
+-- a multiple of whole words is of whole words
+pub whole-times : (k n : ℕ) → n % 4 ≡ 0 → k * n % 4 ≡ 0
+whole-times k n z =
+    let e : n ≡ 4 * (n / 4) = omega arith in
+    let f : k * n ≡ 4 * (k * (n / 4)) = ap (λ (x : ℕ). k * x) e ∙ omega arith in
+    omega arith
+
+-- what a live partition's entry says of its buffers
+module _ (m : List ℕ) (p : Partition) (e : PartitionEntry) (is : PartitionIs m p e) where
+  pub partition-laid : Laid m p
+  partition-laid = live-laid m p (is .sound)
+
+  pub partition-shaped : Shaped p
+  partition-shaped = partition-laid .shaped
+
+  pub buffer-is : (a : ℕ) → isBuffer p a ≡ true → Buffer p a
+  buffer-is a h = buffer-of p partition-shaped a h
+
+  pub buffer-lies : (a : ℕ) → isBuffer p a ≡ true → Placed p a
+  buffer-lies a h = placed p partition-shaped a (buffer-is a h)
+
+  -- a buffer on the chain is a buffer
+  pub chained-buffer : (a : ℕ) → Within a (e .unlent) → isBuffer p a ≡ true
+  chained-buffer a w =
+      linked-on m p (p .free) 0 (p .front) a (live-chain m p (is .sound)) (within-on a (chain m p) (rw (← is .chained) at w))
+
+  -- two buffers share no byte
+  pub buffers-apart : (a b : ℕ) → isBuffer p a ≡ true → isBuffer p b ≡ true → (a ≡ b) ⊎ ((a + p .size ≤ b) ⊎ (b + p .size ≤ a))
+  buffers-apart a b x y =
+      ⊎-elim (λ (q : a ≡ b). inl q) (λ (q : a ≡ b → ⊥). inr (apart p partition-shaped a b (buffer-is a x) (buffer-is b y) q)) (same-or-not a b)
+
+  -- the words of a buffer lie inside the area, its link words among them
+  pub buffer-inside : (a w : ℕ) → isBuffer p a ≡ true → Inside a (p .size) w → Inside (p .start) (p .length) w
+  buffer-inside a w h i =
+      let b = buffer-lies a h in
+      inside-wider a (p .size) (p .start) (p .length) w (b .low) (b .high) i
+
+  pub link-next : (a : ℕ) → isBuffer p a ≡ true → Inside a (p .size) (a / 4)
+  link-next a h = omega (arith, buffer-lies a h .aligned, partition-shaped .big)
+
+  pub link-before : (a : ℕ) → isBuffer p a ≡ true → Inside a (p .size) (a / 4 + 1)
+  link-before a h = omega (arith, buffer-lies a h .aligned, partition-shaped .big)
+
+  -- A LIVE PARTITION RESTS ON THE LINK WORDS OF ITS CHAINED BUFFERS
+  pub partition-same : (m′ : List ℕ) → length m′ ≡ length m → ((a : ℕ) → Within a (e .unlent) → Same m m′ a) → PartitionIs m′ p e
+  partition-same m′ s h =
+      let h′ : (a : ℕ) → On a (chain m p) → Same m m′ a = λ a w. h a (rw (is .chained) at (on-within a (chain m p) w)) in
+      record {
+        named = is .named;
+        name = is .name;
+        start = is .start;
+        bytes = is .bytes;
+        size = is .size;
+        sound =
+            live-made m′ p (record { shaped = partition-shaped; inside = rw s (partition-laid .inside) }) (live-size m p (is .sound))
+            (linked-same m m′ p p (λ x. refl) refl (p .free) 0 (p .front) h′ (live-chain m p (is .sound)));
+        chained = follow-same m m′ (p .free) (p .front) (λ x w. h′ x w .next) ∙ is .chained;
+        once = is .once;
+        buffer = is .buffer;
+        either = is .either;
+        apart = is .apart;
+        counted = is .counted;
+      }

@@ -1,0 +1,113 @@
+-- The invariant of the trace theorem: the receipts are right in themselves (waits), and the memory and the record are their picture
+-- (regions, partitions, areas, queue). Everything that the manager keeps is determined by the receipts, but for what clients wrote.
+use mathlib.Core.Path.{_≡_}
+use mathlib.Core.Bool.{Bool, true, false}
+use mathlib.Core.List.{List, [], _∷_, _++_}
+use mathlib.Core.Logic.{_⊎_}
+use mathlib.Core.Option.{Option, none, some}
+use Prim.Native.Nat.{ℕ, zero, suc, _+_, _*_, _≤_, _<_}
+use lib.ListN.{length, getD}
+use Rattle.arith.specs.Round.{pagesFor}
+use Rattle.manager.specs.Record.{slots, tasks, noRegion, noPartition, noWaiter, idOf, regionOf, partitionOf}
+use Rattle.manager.specs.Result.{pad}
+use Rattle.manager.specs.Map.{draw}
+use Rattle.manager.specs.Region.{mapWords}
+use Rattle.manager.specs.Partition.{isBuffer, buffers, chain}
+use Rattle.manager.specs.Sound.{soundLength, inside, livePartition, soundAreas}
+use Rattle.manager.specs.declared.Manager.{Manager}
+use Rattle.manager.specs.declared.Region.{Region}
+use Rattle.manager.specs.declared.Partition.{Partition}
+use Rattle.trace.specs.Loans.{Loan, Ordered, drawn}
+use Rattle.trace.specs.Receipts.{Receipts, RegionEntry, PartitionEntry, Wait, unit, pagesIn, Within, Distinct}
+use Rattle.trace.specs.Claims.{queueOf, waitersOf}
+
+-- word w lies wholly in the n bytes from a on
+pub record Inside (a n w : ℕ) : Type 0 where
+  pub low : a ≤ 4 * w
+  pub high : 4 * w + 4 ≤ a + n
+
+-- only words that lie wholly in the n bytes from a on differ
+pub record Only (a n : ℕ) (m m′ : List ℕ) : Type 0 where
+  pub size : length m′ ≡ length m
+  pub same : (w : ℕ) → ¬ Inside a n w → getD m′ w 0 ≡ getD m w 0
+
+-- the region that an entry asks for
+abbrev pub regionFor : RegionEntry → Region
+regionFor e = record { name = e .name; start = e .start; length = e .bytes; page = unit e; order = e .order }
+
+-- a live region, and its picture: the map is drawn from its loans
+pub record RegionIs (m : List ℕ) (e : RegionEntry) : Type 0 where
+  pub named : ¬ (e .name ≡ 0)
+  pub inside : inside m (e .start) (e .bytes) ≡ true
+  pub page-some : 1 ≤ e .page
+  pub page-most : e .page ≤ 4096
+  pub some-page : 1 ≤ pagesIn e
+  pub ordered : Ordered (pagesIn e) 0 (e .loans)
+  pub map : mapWords m (regionFor e) ≡ draw (drawn (pagesIn e) 0 (e .loans))
+
+pub data RegionSlot (m : List ℕ) : Region → Option RegionEntry → Type 0 where
+  empty : RegionSlot m noRegion none
+  live : (e : RegionEntry) → RegionIs m e → RegionSlot m (regionFor e) (some e)
+
+-- a live partition, and its picture: the chain is the buffers that are not lent, and each buffer is lent or not, once
+pub record PartitionIs (m : List ℕ) (p : Partition) (e : PartitionEntry) : Type 0 where
+  pub named : ¬ (p .name ≡ 0)
+  pub name : p .name ≡ e .name
+  pub start : p .start ≡ e .start
+  pub bytes : p .length ≡ e .bytes
+  pub size : p .size ≡ e .size
+  pub sound : livePartition m p ≡ true
+  pub chained : chain m p ≡ e .unlent
+  pub once : Distinct (e .lent)
+  pub buffer : (a : ℕ) → Within a (e .lent) → isBuffer p a ≡ true
+  pub either : (a : ℕ) → isBuffer p a ≡ true → Within a (e .lent) ⊎ Within a (e .unlent)
+  pub apart : (a : ℕ) → Within a (e .lent) → ¬ Within a (e .unlent)
+  pub counted : length (e .lent) + length (e .unlent) ≡ buffers p
+
+pub data PartitionSlot (m : List ℕ) : Partition → Option PartitionEntry → Type 0 where
+  empty : PartitionSlot m noPartition none
+  live : (p : Partition) (e : PartitionEntry) → PartitionIs m p e → PartitionSlot m p (some e)
+
+-- a wait: of a task, in a live region that lends something, with arguments that the checks let pass, and time left
+pub record WaitIs (t : Receipts) (w : Wait) : Type 0 where
+  pub entry : RegionEntry
+  pub found : t .regions (w .id) ≡ some entry
+  pub lending : ¬ (entry .loans ≡ [])
+  pub task-some : 1 ≤ w .task
+  pub task-most : w .task ≤ tasks
+  pub size-some : 1 ≤ w .size
+  pub size-most : pagesFor (w .size) (unit entry) ≤ pagesIn entry
+  pub priority-some : 1 ≤ w .priority
+  pub priority-most : w .priority ≤ 255
+  pub time : (w .ticks ≡ 0) ⊎ (w .since < w .ticks)
+
+unfoldable pub AllWaits : Receipts → List Wait → Type 0
+AllWaits t [] = Unit {0}
+AllWaits t (w ∷ ws) = WaitIs t w × AllWaits t ws
+
+unfoldable pub tasksOf : List Wait → List ℕ
+tasksOf [] = []
+tasksOf (w ∷ ws) = w .task ∷ tasksOf ws
+
+-- all waits as the record keeps them: region by region, each in its order
+abbrev pub queueAt : ℕ → Option RegionEntry → Receipts → List Wait
+queueAt id none t = []
+queueAt id (some e) t = queueOf id e t
+
+unfoldable pub queuesFrom : ℕ → ℕ → Receipts → List Wait
+queuesFrom zero i t = []
+queuesFrom (suc n) i t = queueAt (idOf i) (t .regions (idOf i)) t ++ queuesFrom n (suc i) t
+
+pub record Waits (d : Manager) (t : Receipts) : Type 0 where
+  pub all : AllWaits t (t .waits)
+  pub once : Distinct (tasksOf (t .waits))
+  pub queue : d .waiters ≡ pad tasks noWaiter (waitersOf (queuesFrom slots 0 t))
+
+pub record Inv (m : List ℕ) (d : Manager) (t : Receipts) : Type 0 where
+  pub words : soundLength m ≡ true
+  pub region-slots : length (d .regions) ≡ slots
+  pub partition-slots : length (d .partitions) ≡ slots
+  pub regions : (id : ℕ) → RegionSlot m (regionOf d id) (t .regions id)
+  pub partitions : (id : ℕ) → PartitionSlot m (partitionOf d id) (t .partitions id)
+  pub areas : soundAreas d ≡ true
+  pub waits : Waits d t

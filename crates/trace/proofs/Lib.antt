@@ -1,0 +1,17 @@
+pub mod Invariant
+pub mod Start
+pub mod Loans
+pub mod Buffers
+pub mod Frame
+pub mod Areas
+pub mod Held
+pub mod Sound
+pub mod Clients
+pub mod Access
+pub mod Apart
+pub mod Queue
+pub mod Regions
+pub mod Partitions
+pub mod Recover
+pub mod Theorem
+pub mod Kept

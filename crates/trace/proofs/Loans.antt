@@ -1,0 +1,9 @@
+-- The loans of one region and its map as segments: what each function of the map comes to, read off the loans. Assumes nothing.
+pub mod Tests
+pub mod Drawn
+pub mod Get
+pub mod Change
+pub mod Words
+pub mod Book
+pub mod Lawful
+pub mod Pages

@@ -1,0 +1,92 @@
+-- The map drawn from a region's loans: its first free pages, and what is behind them. Where loans are in order, they lie behind page
+-- `at`, and so does what they hold. Assumes nothing.
+use mathlib.Core.Path.{_≡_, refl}
+use mathlib.Core.List.{List, [], _∷_}
+use mathlib.Core.Logic.{inl, inr}
+use Prim.Native.Nat.{ℕ, zero, suc, _+_, _-_, _≤_, _<_}
+use native.Mathlib.Omega.{arith}
+use Rattle.manager.specs.Map.{Segment, free, held}
+use Rattle.manager.specs.Paged.{free+, lead, rest}
+use Rattle.trace.specs.Loans.{Loan, loan, Lent, Held, drawn, Ordered}
+
+-- where the first loan starts, or the region ends
+abbrev pub next : ℕ → List Loan → ℕ
+next n [] = n
+next n (loan a k ∷ l) = a
+
+-- the map from there on
+abbrev pub onward : ℕ → List Loan → List Segment
+onward n [] = []
+onward n (loan a k ∷ l) = held k ∷ drawn n (a + k) l
+
+pub drawn-next : (n at : ℕ) (l : List Loan) → drawn n at l ≡ free+ (next n l - at) (onward n l)
+unfolding drawn
+drawn-next n at [] = refl
+drawn-next n at (loan a k ∷ l) = refl
+
+-- the free pages in front are the leading segment, and the rest is behind them
+pub lead-onward : (g n : ℕ) (l : List Loan) → lead (free+ g (onward n l)) ≡ g
+unfolding free+ lead
+lead-onward zero n [] = refl
+lead-onward zero n (loan a k ∷ l) = refl
+lead-onward (suc g) n [] = refl
+lead-onward (suc g) n (loan a k ∷ l) = refl
+
+pub rest-onward : (g n : ℕ) (l : List Loan) → rest (free+ g (onward n l)) ≡ onward n l
+unfolding free+ rest
+rest-onward zero n [] = refl
+rest-onward zero n (loan a k ∷ l) = refl
+rest-onward (suc g) n [] = refl
+rest-onward (suc g) n (loan a k ∷ l) = refl
+
+-- loans in order start at page `at` or later, and end at page n or before
+pub ordered-next : (n at : ℕ) (l : List Loan) → Ordered n at l → at ≤ next n l
+unfolding Ordered
+ordered-next n at [] o = o
+ordered-next n at (loan a k ∷ l) o = o .0
+
+pub ordered-end : (n at : ℕ) (l : List Loan) → Ordered n at l → next n l ≤ n
+unfolding Ordered
+ordered-end n at [] o = omega arith
+ordered-end n at (loan a k ∷ l) o = omega (arith, ordered-next n (a + k) l (o .2), ordered-end n (a + k) l (o .2))
+
+-- they are in order from any page that is not behind the first
+pub ordered-from : (n at at′ : ℕ) (l : List Loan) → Ordered n at l → at′ ≤ next n l → Ordered n at′ l
+unfolding Ordered
+ordered-from n at at′ [] o h = h
+ordered-from n at at′ (loan a k ∷ l) o h = (h, o .1, o .2)
+
+-- what is held lies from the first loan on, and the page there is held
+pub held-after : (n at : ℕ) (l : List Loan) (q : ℕ) → Ordered n at l → Held l q → next n l ≤ q
+unfolding Ordered Held
+held-after n at [] q o h = absurd h
+held-after n at (loan a k ∷ l) q o (inl h) = h .0
+held-after n at (loan a k ∷ l) q o (inr h) = omega (arith, ordered-next n (a + k) l (o .2), held-after n (a + k) l q (o .2) h)
+
+pub next-held : (n at : ℕ) (l : List Loan) → Ordered n at l → next n l < n → Held l (next n l)
+unfolding Ordered Held
+next-held n at [] o h = omega arith
+next-held n at (loan a k ∷ l) o h = inl (omega arith)
+
+-- so do the loans
+pub lent-after : (n at : ℕ) (l : List Loan) (p k : ℕ) → Ordered n at l → Lent l p k → next n l ≤ p
+unfolding Ordered Lent
+lent-after n at [] p k o h = absurd h
+lent-after n at (loan a m ∷ l) p k o (inl h) = omega arith
+lent-after n at (loan a m ∷ l) p k o (inr h) = omega (arith, ordered-next n (a + m) l (o .2), lent-after n (a + m) l p k (o .2) h)
+
+pub lent-from : (n at : ℕ) (l : List Loan) (p k : ℕ) → Ordered n at l → Lent l p k → at ≤ p
+lent-from n at l p k o h = omega (arith, ordered-next n at l o, lent-after n at l p k o h)
+
+-- A LOAN HAS A PAGE, AND LIES IN THE REGION
+pub lent-some : (n at : ℕ) (l : List Loan) (p k : ℕ) → Ordered n at l → Lent l p k → 0 < k
+unfolding Ordered Lent
+lent-some n at [] p k o h = absurd h
+lent-some n at (loan a m ∷ l) p k o (inl h) = omega arith
+lent-some n at (loan a m ∷ l) p k o (inr h) = lent-some n (a + m) l p k (o .2) h
+
+pub lent-within : (n at : ℕ) (l : List Loan) (p k : ℕ) → Ordered n at l → Lent l p k → p + k ≤ n
+unfolding Ordered Lent
+lent-within n at [] p k o h = absurd h
+lent-within n at (loan a m ∷ l) p k o (inl h) = omega (arith, ordered-next n (a + m) l (o .2), ordered-end n (a + m) l (o .2))
+lent-within n at (loan a m ∷ l) p k o (inr h) = lent-within n (a + m) l p k (o .2) h

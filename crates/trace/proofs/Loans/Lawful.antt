@@ -1,0 +1,112 @@
+-- What a kind of region has to prove, so that the queue and the directives can be proved over any kind: what each of its functions comes
+-- to on a map that is drawn from loans. What is read off the loans alone is the kind's own: a `Reading`. Assumes nothing.
+use mathlib.Core.Path.{_≡_, refl, ap}
+use mathlib.Core.Bool.{true, false}
+use mathlib.Core.List.{List, [], _∷_}
+use mathlib.Core.Logic.{_⊎_, _↔_}
+use Prim.Native.Nat.{ℕ, _+_, _≤_, _<_}
+use native.Mathlib.Omega.{arith}
+use lib.ListN.{length}
+use Rattle.manager.specs.Lists.{some}
+use Rattle.manager.specs.Map.{Segment, isHeldSegment, draw, decode, freeSizes, heldSizes, sumOf}
+use Rattle.manager.specs.Paged.{Kind, free+}
+use Rattle.manager.specs.declared.Place.{Place}
+use Rattle.manager.specs.declared.Place.the-variants.{At, Nowhere}
+use Rattle.trace.specs.Loans.{Loan, loan, enter, amend, Lent, loanPages}
+
+-- by the loans of a region of n pages: its map; that the loans lie in it, apart; where k pages can be given, and the lowest such place;
+-- whether the loan of m pages at page p can have k
+pub record Reading : Type 1 where
+  pub drawn : ℕ → List Loan → List Segment
+  pub Ordered : ℕ → List Loan → Type 0
+  pub Run : ℕ → List Loan → ℕ → ℕ → Type 0
+  pub Lowest : ℕ → List Loan → ℕ → ℕ → Type 0
+  pub Room : ℕ → List Loan → ℕ → ℕ → ℕ → Type 0
+
+-- a map is the one drawn from loans
+pub record Drawing (R : Reading) (n : ℕ) (l : List Loan) (s : List Segment) : Type 0 where
+  pub ordered : R .Ordered n l
+  pub is : s ≡ R .drawn n l
+
+-- what a get of k pages comes to: the lowest run, lent, or nothing where there is none
+pub data Gets (R : Reading) (n : ℕ) (l : List Loan) (k : ℕ) : Place → List Segment → Type 0 where
+  given : {s : List Segment} (p : ℕ) → Drawing R n (enter p k l) s → R .Lowest n l k p → Gets R n l k (At p) s
+  nothing : {s : List Segment} → Drawing R n l s → ((p : ℕ) → ¬ R .Run n l k p) → Gets R n l k Nowhere s
+
+pub record Lawful (K : Kind) (R : Reading) : Type 0 where
+  -- the lowest run is a run, and no other lies before it
+  pub lowest-run : {n : ℕ} {l : List Loan} {k p : ℕ} → R .Lowest n l k p → R .Run n l k p
+  pub lowest-first : {n : ℕ} {l : List Loan} {k p : ℕ} → R .Lowest n l k p → (q : ℕ) → R .Run n l k q → p ≤ q
+  -- who asks for a page is given one
+  pub rounded-some : (j : ℕ) → 0 < j → 0 < K .rounded j
+  -- get
+  pub got : {n : ℕ} {l : List Loan} {s : List Segment} → Drawing R n l s → (j : ℕ) → 0 < j
+      → Gets R n l (K .rounded j) (K .place (K .rounded j) s) (K .take (K .rounded j) s)
+  -- what is found at a page
+  pub held : {n : ℕ} {l : List Loan} {s : List Segment} → Drawing R n l s → (p k : ℕ) → Lent l p k → K .held p s ≡ k
+  pub lent : {n : ℕ} {l : List Loan} {s : List Segment} → Drawing R n l s → (p : ℕ) → 0 < K .held p s → Lent l p (K .held p s)
+  pub reach : {n : ℕ} {l : List Loan} {s : List Segment} → Drawing R n l s → (p m j : ℕ) → Lent l p m
+      → (K .rounded j ≤ K .reach p s) ↔ R .Room n l p m (K .rounded j)
+  -- return and resize
+  pub returned : {n : ℕ} {l : List Loan} {s : List Segment} → Drawing R n l s → (p m : ℕ) → Lent l p m → Drawing R n (amend p 0 l) (K .change p 0 s)
+  pub changed : {n : ℕ} {l : List Loan} {s : List Segment} → Drawing R n l s → (p m j : ℕ) → Lent l p m → K .rounded j ≤ K .reach p s
+      → Drawing R n (amend p (K .rounded j) l) (K .change p (K .rounded j) s)
+  -- a new region's map, and the words of a map
+  pub new : (n : ℕ) → Drawing R n [] (free+ n [])
+  pub sound : {n : ℕ} {l : List Loan} {s : List Segment} → Drawing R n l s → K .sound (draw s) ≡ true
+  pub reads : {n : ℕ} {l : List Loan} {s : List Segment} → Drawing R n l s → decode (draw s) ≡ s
+  pub size : {n : ℕ} {l : List Loan} {s : List Segment} → Drawing R n l s → length (draw s) ≡ n
+  pub loans : (ws : List ℕ) → K .sound ws ≡ true → (l : List Loan) × Drawing R (length ws) l (decode ws) × (ws ≡ draw (decode ws))
+  -- its counts
+  pub held-pages : {n : ℕ} {l : List Loan} {s : List Segment} → Drawing R n l s → heldSizes s ≡ loanPages l
+  pub counted : {n : ℕ} {l : List Loan} {s : List Segment} → Drawing R n l s → sumOf (loanPages l) + sumOf (freeSizes s) ≡ n
+  pub any-none : {n : ℕ} {s : List Segment} → Drawing R n [] s → some isHeldSegment s ≡ false
+  pub any-some : {n a k : ℕ} {l : List Loan} {s : List Segment} → Drawing R n (loan a k ∷ l) s → some isHeldSegment s ≡ true
+  -- a loan has a page and lies in the region, and no two overlap
+  pub lent-some : {n : ℕ} {l : List Loan} → R .Ordered n l → (p k : ℕ) → Lent l p k → 0 < k
+  pub lent-within : {n : ℕ} {l : List Loan} → R .Ordered n l → (p k : ℕ) → Lent l p k → p + k ≤ n
+  pub no-overlap : {n : ℕ} {l : List Loan} → R .Ordered n l → (a k b m : ℕ) → Lent l a k → Lent l b m
+      → ((a ≡ b) × (k ≡ m)) ⊎ ((a + k ≤ b) ⊎ (b + m ≤ a))
+
+-- WHAT FOLLOWS FOR EVERY LAWFUL KIND
+module _ (K : Kind) (R : Reading) (L : Lawful K R) where
+  -- no pages are found where there is no loan
+  pub held-none : {n : ℕ} {l : List Loan} {s : List Segment} → Drawing R n l s → (p : ℕ) → K .held p s ≡ 0 → (k : ℕ) → ¬ Lent l p k
+  held-none d p e k x = omega (arith, L .held d p k x, L .lent-some (d .ordered) p k x)
+
+  -- the answers to a get, both ways
+  nowhere-by : {n : ℕ} {l : List Loan} {k : ℕ} {g : Place} {s : List Segment} → Gets R n l k g s → (g ≡ Nowhere) ↔ ((p : ℕ) → ¬ R .Run n l k p)
+  nowhere-by (given p d low) = (λ e. let z : _≡_ {A = ℕ} 0 1 = cc in absurd (omega arith), λ h. absurd (h p (L .lowest-run low)))
+  nowhere-by (nothing d no-run) = (λ e. no-run, λ h. refl)
+
+  at-by : {n : ℕ} {l : List Loan} {k : ℕ} {g : Place} {s : List Segment} → Gets R n l k g s → (p : ℕ) → (g ≡ At p) ↔ R .Lowest n l k p
+  at-by {n} {l} {k} (given q d low) p =
+      (λ e. let y : q ≡ p = cc in rw (← y) low, λ h. ap At (omega (arith, L .lowest-first low p (L .lowest-run h), L .lowest-first h q (L .lowest-run low))))
+  at-by (nothing d no-run) p = (λ e. let z : _≡_ {A = ℕ} 0 1 = cc in absurd (omega arith), λ h. absurd (no-run p (L .lowest-run h)))
+
+  pub nowhere : {n : ℕ} {l : List Loan} {s : List Segment} → Drawing R n l s → (j : ℕ) → 0 < j
+      → (K .place (K .rounded j) s ≡ Nowhere) ↔ ((p : ℕ) → ¬ R .Run n l (K .rounded j) p)
+  nowhere d j z = nowhere-by (L .got d j z)
+
+  pub somewhere : {n : ℕ} {l : List Loan} {s : List Segment} → Drawing R n l s → (j : ℕ) → 0 < j → (p : ℕ)
+      → (K .place (K .rounded j) s ≡ At p) ↔ R .Lowest n l (K .rounded j) p
+  somewhere d j z p = at-by (L .got d j z) p
+
+  -- from the words to the map
+  pub drawing : (n : ℕ) (l : List Loan) (ws : List ℕ) → R .Ordered n l → ws ≡ draw (R .drawn n l) → Drawing R n l (decode ws)
+  drawing n l ws o e =
+      let d : Drawing R n l (R .drawn n l) = record { ordered = o; is = refl } in
+      record { ordered = o; is = rw e (L .reads d) }
+
+  -- something is held where there is a loan
+  pub none-held : {n : ℕ} (l : List Loan) {s : List Segment} → Drawing R n l s → some isHeldSegment s ≡ false → l ≡ []
+  none-held [] d e = refl
+  none-held (loan a k ∷ l) {s} d e =
+      let t : some isHeldSegment s ≡ true = L .any-some d in
+      let z : _≡_ {A = ℕ} 0 1 = cc in
+      absurd (omega arith)
+
+  pub lent-any : {n : ℕ} (l : List Loan) {s : List Segment} → Drawing R n l s → (p k : ℕ) → Lent l p k → some isHeldSegment s ≡ true
+  unfolding Lent
+  lent-any [] d p k x = absurd x
+  lent-any (loan a m ∷ l) d p k x = L .any-some d

@@ -1,0 +1,175 @@
+-- The words of a drawn map, and its counts: it is sound, says what was drawn, and has a word for each page; its held segments are the
+-- loans, and with its free ones they make up the region. And every sound map is drawn from loans in order: those that its held segments
+-- are. Assumes nothing.
+use mathlib.Core.Path.{_≡_, refl, ap, sym, _∙_}
+use mathlib.Core.Bool.{Bool, true, false}
+use mathlib.Core.List.{List, [], _∷_}
+use Prim.Native.Nat.{ℕ, zero, suc, _+_, _-_, _≤_}
+use native.Mathlib.Omega.{arith}
+use lib.ListN.{length}
+use Rattle.manager.specs.Lists.{some}
+use Rattle.manager.specs.Map.{Segment, free, held, isHeldSegment, draw, decode, soundMap, freeSizes, heldSizes, sumOf, total}
+use Rattle.manager.specs.Map.Laws.{Well, sound-drawn, reread, redraw, well-decoded, length-draw, total-decoded}
+use Rattle.manager.specs.Paged.{free+}
+use Rattle.manager.specs.Paged.Laws.{free-join, total-free, well-free, free-front}
+use Rattle.trace.specs.Loans.{Loan, loan, Lent, drawn, Ordered, loanPages}
+use Rattle.trace.proofs.Loans.Drawn.{next, onward, drawn-next, ordered-next, ordered-from}
+
+-- ---- the words
+
+pub well : (n at : ℕ) (l : List Loan) → Ordered n at l → Well true (drawn n at l)
+unfolding Ordered drawn
+well n at [] o = well-free (n - at) [] tt
+well n at (loan a k ∷ l) o = well-free (a - at) (held k ∷ drawn n (a + k) l) (omega arith, refl, well n (a + k) l (o .2))
+
+pub total-drawn : (n at : ℕ) (l : List Loan) → Ordered n at l → at + total (drawn n at l) ≡ n
+unfolding Ordered drawn total
+total-drawn n at [] o = omega (arith, total-free (n - at) [])
+total-drawn n at (loan a k ∷ l) o = omega (arith, total-free (a - at) (held k ∷ drawn n (a + k) l), total-drawn n (a + k) l (o .2))
+
+-- THE MAP IS SOUND, READS AS IT WAS DRAWN, AND HAS A WORD FOR EACH PAGE
+pub sound : (n at : ℕ) (l : List Loan) → Ordered n at l → soundMap (draw (drawn n at l)) ≡ true
+sound n at l o = sound-drawn (drawn n at l) (well n at l o)
+
+pub reads : (n at : ℕ) (l : List Loan) → Ordered n at l → decode (draw (drawn n at l)) ≡ drawn n at l
+reads n at l o = reread (drawn n at l) (well n at l o)
+
+pub size : (n : ℕ) (l : List Loan) → Ordered n 0 l → length (draw (drawn n 0 l)) ≡ n
+size n l o = omega (arith, length-draw (drawn n 0 l), total-drawn n 0 l o)
+
+-- the map of no loans
+pub drawn-empty : (n at : ℕ) → drawn n at [] ≡ free+ (n - at) []
+unfolding drawn
+drawn-empty n at = refl
+
+pub drawn-new : (n : ℕ) → drawn n 0 [] ≡ free+ n []
+unfolding drawn
+drawn-new n = let e : n - 0 ≡ n = omega arith in rw e
+
+pub ordered-new : (n : ℕ) → Ordered n 0 []
+unfolding Ordered
+ordered-new n = omega arith
+
+-- ---- the counts
+
+-- free pages in front
+held-sizes-free : (m : ℕ) (s : List Segment) → heldSizes (free+ m s) ≡ heldSizes s
+unfolding free+ heldSizes
+held-sizes-free zero s = refl
+held-sizes-free (suc m) [] = refl
+held-sizes-free (suc m) (free n ∷ s) = refl
+held-sizes-free (suc m) (held n ∷ s) = refl
+
+free-sum : (m : ℕ) (s : List Segment) → sumOf (freeSizes (free+ m s)) ≡ m + sumOf (freeSizes s)
+unfolding free+ freeSizes sumOf
+free-sum zero s = omega arith
+free-sum (suc m) [] = refl
+free-sum (suc m) (free n ∷ s) = omega arith
+free-sum (suc m) (held n ∷ s) = refl
+
+any-free : (m : ℕ) (s : List Segment) → some isHeldSegment (free+ m s) ≡ some isHeldSegment s
+unfolding free+ some
+any-free zero s = refl
+any-free (suc m) [] = refl
+any-free (suc m) (free n ∷ s) = refl
+any-free (suc m) (held n ∷ s) = refl
+
+-- THE HELD SEGMENTS ARE THE LOANS
+pub held-pages : (n at : ℕ) (l : List Loan) → heldSizes (drawn n at l) ≡ loanPages l
+unfolding drawn heldSizes loanPages
+held-pages n at [] = held-sizes-free (n - at) []
+held-pages n at (loan a k ∷ l) =
+    held-sizes-free (a - at) (held k ∷ drawn n (a + k) l) ∙ ap (λ (t : List ℕ). k ∷ t) (held-pages n (a + k) l)
+
+-- WITH THE FREE PAGES THEY MAKE UP THE REGION
+counted-from : (n at : ℕ) (l : List Loan) → Ordered n at l → at + (sumOf (loanPages l) + sumOf (freeSizes (drawn n at l))) ≡ n
+unfolding Ordered drawn freeSizes loanPages sumOf
+counted-from n at [] o = omega (arith, free-sum (n - at) [])
+counted-from n at (loan a k ∷ l) o = omega (arith, free-sum (a - at) (held k ∷ drawn n (a + k) l), counted-from n (a + k) l (o .2))
+
+pub counted : (n : ℕ) (l : List Loan) → Ordered n 0 l → sumOf (loanPages l) + sumOf (freeSizes (drawn n 0 l)) ≡ n
+counted n l o = omega (arith, counted-from n 0 l o)
+
+-- SOMETHING IS HELD WHERE THERE IS A LOAN
+pub any-none : (n at : ℕ) → some isHeldSegment (drawn n at []) ≡ false
+unfolding drawn some
+any-none n at = any-free (n - at) []
+
+pub any-some : (n at a k : ℕ) (l : List Loan) → some isHeldSegment (drawn n at (loan a k ∷ l)) ≡ true
+unfolding drawn some
+any-some n at a k l = any-free (a - at) (held k ∷ drawn n (a + k) l)
+
+pub none-held : (n at : ℕ) (l : List Loan) → some isHeldSegment (drawn n at l) ≡ false → l ≡ []
+none-held n at [] e = refl
+none-held n at (loan a k ∷ l) e =
+    let z : _≡_ {A = Bool} true false = sym (any-some n at a k l) ∙ e in
+    let y : _≡_ {A = ℕ} 0 1 = cc in
+    absurd (omega arith)
+
+pub lent-any : (n at : ℕ) (l : List Loan) (p k : ℕ) → Lent l p k → some isHeldSegment (drawn n at l) ≡ true
+unfolding Lent
+lent-any n at [] p k x = absurd x
+lent-any n at (loan a m ∷ l) p k x = any-some n at a m l
+
+-- ---- from a map to its loans
+
+-- the loans that the held segments are, where the map starts at page `at`
+unfoldable pub loansOf : ℕ → List Segment → List Loan
+loansOf at [] = []
+loansOf at (free n ∷ s) = loansOf (at + n) s
+loansOf at (held n ∷ s) = loan at n ∷ loansOf (at + n) s
+
+-- a map from an earlier page on
+pub drawn-back : (n at g : ℕ) (l : List Loan) → Ordered n (at + g) l → free+ g (drawn n (at + g) l) ≡ drawn n at l
+drawn-back n at g l o =
+    let le : at + g ≤ next n l = ordered-next n (at + g) l o in
+    let same : g + (next n l - (at + g)) ≡ next n l - at = omega arith in
+    ap (free+ g) (drawn-next n (at + g) l) ∙ free-join g (next n l - (at + g)) (onward n l) ∙ rw (same, drawn-next n at l)
+
+pub record Loans (n at : ℕ) (s : List Segment) (l : List Loan) : Type 0 where
+  pub ordered : Ordered n at l
+  pub drawing : s ≡ drawn n at l
+
+loans-of : (n at : ℕ) (before : Bool) (s : List Segment) → Well before s → at + total s ≡ n → Loans n at s (loansOf at s)
+unfolding loansOf total Ordered drawn free+
+loans-of n at before [] w e = record { ordered = omega arith; drawing = let z : n - at ≡ 0 = omega arith in rw z }
+loans-of n at before (free k ∷ s) w e =
+    let ih = loans-of n (at + k) false s (w .2) (omega arith) in
+    record {
+      ordered = ordered-from n (at + k) at (loansOf (at + k) s) (ih .ordered) (omega (arith, ordered-next n (at + k) (loansOf (at + k) s) (ih .ordered)));
+      drawing = sym (free-front k s (w .2) (w .0)) ∙ ap (free+ k) (ih .drawing) ∙ drawn-back n at k (loansOf (at + k) s) (ih .ordered);
+    }
+loans-of n at before (held k ∷ s) w e =
+    let ih = loans-of n (at + k) true s (w .2) (omega arith) in
+    let z : at - at ≡ 0 = omega arith in
+    record {
+      ordered = (omega arith, omega arith, ih .ordered);
+      drawing = rw (z, ← (ih .drawing));
+    }
+
+-- EVERY SOUND MAP IS DRAWN FROM LOANS
+pub sound-loans : (ws : List ℕ) → soundMap ws ≡ true → Loans (length ws) 0 (decode ws) (loansOf 0 (decode ws))
+sound-loans ws e = loans-of (length ws) 0 true (decode ws) (well-decoded ws e) (omega (arith, total-decoded ws e))
+
+pub sound-words : (ws : List ℕ) → soundMap ws ≡ true
+    → (l : List Loan) × Ordered (length ws) 0 l × (ws ≡ draw (drawn (length ws) 0 l))
+sound-words ws e =
+    (loansOf 0 (decode ws), sound-loans ws e .ordered, sym (redraw ws e) ∙ ap draw (sound-loans ws e .drawing))
+
+-- and of one list of loans only
+loans-free : (n at g : ℕ) (l : List Loan) → loansOf at (free+ g (onward n l)) ≡ loansOf (at + g) (onward n l)
+unfolding loansOf free+
+loans-free n at zero l = let e : at + 0 ≡ at = omega arith in rw e
+loans-free n at (suc g) [] = refl
+loans-free n at (suc g) (loan a k ∷ l) = refl
+
+pub loans-drawn : (n at : ℕ) (l : List Loan) → Ordered n at l → loansOf at (drawn n at l) ≡ l
+unfolding loansOf drawn Ordered
+loans-drawn n at [] o = loans-free n at (n - at) []
+loans-drawn n at (loan a k ∷ l) o =
+    let there : at + (a - at) ≡ a = omega arith in
+    loans-free n at (a - at) (loan a k ∷ l) ∙ rw there (ap (λ (t : List Loan). loan a k ∷ t) (loans-drawn n (a + k) l (o .2)))
+
+pub same-loans : (n : ℕ) (l l′ : List Loan) → Ordered n 0 l → Ordered n 0 l′ → draw (drawn n 0 l) ≡ draw (drawn n 0 l′) → l ≡ l′
+same-loans n l l′ o o′ e =
+    sym (loans-drawn n 0 l o) ∙ ap (loansOf 0) (sym (reads n 0 l o) ∙ ap decode e ∙ reads n 0 l′ o′) ∙ loans-drawn n 0 l′ o′

@@ -1,0 +1,107 @@
+-- A return of a buffer: a buffer that is not on the chain is lent; it is struck from the loans and joins the chain at its rear. Assumes
+-- nothing.
+use mathlib.Core.Path.{_≡_, refl, sym, ap, _∙_, subst}
+use mathlib.Core.Bool.{true, false}
+use mathlib.Core.List.{List, [], _∷_, _++_}
+use mathlib.Core.Logic.{_⊎_, inl, inr, ⊎-elim}
+use mathlib.Core.Option.{some}
+use Prim.Native.Nat.{ℕ}
+use native.Mathlib.Omega.{arith}
+use lib.ListN.{length, length-append}
+use borrow.Author.Tests.{not-false}
+use Rattle.manager.specs.Record.{slotOf, partitionOf, withPartition}
+use Rattle.manager.specs.Result.{done}
+use Rattle.manager.specs.Lists as lists
+use Rattle.manager.specs.Partition.{isBuffer, isFree, chain, afterReturn, returned}
+use Rattle.manager.specs.Partition.Distinct.{on-off, same-or-not}
+use Rattle.manager.specs.Partition.Laws.{return-chain, return-length, return-outside, live-return, live-chain}
+use Rattle.manager.specs.Partitions.{returnBuffer}
+use Rattle.manager.specs.Sound.{sound}
+use Rattle.manager.specs.declared.Manager.{Manager}
+use Rattle.manager.specs.declared.Partition.{Partition}
+use Rattle.manager.specs.declared.Call.the-variants.{ReturnBuffer}
+use Rattle.trace.specs.Receipts.{Receipts, PartitionEntry, Within, strike, withBuffers}
+use Rattle.trace.proofs.Invariant.{Only, PartitionIs, Inv, live}
+use Rattle.trace.proofs.Frame.{partition-laid, partition-shaped}
+use Rattle.trace.proofs.Buffers.{within-on, within-strike, strike-other, strike-keeps, strike-distinct, strike-length}
+use Rattle.trace.proofs.Regions.Checks.{Passed, Kept, kept-checked}
+use Rattle.trace.proofs.Partitions.Slot.{partition-entry, on-partition, put-keeps, live-slot, live-clear, outside, kept-done}
+
+-- a number added at the end of a list
+pub last-within : (a : ℕ) (l : List ℕ) → Within a (l ++ (a ∷ []))
+unfolding Within
+last-within a [] = inl refl
+last-within a (x ∷ l) = inr (last-within a l)
+
+pub more-within : (b a : ℕ) (l : List ℕ) → Within b l → Within b (l ++ (a ∷ []))
+unfolding Within
+more-within b a [] h = absurd h
+more-within b a (x ∷ l) (inl e) = inl e
+more-within b a (x ∷ l) (inr h) = inr (more-within b a l h)
+
+pub within-more : (b a : ℕ) (l : List ℕ) → Within b (l ++ (a ∷ [])) → (b ≡ a) ⊎ Within b l
+unfolding Within
+within-more b a [] (inl e) = inl (sym e)
+within-more b a [] (inr h) = absurd h
+within-more b a (x ∷ l) (inl e) = inr (inl e)
+within-more b a (x ∷ l) (inr h) = ⊎-elim (λ (e : b ≡ a). inl e) (λ (k : Within b l). inr (inr k)) (within-more b a l h)
+
+-- the entry with one buffer less lent
+abbrev pub lentLess : ℕ → PartitionEntry → PartitionEntry
+lentLess a e = withBuffers (strike a (e .lent)) (e .unlent ++ (a ∷ [])) e
+
+module _ (m : List ℕ) (p : Partition) (e : PartitionEntry) (is : PartitionIs m p e) (a : ℕ) (b : isBuffer p a ≡ true) (o : isFree m p a ≡ false) where
+  -- a buffer that is not on the chain is lent
+  pub off-lent : Within a (e .lent)
+  off-lent =
+      ⊎-elim (λ (w : Within a (e .lent)). w)
+      (λ (w : Within a (e .unlent)). absurd (on-off a (chain m p) (within-on a (chain m p) (rw (← is .chained) at w)) o))
+      (is .either a b)
+
+  -- A LIVE PARTITION, WITH A BUFFER OF IT BACK
+  pub back-is : PartitionIs (afterReturn m p a) (returned p a) (lentLess a e)
+  back-is =
+      record {
+        named = is .named;
+        name = is .name;
+        start = is .start;
+        bytes = is .bytes;
+        size = is .size;
+        sound = live-return m p (is .sound) a b o;
+        chained = return-chain m p (partition-laid m p e is) (live-chain m p (is .sound)) a b o ∙ ap (λ (l : List ℕ). l ++ (a ∷ [])) (is .chained);
+        once = strike-distinct a (e .lent) (is .once);
+        buffer = λ x w. is .buffer x (within-strike a x (e .lent) w);
+        either = λ x y. ⊎-elim
+            (λ (w : Within x (e .lent)). ⊎-elim
+            (λ (q : x ≡ a). inr (subst (λ (z : ℕ). Within z (e .unlent ++ (a ∷ []))) (sym q) (last-within a (e .unlent))))
+            (λ (n : ¬ (x ≡ a)). inl (strike-keeps a x (e .lent) w n))
+            (same-or-not x a))
+            (λ (w : Within x (e .unlent)). inr (more-within x a (e .unlent) w))
+            (is .either x y);
+        apart = λ x w u. ⊎-elim (strike-other a x (e .lent) (is .once) w) (is .apart x (within-strike a x (e .lent) w)) (within-more x a (e .unlent) u);
+        counted = omega (arith, is .counted, strike-length a (e .lent) off-lent, length-append (e .unlent) (a ∷ []));
+      }
+
+  back-only : Only (p .start) (p .length) m (afterReturn m p a)
+  back-only =
+      let s = partition-shaped m p e is in
+      record { size = return-length m p a; same = λ w n. return-outside m p s (live-chain m p (is .sound)) w (outside p s w n) a b }
+
+module _ (m : List ℕ) (d : Manager) (t : Receipts) (v : Inv m d t) (id a : ℕ) where
+  module _ (e : PartitionEntry) (q : t .partitions id ≡ some e) (is : PartitionIs m (partitionOf d id) e)
+      (b : isBuffer (partitionOf d id) a ≡ true) (o : isFree m (partitionOf d id) a ≡ false) where
+    act-kept : Kept (ReturnBuffer id a) t (done (afterReturn m (partitionOf d id) a) (withPartition d (slotOf id) (returned (partitionOf d id) a)) 0)
+    act-kept =
+        let p = partitionOf d id in
+        kept-done (ReturnBuffer id a) t _ (afterReturn m p a) (withPartition d (slotOf id) (returned p a)) 0
+        (on-partition id e t (λ (x : PartitionEntry). lentLess a x) q)
+        (put-keeps m d t v id (live-slot m d t v id e is) (returned p a) (afterReturn m p a) (some (lentLess a e)) (back-only m p e is a b o)
+        (live-clear m d t v id e is) (live (returned p a) (lentLess a e) (back-is m p e is a b o)))
+
+  -- A RETURN KEEPS THE PICTURE
+  pub keeps-return : sound m d ≡ true → Kept (ReturnBuffer id a) t (returnBuffer m d id a)
+  unfolding returnBuffer lists.every Passed
+  keeps-return ok =
+      kept-checked (ReturnBuffer id a) m d t v _ _ ok refl
+      (λ c. let s = partition-entry m (partitionOf d id) (t .partitions id) (v .partitions id) (c .0) in
+      act-kept (s .0) (s .1) (s .2) (not-false (isBuffer (partitionOf d id) a) (c .1 .0)) (c .1 .1 .0))

@@ -1,0 +1,165 @@
+-- A partition put into a slot, and its entry under the slot's id: where only words of its area differ, and its area meets no other
+-- object's, everything else is as it was. The waits rest on regions alone. Assumes nothing.
+use mathlib.Core.Path.{_≡_, refl, sym, ap, _∙_, subst}
+use mathlib.Core.Bool.{Bool, true, false, cond}
+use mathlib.Core.List.{List, [], _∷_}
+use mathlib.Core.Logic.{inl, inr}
+use mathlib.Core.Option.{Option, none, some}
+use Prim.Native.Nat.{ℕ, zero, suc, _+_, _*_}
+use native.Mathlib.Omega.{arith}
+use lib.ListN.{length, length-set}
+use lib.Dec.{leb}
+use borrow.Author.Tests.{leb-true, leb-false}
+use Rattle.manager.specs.Record.{slots, slotOf, idOf, regionOf, partitionOf, withPartition}
+use Rattle.manager.specs.Result.{done}
+use Rattle.manager.specs.Region.{areaOf}
+use Rattle.manager.specs.Partition.{deadPartition, buffers}
+use Rattle.manager.specs.Partition.Laws.{Shaped, Outside, chain-length, live-chain}
+use Rattle.manager.specs.declared.Manager.{Manager}
+use Rattle.manager.specs.declared.Partition.{Partition}
+use Rattle.manager.specs.declared.Call.{Call}
+use Rattle.manager.specs.declared.Status.the-variants.{Successful, InternalError}
+use Rattle.trace.specs.Receipts.{Receipts, RegionEntry, PartitionEntry, Wait, buffersIn, Distinct, put, mapOption, onPartition, entered}
+use Rattle.trace.specs.Trace.{Object, region, partition}
+use Rattle.trace.proofs.Invariant.{Inside, Only, PartitionIs, PartitionSlot, WaitIs, AllWaits, Waits, Inv, queueAt, queuesFrom, empty, live}
+use Rattle.trace.proofs.Frame.{partition-shaped}
+use Rattle.trace.proofs.Buffers.{chain-once}
+use Rattle.trace.proofs.Areas.{areaIn, Clear, OfSlot, sound-clear, partition-slot, partition-there, partition-elsewhere, areas-partition, region-kept, partition-kept}
+use Rattle.trace.proofs.Loans.Tests.{by-eqb}
+use Rattle.trace.proofs.Regions.Checks.{Kept, note-done}
+use Rattle.trace.proofs.Regions.Picture.{words-same}
+
+-- ---- what stands in a slot
+
+-- a slot that is not empty is in the receipts
+pub partition-entry : (m : List ℕ) (p : Partition) (o : Option PartitionEntry) → PartitionSlot m p o → deadPartition p ≡ false
+    → (e : PartitionEntry) × (o ≡ some e) × PartitionIs m p e
+partition-entry m p o empty q = let z : _≡_ {A = ℕ} 0 1 = cc in absurd (omega arith)
+partition-entry m p o (live x e is) q = (e, refl, is)
+
+-- what a live partition's entry says of its numbers
+module _ (m : List ℕ) (p : Partition) (e : PartitionEntry) (is : PartitionIs m p e) where
+  -- as many buffers are free as are not lent
+  pub free-unlent : p .free ≡ length (e .unlent)
+  free-unlent = sym (chain-length m p (partition-shaped m p e is) (live-chain m p (is .sound))) ∙ ap length (is .chained)
+
+  -- there are as many buffers as its entry asks for
+  pub buffers-in : buffers p ≡ buffersIn e
+  buffers-in = rw (is .bytes, is .size)
+
+  pub unlent-once : Distinct (e .unlent)
+  unlent-once = subst (λ (l : List ℕ). Distinct l) (is .chained) (chain-once m p (is .sound))
+
+-- ---- another entry for a partition
+
+abbrev pub keeping : ℕ → Option PartitionEntry → Receipts → Receipts
+keeping id o t = record { regions = t .regions; partitions = put id o (t .partitions); waits = t .waits }
+
+pub on-partition : (id : ℕ) (e : PartitionEntry) (t : Receipts) (g : PartitionEntry → PartitionEntry) → t .partitions id ≡ some e
+    → onPartition id g t ≡ keeping id (some (g e)) t
+on-partition id e t g q = ap (λ (o : Option PartitionEntry). keeping id (mapOption g o) t) q
+
+-- the waits rest on regions alone
+module _ (id : ℕ) (o : Option PartitionEntry) (t : Receipts) where
+  queue-kept : (j : ℕ) (x : Option RegionEntry) → queueAt j x (keeping id o t) ≡ queueAt j x t
+  queue-kept j none = refl
+  queue-kept j (some e) = refl
+
+  queues-kept : (n i : ℕ) → queuesFrom n i (keeping id o t) ≡ queuesFrom n i t
+  unfolding queuesFrom
+  queues-kept zero i = refl
+  queues-kept (suc n) i = rw (queue-kept (idOf i) (t .regions (idOf i)), queues-kept n (suc i))
+
+  wait-kept : (w : Wait) → WaitIs t w → WaitIs (keeping id o t) w
+  wait-kept w a =
+      record {
+        entry = a .entry;
+        found = a .found;
+        lending = a .lending;
+        task-some = a .task-some;
+        task-most = a .task-most;
+        size-some = a .size-some;
+        size-most = a .size-most;
+        priority-some = a .priority-some;
+        priority-most = a .priority-most;
+        time = a .time;
+      }
+
+  all-kept : (ws : List Wait) → AllWaits t ws → AllWaits (keeping id o t) ws
+  unfolding AllWaits
+  all-kept [] a = tt
+  all-kept (w ∷ ws) a = (wait-kept w (a .0), all-kept ws (a .1))
+
+  pub waits-kept : (d d′ : Manager) → d′ .waiters ≡ d .waiters → Waits d t → Waits d′ (keeping id o t)
+  waits-kept d d′ e w = record { all = all-kept (t .waits) (w .all); once = w .once; queue = rw (queues-kept slots 0) (e ∙ w .queue) }
+
+-- ---- a partition put into a slot
+
+module _ (m : List ℕ) (d : Manager) (t : Receipts) (v : Inv m d t) (id : ℕ) (slot : OfSlot id) (p : Partition) where
+  abbrev putting : Manager
+  putting = withPartition d (slotOf id) p
+
+  pub there : partitionOf (withPartition d (slotOf id) p) id ≡ p
+  there =
+      ap (partitionOf putting) (sym (slot .is))
+      ∙ partition-there d (v .region-slots) (v .partition-slots) (slotOf id) (slot .within) p
+
+  pub elsewhere : (j : ℕ) → ¬ (j ≡ id) → partitionOf (withPartition d (slotOf id) p) j ≡ partitionOf d j
+  elsewhere j n =
+      partition-elsewhere d (v .region-slots) (v .partition-slots) (slotOf id) (slot .within) p j
+      (λ (e : j ≡ idOf (slotOf id)). n (e ∙ slot .is))
+
+  -- THE INVARIANT, where the partition is as its entry says
+  module _ (m′ : List ℕ) (o : Option PartitionEntry) (only : Only (p .start) (p .length) m m′)
+      (clear : (x : Object) → ¬ (x ≡ partition id) → Clear (areaOf p) (areaIn d x)) (is : PartitionSlot m′ p o) where
+    slot-at : (j : ℕ) → PartitionSlot m′ (partitionOf putting j) (put id o (t .partitions) j)
+    slot-at j =
+        by-eqb j id (λ (b : Bool). PartitionSlot m′ (partitionOf putting j) (cond b o (t .partitions j)))
+        (λ e. subst (λ (x : Partition). PartitionSlot m′ x o) (sym (ap (partitionOf putting) e ∙ there)) is)
+        (λ n. subst (λ (x : Partition). PartitionSlot m′ x (t .partitions j)) (sym (elsewhere j n))
+        (partition-kept m m′ (areaOf p) (partitionOf d j) (t .partitions j) only
+        (clear (partition j) (λ (e : partition j ≡ partition id). n (cc))) (v .partitions j)))
+
+    pub put-keeps : Inv m′ (withPartition d (slotOf id) p) (keeping id o t)
+    put-keeps =
+        record {
+          words = words-same m m′ (only .size) (v .words);
+          region-slots = v .region-slots;
+          partition-slots = length-set (d .partitions) (slotOf id) p ∙ v .partition-slots;
+          regions = λ j. region-kept m m′ (areaOf p) (regionOf d j) (t .regions j) only
+              (clear (region j) (λ (e : region j ≡ partition id). let z : _≡_ {A = ℕ} 0 1 = cc in omega arith)) (v .regions j);
+          partitions = slot-at;
+          areas = areas-partition d (v .region-slots) (v .partition-slots) (slotOf id) (slot .within) (v .areas) p
+              (λ x n. clear x (λ (e : x ≡ partition id). n (e ∙ ap partition (sym (slot .is)))));
+          waits = waits-kept id o t d putting refl (v .waits);
+        }
+
+-- what is live has a slot, and an area that meets no other object's
+module _ (m : List ℕ) (d : Manager) (t : Receipts) (v : Inv m d t) (id : ℕ) (e : PartitionEntry) (is : PartitionIs m (partitionOf d id) e) where
+  pub live-slot : OfSlot id
+  live-slot = partition-slot d (v .region-slots) (v .partition-slots) id (is .named)
+
+  pub live-clear : (x : Object) → ¬ (x ≡ partition id) → Clear (areaOf (partitionOf d id)) (areaIn d x)
+  live-clear x n = sound-clear d (v .region-slots) (v .partition-slots) (v .areas) (partition id) x (λ (f : partition id ≡ x). n (sym f))
+
+-- ---- words outside the area
+
+pub outside : (p : Partition) → Shaped p → (w : ℕ) → ¬ Inside (p .start) (p .length) w → Outside p w
+outside p s w n = go (leb (p .start) (4 * w)) refl
+  where
+    go : (b : Bool) → leb (p .start) (4 * w) ≡ b → Outside p w
+    go false f = inl (omega (arith, s .aligned, leb-false (p .start) (4 * w) f))
+    go true f = upto (leb (4 * w + 4) (p .start + p .length)) refl
+      where
+        upto : (c : Bool) → leb (4 * w + 4) (p .start + p .length) ≡ c → Outside p w
+        upto true g = absurd (n (record { low = leb-true (p .start) (4 * w) f; high = leb-true (4 * w + 4) (p .start + p .length) g }))
+        upto false g = inr (omega (arith, leb-false (4 * w + 4) (p .start + p .length) g))
+
+-- ---- what a directive that acts keeps
+
+pub kept-done : (c : Call) (t u : Receipts) (m : List ℕ) (d : Manager) (n : ℕ) → entered c n t ≡ u → Inv m d u → Kept c t (done m d n)
+kept-done c t u m d n e v =
+    record {
+      inv = subst (λ (r : Receipts). Inv m d r) (sym (note-done c m d t n Successful refl ∙ e)) v;
+      sound = λ (y : Successful ≡ InternalError). let z : _≡_ {A = ℕ} 0 1 = cc in omega arith;
+    }

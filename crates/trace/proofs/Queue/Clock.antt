@@ -1,0 +1,48 @@
+-- The clock tick keeps the invariant, and its notices are those of the waits whose ticks have run out. Assumes nothing.
+use mathlib.Core.Path.{_≡_, refl, ap, _∙_}
+use mathlib.Core.List.{List, []}
+use Prim.Native.Nat.{ℕ}
+use native.Mathlib.Omega.{arith}
+use Rattle.manager.specs.Record.{slots, tasks}
+use Rattle.manager.specs.Result.{Result}
+use Rattle.manager.specs.Lists.{every}
+use Rattle.manager.specs.Queue.{leaving, afterTick}
+use Rattle.manager.specs.Regions.{tick}
+use Rattle.manager.specs.Perform.{perform}
+use Rattle.manager.specs.declared.Manager.{Manager}
+use Rattle.manager.specs.declared.Call.the-variants.{Tick}
+use Rattle.manager.specs.declared.Status.the-variants.{Successful, InternalError}
+use Rattle.trace.specs.Receipts.{Receipts, withWaits, allLater, allNoticed, note}
+use Rattle.trace.specs.Claims.{dueFrom}
+use Rattle.trace.proofs.Invariant.{Inv}
+use Rattle.trace.proofs.Regions.Checks.{Passed, Kept, kept-checked, acts}
+use Rattle.trace.proofs.Regions.Picture.{pictured, with-waits, any-queue}
+use Rattle.trace.proofs.Regions.Queue.{region-ids, sound-inv}
+use Rattle.trace.proofs.Queue.Line.{keep}
+use Rattle.trace.proofs.Queue.Shown.{Ids, queued}
+use Rattle.trace.proofs.Queue.Ticks.{notDue, tick-notices, tick-receipts, waits-tick}
+
+module _ (m : List ℕ) (d : Manager) (t : Receipts) (v : Inv m d t) where
+  ids : Ids slots t
+  ids = region-ids m d t (pictured v)
+
+  -- what the tick and its notices enter: the waits that were not due, a tick later
+  noted : allNoticed (leaving (d .waiters)) (withWaits (allLater (t .waits)) t) ≡ withWaits (allLater (keep notDue (t .waits))) t
+  noted =
+      ap (λ ns. allNoticed ns (withWaits (allLater (t .waits)) t)) (tick-notices slots tasks d t (v .waits .queue))
+      ∙ tick-receipts slots tasks t (queued d t (v .waits) ids)
+
+  -- THE TICK KEEPS THE INVARIANT
+  pub keeps-tick : Kept Tick t (tick m d)
+  unfolding tick every note afterTick
+  keeps-tick =
+      kept-checked Tick m d t v [] _ (sound-inv m d t v) refl (λ c.
+      record {
+        inv = rw noted (with-waits (any-queue m d t (afterTick d .waiters) (allLater (keep notDue (t .waits))) (pictured v)) (waits-tick d t (v .waits) ids));
+        sound = λ (y : Successful ≡ InternalError). let u : _≡_ {A = ℕ} 0 1 = cc in omega arith;
+      })
+
+  -- A TICK SENDS 6 TO EXACTLY THOSE WHOSE TICKS HAVE RUN OUT
+  pub tick-sends : perform m d Tick .notices ≡ dueFrom slots 0 t
+  unfolding perform tick Passed
+  tick-sends = ap (λ (s : Result). s .notices) (acts m d [] _ (sound-inv m d t v) tt) ∙ tick-notices slots tasks d t (v .waits .queue)

@@ -1,0 +1,123 @@
+-- The entry of a region, read off a sound record: its numbers are the record's, and its loans are the held segments of its map. Assumes
+-- nothing.
+use mathlib.Core.Path.{_≡_, refl, sym, ap, _∙_, subst}
+use mathlib.Core.Bool.{Bool, true, false, cond, _&&_}
+use mathlib.Core.List.{List}
+use mathlib.Core.Option.{Option, none, some}
+use Prim.Native.Nat.{ℕ, _%_, _≤_}
+use native.Mathlib.Omega.{arith}
+use lib.ListN.{length}
+use lib.Dec.{eqb, leb}
+use borrow.Author.Tests.{eqb-true, eqb-false, leb-true}
+use Rattle.manager.specs.Lists.Laws.{and-first, and-second}
+use Rattle.manager.specs.Map.{soundMap, draw}
+use Rattle.manager.specs.Record.{noRegion}
+use Rattle.manager.specs.Region.{dead, pagesOf, mapWords, segments}
+use Rattle.manager.specs.Sound.{inside, soundPage, isFifo, emptyRegion, liveRegion, soundRegion}
+use Rattle.manager.specs.declared.Region.{Region}
+use Rattle.manager.specs.declared.Order.{Order}
+use Rattle.manager.specs.declared.Order.the-variants.{Fifo, Priority}
+use Rattle.trace.specs.Loans.{Loan, Ordered, drawn}
+use Rattle.trace.specs.Receipts.{RegionEntry, unit, pagesIn}
+use Rattle.trace.proofs.Invariant.{regionFor, RegionIs, RegionSlot, empty, live}
+use Rattle.trace.proofs.Frame.{map-fits, map-length, inside-parts}
+use Rattle.trace.proofs.Loans.Words.{loansOf, sound-loans}
+use Rattle.manager.specs.Map.Laws.{redraw}
+
+-- the clauses of a live region
+pub record RegionParts (m : List ℕ) (r : Region) : Type 0 where
+  pub inside : inside m (r .start) (r .length) ≡ true
+  pub least : 8 ≤ r .page
+  pub most : r .page ≤ 4096
+  pub whole : r .page % 8 ≡ 0
+  pub some-page : 1 ≤ pagesOf r
+  pub map : soundMap (mapWords m r) ≡ true
+
+pub region-parts : (m : List ℕ) (r : Region) → liveRegion m r ≡ true → RegionParts m r
+unfolding liveRegion
+region-parts m r e =
+    let i = inside m (r .start) (r .length) in
+    let s = leb 1 (pagesOf r) && soundMap (mapWords m r) in
+    let e₁ = and-second i (soundPage (r .page) && s) e in
+    let p = and-first (soundPage (r .page)) s e₁ in
+    let p₁ = and-second (leb 8 (r .page)) (leb (r .page) 4096 && eqb (r .page % 8) 0) p in
+    let e₂ = and-second (soundPage (r .page)) s e₁ in
+    record {
+      inside = and-first i (soundPage (r .page) && s) e;
+      least = leb-true 8 (r .page) (and-first (leb 8 (r .page)) (leb (r .page) 4096 && eqb (r .page % 8) 0) p);
+      most = leb-true (r .page) 4096 (and-first (leb (r .page) 4096) (eqb (r .page % 8) 0) p₁);
+      whole = eqb-true (r .page % 8) 0 (and-second (leb (r .page) 4096) (eqb (r .page % 8) 0) p₁);
+      some-page = leb-true 1 (pagesOf r) (and-first (leb 1 (pagesOf r)) (soundMap (mapWords m r)) e₂);
+      map = and-second (leb 1 (pagesOf r)) (soundMap (mapWords m r)) e₂;
+    }
+
+-- the entry of a region, and of a slot
+abbrev pub entryOf : List ℕ → Region → RegionEntry
+entryOf m r = record { name = r .name; start = r .start; bytes = r .length; page = r .page; order = r .order; loans = loansOf 0 (segments m r) }
+
+abbrev pub slotEntry : List ℕ → Region → Option RegionEntry
+slotEntry m r = cond (dead r) none (some (entryOf m r))
+
+-- an empty slot is all zeros
+pub no-region : (r : Region) → r .name ≡ 0 → emptyRegion r ≡ true → r ≡ noRegion
+no-region r n e =
+    let a = eqb (r .start) 0 in
+    let b = eqb (r .length) 0 in
+    let c = eqb (r .page) 0 in
+    let f = isFifo (r .order) in
+    let e₁ = and-second a (b && (c && f)) e in
+    let e₂ = and-second b (c && f) e₁ in
+    let s : r .start ≡ 0 = eqb-true (r .start) 0 (and-first a (b && (c && f)) e) in
+    let l : r .length ≡ 0 = eqb-true (r .length) 0 (and-first b (c && f) e₁) in
+    let p : r .page ≡ 0 = eqb-true (r .page) 0 (and-first c f e₂) in
+    let o : r .order ≡ Fifo = fifo (r .order) (and-second c f e₂) in
+    λ i. record { name = n i; start = s i; length = l i; page = p i; order = o i }
+  where
+    fifo : (o : Order) → isFifo o ≡ true → o ≡ Fifo
+    fifo Fifo e = refl
+    fifo Priority e = absurd (let z : _≡_ {A = ℕ} 0 1 = cc in omega arith)
+
+-- a page size that is a multiple of 8 stays as it is
+pub unit-same : (m : List ℕ) (r : Region) → r .page % 8 ≡ 0 → unit (entryOf m r) ≡ r .page
+unit-same m r h = omega arith
+
+pub region-back : (m : List ℕ) (r : Region) → r .page % 8 ≡ 0 → r ≡ regionFor (entryOf m r)
+region-back m r h =
+    let u : r .page ≡ unit (entryOf m r) = sym (unit-same m r h) in
+    λ i. record { name = r .name; start = r .start; length = r .length; page = u i; order = r .order }
+
+-- a live region, of an entry whose loans are its held segments
+pub is-region : (m : List ℕ) (e : RegionEntry) → ¬ (e .name ≡ 0) → RegionParts m (regionFor e) → 1 ≤ e .page → e .page ≤ 4096
+    → e .loans ≡ loansOf 0 (segments m (regionFor e)) → RegionIs m e
+is-region m e n q l h s =
+    let ws = mapWords m (regionFor e) in
+    let f = map-fits (e .start) (e .bytes) (unit e) (length m) (omega (arith, q .least)) (q .some-page) (inside-parts m (e .start) (e .bytes) (q .inside) .upto) in
+    let z : length ws ≡ pagesIn e = map-length m (regionFor e) f in
+    let x = sound-loans ws (q .map) in
+    record {
+      named = n;
+      inside = q .inside;
+      page-some = l;
+      page-most = h;
+      some-page = q .some-page;
+      ordered = subst (λ (k : ℕ). Ordered k 0 (e .loans)) z (rw s (x .ordered));
+      map =
+          sym (redraw ws (q .map)) ∙ ap draw (x .drawing)
+          ∙ ap (λ (k : ℕ). draw (drawn k 0 (loansOf 0 (segments m (regionFor e))))) z
+          ∙ ap (λ (l : List Loan). draw (drawn (pagesIn e) 0 l)) (sym s);
+    }
+
+-- A SOUND SLOT IS THE PICTURE OF ITS ENTRY
+pub region-read : (m : List ℕ) (r : Region) → soundRegion m r ≡ true → RegionSlot m r (slotEntry m r)
+unfolding soundRegion
+region-read m r e = go (dead r) refl
+  where
+    go : (b : Bool) → dead r ≡ b → RegionSlot m r (cond b none (some (entryOf m r)))
+    go true f =
+        subst (λ (x : Region). RegionSlot m x none) (sym (no-region r (eqb-true (r .name) 0 f) (rw f at e))) empty
+    go false f =
+        let g : liveRegion m r ≡ true = rw f at e in
+        let q = region-parts m r g in
+        let b = region-back m r (q .whole) in
+        subst (λ (x : Region). RegionSlot m x (some (entryOf m r))) (sym b)
+        (live (entryOf m r) (is-region m (entryOf m r) (eqb-false (r .name) 0 f) (subst (RegionParts m) b q) (omega (arith, q .least)) (q .most) (ap (λ (x : Region). loansOf 0 (segments m x)) b)))

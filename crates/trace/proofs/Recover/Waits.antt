@@ -1,0 +1,233 @@
+-- The waits of a sound record: its used places, each as a wait that has begun with the ticks that it has left. Assumes nothing.
+use mathlib.Core.Path.{_≡_, refl, sym, ap, _∙_, subst}
+use mathlib.Core.Bool.{Bool, true, false, cond, not, _&&_, true≢false}
+use mathlib.Core.List.{List, [], _∷_, _++_}
+use mathlib.Core.Logic.{_⊎_, inl, inr, ⊎-elim}
+use Prim.Native.Nat.{ℕ, zero, suc, _+_, _-_, _≤_}
+use native.Mathlib.Nat.{eq-zero-or-pos, sub-zero}
+use native.Mathlib.Omega.{arith}
+use lib.ListN.{length, replicate}
+use lib.Dec.{eqb, leb}
+use borrow.Author.Tests.{eqb-true, eqb-false, leb-true, not-true}
+use Rattle.arith.specs.Round.{pagesFor}
+use Rattle.arith.specs.Layout.{pageCount}
+use Rattle.manager.specs.Lists.{every, some as someOf, pairwise, adjacent}
+use Rattle.manager.specs.Lists.Laws.{and-first, and-second}
+use Rattle.manager.specs.Map.{Segment, free, held, isHeldSegment}
+use Rattle.manager.specs.Record.{tasks, noWaiter, regionOf}
+use Rattle.manager.specs.Region.{dead, pagesOf, pagesAsked, anyHeld, segments}
+use Rattle.manager.specs.Queue.{goesBefore}
+use Rattle.manager.specs.Sound.{unused, emptyWaiter, soundWaiter, soundPlace, otherTask, inOrder, liveRegion, soundRegion}
+use Rattle.manager.specs.declared.Manager.{Manager}
+use Rattle.manager.specs.declared.Region.{Region}
+use Rattle.manager.specs.declared.Waiter.{Waiter}
+use Rattle.trace.specs.Receipts.{Receipts, Wait, unit, Within, Distinct}
+use Rattle.trace.specs.Claims.{waiterOf, waitersOf}
+use Rattle.trace.proofs.Invariant.{WaitIs, AllWaits, tasksOf}
+use Rattle.trace.proofs.Loans.Words.{loansOf}
+use Rattle.trace.proofs.Recover.Region.{entryOf, slotEntry, unit-same, region-parts}
+
+-- a waiter as a wait, and the used places of a queue
+abbrev pub waitFor : Waiter → Wait
+waitFor w = record { task = w .task; id = w .region; size = w .size; priority = w .priority; ticks = w .ticks; since = 0 }
+
+unfoldable pub waitsOf : List Waiter → List Wait
+waitsOf [] = []
+waitsOf (w ∷ ws) = cond (unused w) (waitsOf ws) (waitFor w ∷ waitsOf ws)
+
+pub waits-skip : (w : Waiter) (ws : List Waiter) → unused w ≡ true → waitsOf (w ∷ ws) ≡ waitsOf ws
+unfolding waitsOf
+waits-skip w ws e = rw e
+
+pub waits-cons : (w : Waiter) (ws : List Waiter) → unused w ≡ false → waitsOf (w ∷ ws) ≡ waitFor w ∷ waitsOf ws
+unfolding waitsOf
+waits-cons w ws e = rw e
+
+pub waiter-back : (w : Waiter) → waiterOf (waitFor w) ≡ w
+waiter-back w =
+    let e : w .ticks - 0 ≡ w .ticks = sub-zero (w .ticks) in
+    λ i. record { task = w .task; region = w .region; size = w .size; priority = w .priority; ticks = e i }
+
+pub either-way : (b : Bool) → (b ≡ true) ⊎ (b ≡ false)
+either-way true = inl refl
+either-way false = inr refl
+
+-- an unused place is all zeros
+pub no-waiter : (w : Waiter) → emptyWaiter w ≡ true → w ≡ noWaiter
+no-waiter w e =
+    let t = eqb (w .task) 0 in
+    let r = eqb (w .region) 0 in
+    let s = eqb (w .size) 0 in
+    let p = eqb (w .priority) 0 in
+    let k = eqb (w .ticks) 0 in
+    let e₁ = and-second t (r && (s && (p && k))) e in
+    let e₂ = and-second r (s && (p && k)) e₁ in
+    let e₃ = and-second s (p && k) e₂ in
+    let f₁ : w .task ≡ 0 = eqb-true (w .task) 0 (and-first t (r && (s && (p && k))) e) in
+    let f₂ : w .region ≡ 0 = eqb-true (w .region) 0 (and-first r (s && (p && k)) e₁) in
+    let f₃ : w .size ≡ 0 = eqb-true (w .size) 0 (and-first s (p && k) e₂) in
+    let f₄ : w .priority ≡ 0 = eqb-true (w .priority) 0 (and-first p k e₃) in
+    let f₅ : w .ticks ≡ 0 = eqb-true (w .ticks) 0 (and-second p k e₃) in
+    λ i. record { task = f₁ i; region = f₂ i; size = f₃ i; priority = f₄ i; ticks = f₅ i }
+
+-- ---- the used places come first
+
+pub adjacent-tail : {A : Type 0} (t : A → A → Bool) (x : A) (l : List A) → adjacent t (x ∷ l) ≡ true → adjacent t l ≡ true
+unfolding adjacent
+adjacent-tail t x [] e = refl
+adjacent-tail t x (y ∷ l) e = and-second (t x y) (adjacent t (y ∷ l)) e
+
+pub adjacent-next : {A : Type 0} (t : A → A → Bool) (x y : A) (l : List A) → adjacent t (x ∷ y ∷ l) ≡ true → t x y ≡ true
+unfolding adjacent
+adjacent-next t x y l e = and-first (t x y) (adjacent t (y ∷ l)) e
+
+pub every-here : {A : Type 0} (t : A → Bool) (x : A) (l : List A) → every t (x ∷ l) ≡ true → t x ≡ true
+unfolding every
+every-here t x l e = and-first (t x) (every t l) e
+
+pub every-tail : {A : Type 0} (t : A → Bool) (x : A) (l : List A) → every t (x ∷ l) ≡ true → every t l ≡ true
+unfolding every
+every-tail t x l e = and-second (t x) (every t l) e
+
+module _ (m : List ℕ) (d : Manager) where
+  place-unused : (w : Waiter) → soundPlace m d w ≡ true → unused w ≡ true → w ≡ noWaiter
+  unfolding soundPlace
+  place-unused w e f = no-waiter w (rw f (rw f at e))
+
+  -- behind an unused place all are unused
+  next-unused : (w x : Waiter) → inOrder d w x ≡ true → unused w ≡ true → unused x ≡ true
+  unfolding goesBefore
+  next-unused w x e f = ⊎-elim (λ (g : unused x ≡ true). g) (λ (g : unused x ≡ false). absurd (true≢false (sym (rw (g, f) at e)))) (either-way (unused x))
+
+  pub all-unused : (w : Waiter) (ws : List Waiter) → every (soundPlace m d) (w ∷ ws) ≡ true → adjacent (inOrder d) (w ∷ ws) ≡ true → unused w ≡ true
+      → (w ∷ ws ≡ replicate (suc (length ws)) noWaiter) × (waitsOf (w ∷ ws) ≡ [])
+  unfolding waitsOf
+  all-unused w [] e o f = (ap (λ (x : Waiter). x ∷ []) (place-unused w (every-here (soundPlace m d) w [] e) f), waits-skip w [] f)
+  all-unused w (x ∷ ws) e o f =
+      let r = all-unused x ws (every-tail (soundPlace m d) w (x ∷ ws) e) (adjacent-tail (inOrder d) w (x ∷ ws) o) (next-unused w x (adjacent-next (inOrder d) w x ws o) f) in
+      let z : w ≡ noWaiter = place-unused w (every-here (soundPlace m d) w (x ∷ ws) e) f in
+      (ap (λ (y : Waiter). y ∷ x ∷ ws) z ∙ ap (λ (l : List Waiter). noWaiter ∷ l) (r .0), waits-skip w (x ∷ ws) f ∙ r .1)
+
+  -- THE QUEUE IS ITS USED PLACES, and unused ones behind them
+  pub queue-back : (ws : List Waiter) → every (soundPlace m d) ws ≡ true → adjacent (inOrder d) ws ≡ true
+      → ws ≡ waitersOf (waitsOf ws) ++ replicate (length ws - length (waitersOf (waitsOf ws))) noWaiter
+  unfolding waitsOf waitersOf
+  queue-back [] e o = refl
+  queue-back (w ∷ ws) e o = go (either-way (unused w)) (queue-back ws (every-tail (soundPlace m d) w ws e) (adjacent-tail (inOrder d) w ws o))
+    where
+      go : (unused w ≡ true) ⊎ (unused w ≡ false) → ws ≡ waitersOf (waitsOf ws) ++ replicate (length ws - length (waitersOf (waitsOf ws))) noWaiter
+          → w ∷ ws ≡ waitersOf (waitsOf (w ∷ ws)) ++ replicate (suc (length ws) - length (waitersOf (waitsOf (w ∷ ws)))) noWaiter
+      go (inl f) ih =
+          let r = all-unused w ws e o f in
+          let z : suc (length ws) - 0 ≡ suc (length ws) = sub-zero (suc (length ws)) in
+          subst (λ (l : List Wait). w ∷ ws ≡ waitersOf l ++ replicate (suc (length ws) - length (waitersOf l)) noWaiter) (sym (r .1)) (rw z (r .0))
+      go (inr f) ih =
+          let z : suc (length ws) - suc (length (waitersOf (waitsOf ws))) ≡ length ws - length (waitersOf (waitsOf ws)) = omega arith in
+          subst (λ (l : List Wait). w ∷ ws ≡ waitersOf l ++ replicate (suc (length ws) - length (waitersOf l)) noWaiter) (sym (waits-cons w ws f))
+          (rw z (ap (λ (x : Waiter). x ∷ ws) (sym (waiter-back w)) ∙ ap (λ (l : List Waiter). waiterOf (waitFor w) ∷ l) ih))
+
+-- ---- each wait, and each task once
+
+-- a map with something held has a loan
+pub some-loan : (at : ℕ) (s : List Segment) → someOf isHeldSegment s ≡ true → ¬ (loansOf at s ≡ [])
+unfolding someOf loansOf
+some-loan at [] e f = true≢false (sym e)
+some-loan at (free n ∷ s) e f = some-loan (at + n) s e f
+some-loan at (held n ∷ s) e f = let z : _≡_ {A = ℕ} 0 1 = cc in omega arith
+
+-- the clauses of a used place
+pub record WaiterParts (m : List ℕ) (r : Region) (w : Waiter) : Type 0 where
+  pub task-most : w .task ≤ tasks
+  pub alive : dead r ≡ false
+  pub lending : anyHeld m r ≡ true
+  pub size-some : 1 ≤ w .size
+  pub size-most : pagesFor (w .size) (r .page) ≤ pagesOf r
+  pub priority-some : 1 ≤ w .priority
+  pub priority-most : w .priority ≤ 255
+
+pub waiter-parts : (m : List ℕ) (d : Manager) (w : Waiter) → soundPlace m d w ≡ true → unused w ≡ false → WaiterParts m (regionOf d (w .region)) w
+unfolding soundPlace soundWaiter
+waiter-parts m d w e f =
+    let r = regionOf d (w .region) in
+    let g : soundWaiter m d w ≡ true = rw f at e in
+    let t = leb (w .task) tasks in
+    let a = not (dead r) in
+    let h = anyHeld m r in
+    let s = leb 1 (w .size) in
+    let u = leb (pagesAsked r (w .size)) (pagesOf r) in
+    let p = leb 1 (w .priority) in
+    let q = leb (w .priority) 255 in
+    let g₁ = and-second t (a && (h && (s && (u && (p && q))))) g in
+    let g₂ = and-second a (h && (s && (u && (p && q)))) g₁ in
+    let g₃ = and-second h (s && (u && (p && q))) g₂ in
+    let g₄ = and-second s (u && (p && q)) g₃ in
+    let g₅ = and-second u (p && q) g₄ in
+    record {
+      task-most = leb-true (w .task) tasks (and-first t (a && (h && (s && (u && (p && q))))) g);
+      alive = not-true (dead r) (and-first a (h && (s && (u && (p && q)))) g₁);
+      lending = and-first h (s && (u && (p && q))) g₂;
+      size-some = leb-true 1 (w .size) (and-first s (u && (p && q)) g₃);
+      size-most = leb-true (pagesAsked r (w .size)) (pagesOf r) (and-first u (p && q) g₄);
+      priority-some = leb-true 1 (w .priority) (and-first p q g₅);
+      priority-most = leb-true (w .priority) 255 (and-second p q g₅);
+    }
+
+pub live-clauses : (m : List ℕ) (r : Region) → soundRegion m r ≡ true → dead r ≡ false → liveRegion m r ≡ true
+unfolding soundRegion
+live-clauses m r e f = rw f at e
+
+module _ (m : List ℕ) (d : Manager) (t : Receipts) (entries : (id : ℕ) → t .regions id ≡ slotEntry m (regionOf d id))
+    (sounds : (id : ℕ) → soundRegion m (regionOf d id) ≡ true) where
+  pub wait-is : (w : Waiter) → soundPlace m d w ≡ true → unused w ≡ false → WaitIs t (waitFor w)
+  wait-is w e f =
+      let r = regionOf d (w .region) in
+      let p = waiter-parts m d w e f in
+      let q = region-parts m r (live-clauses m r (sounds (w .region)) (p .alive)) in
+      let u : unit (entryOf m r) ≡ r .page = unit-same m r (q .whole) in
+      record {
+        entry = entryOf m r;
+        found = entries (w .region) ∙ rw (p .alive);
+        lending = some-loan 0 (segments m r) (p .lending);
+        task-some = pos (w .task) (eqb-false (w .task) 0 f);
+        task-most = p .task-most;
+        size-some = p .size-some;
+        size-most = subst (λ (x : ℕ). pagesFor (w .size) x ≤ pageCount (r .start) (r .length) x) (sym u) (p .size-most);
+        priority-some = p .priority-some;
+        priority-most = p .priority-most;
+        time = eq-zero-or-pos (w .ticks);
+      }
+    where
+      pos : (k : ℕ) → (k ≡ 0 → ⊥) → 1 ≤ k
+      pos zero n = absurd (n refl)
+      pos (suc k) n = omega arith
+
+  pub all-waits : (ws : List Waiter) → every (soundPlace m d) ws ≡ true → AllWaits t (waitsOf ws)
+  unfolding AllWaits waitsOf
+  all-waits [] e = tt
+  all-waits (w ∷ ws) e = go (either-way (unused w)) (all-waits ws (every-tail (soundPlace m d) w ws e))
+    where
+      go : (unused w ≡ true) ⊎ (unused w ≡ false) → AllWaits t (waitsOf ws) → AllWaits t (waitsOf (w ∷ ws))
+      go (inl f) ih = rw f ih
+      go (inr f) ih = rw f (wait-is w (every-here (soundPlace m d) w ws e) f, ih)
+
+-- a task is not among those of places that have other tasks
+other-tasks : (w : Waiter) (ws : List Waiter) → unused w ≡ false → every (otherTask w) ws ≡ true → ¬ Within (w .task) (tasksOf (waitsOf ws))
+unfolding Within tasksOf waitsOf
+other-tasks w [] f e = λ (h : ⊥). h
+other-tasks w (x ∷ ws) f e = go (either-way (unused x)) (other-tasks w ws f (every-tail (otherTask w) x ws e))
+  where
+    go : (unused x ≡ true) ⊎ (unused x ≡ false) → ¬ Within (w .task) (tasksOf (waitsOf ws)) → ¬ Within (w .task) (tasksOf (waitsOf (x ∷ ws)))
+    go (inl g) ih = rw g ih
+    go (inr g) ih =
+        let n : eqb (w .task) (x .task) ≡ false = not-true (eqb (w .task) (x .task)) (rw f at (every-here (otherTask w) x ws e)) in
+        rw g (⊎-elim (λ (q : x .task ≡ w .task). eqb-false (w .task) (x .task) n (sym q)) ih)
+
+-- EACH TASK WAITS ONCE
+pub tasks-once : (ws : List Waiter) → pairwise otherTask ws ≡ true → Distinct (tasksOf (waitsOf ws))
+unfolding Distinct tasksOf waitsOf pairwise
+tasks-once [] e = tt
+tasks-once (w ∷ ws) e = go (either-way (unused w)) (tasks-once ws (and-second (every (otherTask w) ws) (pairwise otherTask ws) e))
+  where
+    go : (unused w ≡ true) ⊎ (unused w ≡ false) → Distinct (tasksOf (waitsOf ws)) → Distinct (tasksOf (waitsOf (w ∷ ws)))
+    go (inl f) ih = rw f ih
+    go (inr f) ih = rw f (other-tasks w ws f (and-first (every (otherTask w) ws) (pairwise otherTask ws) e), ih)

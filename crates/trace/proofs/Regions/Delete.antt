@@ -1,0 +1,77 @@
+-- A delete of a region with nothing held: nobody waits for it, and its slot is emptied. Assumes nothing.
+use mathlib.Core.Path.{_≡_, refl, sym, ap, _∙_, subst}
+use mathlib.Core.Bool.{Bool, false, cond}
+use mathlib.Core.List.{List, []}
+use mathlib.Core.Option.{none, some}
+use Prim.Native.Nat.{ℕ}
+use native.Mathlib.Omega.{arith}
+use lib.ListN.{length-set}
+use Rattle.manager.specs.Record.{noRegion, regionOf, slotOf, idOf, withRegion}
+use Rattle.manager.specs.Result.{done}
+use Rattle.manager.specs.Lists as lists
+use Rattle.manager.specs.Region.{anyHeld}
+use Rattle.manager.specs.Regions.{deleteRegion}
+use Rattle.manager.specs.declared.Manager.{Manager}
+use Rattle.manager.specs.declared.Region.{Region}
+use Rattle.manager.specs.declared.Call.the-variants.{DeleteRegion}
+use Rattle.manager.specs.declared.Status.the-variants.{Successful, InternalError}
+use Rattle.trace.specs.Receipts.{Receipts, RegionEntry, put}
+use Rattle.trace.specs.Claims.{waitsIn}
+use Rattle.trace.proofs.Invariant.{regionFor, RegionSlot, empty, Inv}
+use Rattle.trace.proofs.Areas.{OfSlot, region-slot, region-there, region-elsewhere, areas-no-region}
+use Rattle.trace.proofs.Clients.{RegionAt}
+use Rattle.trace.proofs.Loans.Tests.{by-eqb}
+use Rattle.trace.proofs.Loans.Lawful.{none-held}
+use Rattle.trace.proofs.Loans.Pages.{pages}
+use Rattle.trace.proofs.Regions.Checks.{Passed, note-done, Kept, kept-checked}
+use Rattle.trace.proofs.Regions.Live.{law, slot-entry, map-drawing}
+use Rattle.trace.proofs.Regions.Picture.{Picture, with-waits}
+use Rattle.trace.proofs.Regions.Lending.{none-lent, registering, waits-put}
+use Rattle.trace.proofs.Regions.Queue.{sound-inv}
+
+module _ (m : List ℕ) (d : Manager) (t : Receipts) (v : Inv m d t) (id : ℕ) where
+  module _ (e : RegionEntry) (q : t .regions id ≡ some e) (at : RegionAt m (regionOf d id) e) (h : anyHeld m (regionFor e) ≡ false) where
+    slot : OfSlot id
+    slot =
+        region-slot d (v .region-slots) (v .partition-slots) id
+        (subst (λ (r : Region). ¬ (r .name ≡ 0)) (sym (at .region)) (at .is .named))
+
+    nobody : waitsIn id (t .waits) ≡ []
+    nobody = none-lent t id e (t .waits) (v .waits .all) q (none-held _ pages (law (regionFor e)) (e .loans) (map-drawing m e (at .is)) h)
+
+    slot-at : (j : ℕ) → RegionSlot m (regionOf (withRegion d (slotOf id) noRegion) j) (put id none (t .regions) j)
+    slot-at j =
+        by-eqb j id (λ (b : Bool). RegionSlot m (regionOf (withRegion d (slotOf id) noRegion) j) (cond b none (t .regions j)))
+        (λ p. subst (λ (r : Region). RegionSlot m r none)
+        (sym (ap (regionOf (withRegion d (slotOf id) noRegion)) (p ∙ sym (slot .is)) ∙ region-there d (v .region-slots) (v .partition-slots) (slotOf id) (slot .within) noRegion))
+        empty)
+        (λ p. subst (λ (r : Region). RegionSlot m r (t .regions j))
+        (sym (region-elsewhere d (v .region-slots) (v .partition-slots) (slotOf id) (slot .within) noRegion j (λ (x : j ≡ idOf (slotOf id)). p (x ∙ slot .is))))
+        (v .regions j))
+
+    picture : Picture m (withRegion d (slotOf id) noRegion) (registering id none t)
+    picture =
+        record {
+          words = v .words;
+          region-slots = length-set (d .regions) (slotOf id) noRegion ∙ v .region-slots;
+          partition-slots = v .partition-slots;
+          regions = slot-at;
+          partitions = v .partitions;
+          areas = areas-no-region d (v .region-slots) (v .partition-slots) (slotOf id) (slot .within) (v .areas);
+        }
+
+    act-kept : Kept (DeleteRegion id) t (done m (withRegion d (slotOf id) noRegion) 0)
+    act-kept =
+        record {
+          inv = rw (note-done (DeleteRegion id) m (withRegion d (slotOf id) noRegion) t 0 Successful refl)
+              (with-waits picture (waits-put t id none d (withRegion d (slotOf id) noRegion) refl nobody (v .waits)));
+          sound = λ (y : Successful ≡ InternalError). let u : _≡_ {A = ℕ} 0 1 = cc in omega arith;
+        }
+
+  -- A DELETE KEEPS THE PICTURE
+  pub keeps-delete : Kept (DeleteRegion id) t (deleteRegion m d id)
+  unfolding deleteRegion lists.every Passed
+  keeps-delete =
+      kept-checked (DeleteRegion id) m d t v _ _ (sound-inv m d t v) refl
+      (λ c. let s = slot-entry m (regionOf d id) (t .regions id) (v .regions id) (c .0) in
+      act-kept (s .0) (s .1) (s .2) (subst (λ (r : Region). anyHeld m r ≡ false) (s .2 .region) (c .1 .0)))

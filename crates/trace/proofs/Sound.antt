@@ -1,0 +1,52 @@
+-- The invariant gives a sound record, clause by clause: each slot's picture is what its test asks. The queue's clause is a premise here.
+-- Assumes nothing.
+use mathlib.Core.Path.{_≡_, refl}
+use mathlib.Core.Bool.{true}
+use mathlib.Core.List.{List}
+use mathlib.Core.Option.{Option}
+use Prim.Native.Nat.{ℕ, _%_, _≤_}
+use borrow.Author.Tests.{eq-eqb, ne-eqb, le-leb}
+use Rattle.manager.specs.Record.{noRegion, noPartition, idOf, regionOf, partitionOf}
+use Rattle.manager.specs.Sound.{inside, soundPage, liveRegion, soundRegion, soundPartition, soundQueue, sound}
+use Rattle.manager.specs.declared.Manager.{Manager}
+use Rattle.manager.specs.declared.Region.{Region}
+use Rattle.manager.specs.declared.Partition.{Partition}
+use Rattle.trace.specs.Receipts.{Receipts, RegionEntry, PartitionEntry, unit, pagesIn}
+use Rattle.trace.proofs.Invariant.{regionFor, RegionIs, RegionSlot, PartitionSlot, Inv, empty, live}
+use Rattle.trace.proofs.Frame.{unit-least, unit-most, unit-whole}
+use Rattle.trace.proofs.Areas.{at-every}
+use Rattle.trace.proofs.Loans.Words.{sound as drawn-sound}
+
+-- a page size as create leaves it
+pub unit-sound : (e : RegionEntry) → 1 ≤ e .page → e .page ≤ 4096 → soundPage (unit e) ≡ true
+unit-sound e l h =
+    rw (le-leb 8 (unit e) (unit-least e l), le-leb (unit e) 4096 (unit-most e h), eq-eqb (unit e % 8) 0 (unit-whole e))
+
+-- a live region's clause
+pub region-live : (m : List ℕ) (e : RegionEntry) → RegionIs m e → liveRegion m (regionFor e) ≡ true
+unfolding liveRegion
+region-live m e is =
+    rw (is .inside, unit-sound e (is .page-some) (is .page-most), le-leb 1 (pagesIn e) (is .some-page), is .map)
+    (drawn-sound (pagesIn e) 0 (e .loans) (is .ordered))
+
+pub region-sound : (m : List ℕ) (r : Region) (o : Option RegionEntry) → RegionSlot m r o → soundRegion m r ≡ true
+unfolding soundRegion
+region-sound m r o empty = refl
+region-sound m r o (live e is) = rw (ne-eqb (e .name) 0 (is .named)) (region-live m e is)
+
+-- a live partition's
+pub partition-sound : (m : List ℕ) (p : Partition) (o : Option PartitionEntry) → PartitionSlot m p o → soundPartition m p ≡ true
+unfolding soundPartition
+partition-sound m p o empty = refl
+partition-sound m p o (live q e is) = rw (ne-eqb (p .name) 0 (is .named)) (is .sound)
+
+-- THE INVARIANT GIVES A SOUND RECORD
+pub inv-sound : (m : List ℕ) (d : Manager) (t : Receipts) → Inv m d t → soundQueue m d ≡ true → sound m d ≡ true
+unfolding sound
+inv-sound m d t v q =
+    rw (
+      v .words,
+      at-every noRegion (soundRegion m) (d .regions) (λ i h. region-sound m (regionOf d (idOf i)) (t .regions (idOf i)) (v .regions (idOf i))),
+      at-every noPartition (soundPartition m) (d .partitions) (λ i h. partition-sound m (partitionOf d (idOf i)) (t .partitions (idOf i)) (v .partitions (idOf i))),
+      v .areas,
+    ) q

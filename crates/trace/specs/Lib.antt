@@ -1,0 +1,4 @@
+pub mod Loans
+pub mod Receipts
+pub mod Trace
+pub mod Claims

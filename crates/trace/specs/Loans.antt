@@ -1,0 +1,71 @@
+-- Document 01, "Receipts, for demand 3": the loans of one region, and what is read off them alone: which pages are held, the runs of
+-- unheld pages, and the drawn map. Nothing here looks at a map or at a memory. Assumes nothing.
+use mathlib.Core.Path.{_≡_}
+use mathlib.Core.Bool.{Bool, cond}
+use mathlib.Core.List.{List, [], _∷_}
+use mathlib.Core.Logic.{_⊎_}
+use Prim.Native.Nat.{ℕ, zero, suc, _+_, _-_, _≤_, _<_}
+use lib.Dec.{leb, eqb}
+use Rattle.manager.specs.Map.{Segment, free, held}
+use Rattle.manager.specs.Paged.{free+}
+
+-- a loan of pages: its first page, and how many
+pub data Loan : Type 0 where
+  loan : ℕ → ℕ → Loan
+
+-- a loan entered, in the order of the pages
+unfoldable pub enter : ℕ → ℕ → List Loan → List Loan
+enter p k [] = loan p k ∷ []
+enter p k (loan a n ∷ l) = cond (leb p a) (loan p k ∷ loan a n ∷ l) (loan a n ∷ enter p k l)
+
+-- a loan in front; of no pages: nothing
+abbrev pub loan+ : ℕ → ℕ → List Loan → List Loan
+loan+ a zero l = l
+loan+ a (suc k) l = loan a (suc k) ∷ l
+
+-- the loan at page p has k pages from now on (0: it is struck)
+unfoldable pub amend : ℕ → ℕ → List Loan → List Loan
+amend p k [] = []
+amend p k (loan a n ∷ l) = cond (eqb a p) (loan+ a k l) (loan a n ∷ amend p k l)
+
+-- a loan of k pages at page p is there
+unfoldable pub Lent : List Loan → ℕ → ℕ → Type 0
+Lent [] p k = ⊥
+Lent (loan a n ∷ l) p k = ((a ≡ p) × (n ≡ k)) ⊎ Lent l p k
+
+-- "Held is what a loan covers": page q is
+unfoldable pub Held : List Loan → ℕ → Type 0
+Held [] q = ⊥
+Held (loan a n ∷ l) q = ((a ≤ q) × (q < a + n)) ⊎ Held l q
+
+-- the loans' pages: of each, and of all
+unfoldable pub loanPages : List Loan → List ℕ
+loanPages [] = []
+loanPages (loan a n ∷ l) = n ∷ loanPages l
+
+-- THE DRAWN MAP, from page `at` to page n: "a held segment for each loan and a free one for each unbroken run of unheld pages, taken
+-- whole"
+unfoldable pub drawn : ℕ → ℕ → List Loan → List Segment
+drawn n at [] = free+ (n - at) []
+drawn n at (loan a k ∷ l) = free+ (a - at) (held k ∷ drawn n (a + k) l)
+
+-- the loans lie in order between page `at` and page n, each of a page or more, and none starts before the one before it has ended
+unfoldable pub Ordered : ℕ → ℕ → List Loan → Type 0
+Ordered n at [] = at ≤ n
+Ordered n at (loan a k ∷ l) = (at ≤ a) × (0 < k) × Ordered n (a + k) l
+
+-- a run: k adjoining pages from p on, one or more, of n pages, none of them held
+pub record Run (n : ℕ) (l : List Loan) (k p : ℕ) : Type 0 where
+  pub some : 0 < k
+  pub upto : p + k ≤ n
+  pub unheld : (q : ℕ) → p ≤ q → q < p + k → ¬ Held l q
+
+-- the lowest run of k pages
+pub record Lowest (n : ℕ) (l : List Loan) (k p : ℕ) : Type 0 where
+  pub run : Run n l k p
+  pub first : (q : ℕ) → Run n l k q → p ≤ q
+
+-- the loan of m pages at page p can have k: the pages that it lacks are pages of the region, and unheld
+pub record Room (n : ℕ) (l : List Loan) (p m k : ℕ) : Type 0 where
+  pub upto : p + k ≤ n
+  pub unheld : (q : ℕ) → p + m ≤ q → q < p + k → ¬ Held l q

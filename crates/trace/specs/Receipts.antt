@@ -1,0 +1,225 @@
+-- Document 01, "Receipts, for demand 3": written from the arguments and answers of the calls, never from the record or the memory.
+-- Assumes nothing.
+use mathlib.Core.Path.{_≡_}
+use mathlib.Core.Bool.{Bool, true, false, cond, not, _&&_}
+use mathlib.Core.List.{List, [], _∷_, _++_}
+use mathlib.Core.Option.{Option, none, some}
+use mathlib.Core.Logic.{_⊎_}
+use Prim.Native.Nat.{ℕ, zero, suc, _+_, _-_, _*_, _/_}
+use lib.Dec.{eqb, ltb}
+use Rattle.arith.specs.Round.{roundUp, pagesFor}
+use Rattle.arith.specs.Layout.{pageCount, firstPage}
+use Rattle.manager.specs.Status.{numberOf}
+use Rattle.manager.specs.Result.{Result}
+use Rattle.manager.specs.Map.{Segment}
+use Rattle.manager.specs.declared.Call.{Call}
+use Rattle.manager.specs.declared.Call.the-variants.{CreateRegion, IdentRegion, DeleteRegion, GetSegment, ReturnSegment, SegmentSize, ResizeSegment, RegionInformation, CreatePartition, IdentPartition, DeletePartition, GetBuffer, ReturnBuffer, Tick}
+use Rattle.manager.specs.declared.Notice.{Notice}
+use Rattle.manager.specs.declared.Information.{Information}
+use Rattle.manager.specs.declared.Order.{Order}
+use Rattle.manager.specs.declared.Status.{Status}
+use Rattle.trace.specs.Loans.{Loan, enter, amend}
+
+-- an object under its id: what was asked for, and its loans
+pub record RegionEntry : Type 0 where
+  pub name : ℕ
+  pub start : ℕ
+  pub bytes : ℕ
+  pub page : ℕ
+  pub order : Order
+  pub loans : List Loan
+
+-- of a partition, also the buffers that are not lent, in the order in which they came free
+pub record PartitionEntry : Type 0 where
+  pub name : ℕ
+  pub start : ℕ
+  pub bytes : ℕ
+  pub size : ℕ
+  pub lent : List ℕ
+  pub unlent : List ℕ
+
+-- a wait: the arguments of the get, and the ticks counted since it began
+pub record Wait : Type 0 where
+  pub task : ℕ
+  pub id : ℕ
+  pub size : ℕ
+  pub priority : ℕ
+  pub ticks : ℕ
+  pub since : ℕ
+
+pub record Receipts : Type 0 where
+  pub regions : ℕ → Option RegionEntry
+  pub partitions : ℕ → Option PartitionEntry
+  pub waits : List Wait
+
+-- they start empty
+abbrev pub blank : Receipts
+blank = record { regions = λ id. none; partitions = λ id. none; waits = [] }
+
+-- "Where an object's pages or buffers lie follows from what create asked for": the page size rounded, the page count, the address of
+-- a page and the page at an address; the buffers
+abbrev pub unit : RegionEntry → ℕ
+unit e = roundUp (e .page) 8
+
+abbrev pub pagesIn : RegionEntry → ℕ
+pagesIn e = pageCount (e .start) (e .bytes) (unit e)
+
+abbrev pub addressIn : RegionEntry → ℕ → ℕ
+addressIn e p = firstPage (e .start) (unit e) (pagesIn e) + p * unit e
+
+abbrev pub pageIn : RegionEntry → ℕ → ℕ
+pageIn e a = (a - firstPage (e .start) (unit e) (pagesIn e)) / unit e
+
+abbrev pub buffersIn : PartitionEntry → ℕ
+buffersIn e = e .bytes / e .size
+
+-- so many buffers by address, from an address on
+unfoldable pub buffersFrom : ℕ → ℕ → ℕ → List ℕ
+buffersFrom zero size a = []
+buffersFrom (suc n) size a = a ∷ buffersFrom n size (a + size)
+
+-- an entry under an id
+abbrev pub put : {A : Type 0} → ℕ → Option A → (ℕ → Option A) → ℕ → Option A
+put id e f j = cond (eqb j id) e (f j)
+
+-- a change of the entry under an id, where there is one
+abbrev pub mapOption : {A : Type 0} → (A → A) → Option A → Option A
+mapOption f none = none
+mapOption f (some x) = some (f x)
+
+abbrev pub onRegion : ℕ → (RegionEntry → RegionEntry) → Receipts → Receipts
+onRegion id f t = record { regions = put id (mapOption f (t .regions id)) (t .regions); partitions = t .partitions; waits = t .waits }
+
+abbrev pub onPartition : ℕ → (PartitionEntry → PartitionEntry) → Receipts → Receipts
+onPartition id f t = record { regions = t .regions; partitions = put id (mapOption f (t .partitions id)) (t .partitions); waits = t .waits }
+
+abbrev pub withLoans : List Loan → RegionEntry → RegionEntry
+withLoans l e = record { name = e .name; start = e .start; bytes = e .bytes; page = e .page; order = e .order; loans = l }
+
+abbrev pub withBuffers : List ℕ → List ℕ → PartitionEntry → PartitionEntry
+withBuffers l u e = record { name = e .name; start = e .start; bytes = e .bytes; size = e .size; lent = l; unlent = u }
+
+-- a number is on a list
+unfoldable pub Within : ℕ → List ℕ → Type 0
+Within a [] = ⊥
+Within a (x ∷ xs) = (x ≡ a) ⊎ Within a xs
+
+-- no number is on it twice
+unfoldable pub Distinct : List ℕ → Type 0
+Distinct [] = Unit {0}
+Distinct (x ∷ xs) = (¬ Within x xs) × Distinct xs
+
+-- one number struck from a list
+unfoldable pub strike : ℕ → List ℕ → List ℕ
+strike a [] = []
+strike a (x ∷ xs) = cond (eqb x a) xs (x ∷ strike a xs)
+
+-- a loan at an address, "of the size rounded up by the region's rule"; the loan there resized, or returned
+abbrev pub lend : ℕ → ℕ → RegionEntry → RegionEntry
+lend a size e = withLoans (enter (pageIn e a) (pagesFor size (unit e)) (e .loans)) e
+
+abbrev pub refit : ℕ → ℕ → RegionEntry → RegionEntry
+refit a size e = withLoans (amend (pageIn e a) (pagesFor size (unit e)) (e .loans)) e
+
+abbrev pub giveBack : ℕ → RegionEntry → RegionEntry
+giveBack a e = withLoans (amend (pageIn e a) 0 (e .loans)) e
+
+-- what the answer of a call says
+pub record Reply : Type 0 where
+  pub status : Status
+  pub value : ℕ
+  pub information : Information
+  pub notices : List Notice
+
+abbrev pub replyOf : Result → Reply
+replyOf s = record { status = s .status; value = s .value; information = s .information; notices = s .notices }
+
+abbrev pub isSuccess : Status → Bool
+isSuccess s = eqb (numberOf s) 0
+
+abbrev pub isWaiting : Status → Bool
+isWaiting s = eqb (numberOf s) 255
+
+-- THE CALL'S OWN ENTRY, with status 0, and with 255 for a get. "Refusals and all other calls enter nothing"
+abbrev pub withWaits : List Wait → Receipts → Receipts
+withWaits w t = record { regions = t .regions; partitions = t .partitions; waits = w }
+
+abbrev pub later : Wait → Wait
+later w = record { task = w .task; id = w .id; size = w .size; priority = w .priority; ticks = w .ticks; since = w .since + 1 }
+
+unfoldable pub allLater : List Wait → List Wait
+allLater [] = []
+allLater (w ∷ ws) = later w ∷ allLater ws
+
+abbrev pub entered : Call → ℕ → Receipts → Receipts
+entered (CreateRegion name start bytes page order) v t =
+    record {
+      regions = put v (some (record { name = name; start = start; bytes = bytes; page = page; order = order; loans = [] })) (t .regions);
+      partitions = t .partitions;
+      waits = t .waits;
+    }
+entered (DeleteRegion id) v t = record { regions = put id none (t .regions); partitions = t .partitions; waits = t .waits }
+entered (GetSegment id size wait task priority ticks) v t = onRegion id (lend v size) t
+entered (ReturnSegment id address) v t = onRegion id (giveBack address) t
+entered (ResizeSegment id address size) v t = onRegion id (refit address size) t
+entered (CreatePartition name start bytes size) v t =
+    record {
+      regions = t .regions;
+      partitions = put v (some (record { name = name; start = start; bytes = bytes; size = size; lent = []; unlent = buffersFrom (bytes / size) size start })) (t .partitions);
+      waits = t .waits;
+    }
+entered (DeletePartition id) v t = record { regions = t .regions; partitions = put id none (t .partitions); waits = t .waits }
+entered (GetBuffer id) v t = onPartition id (λ e. withBuffers (v ∷ e .lent) (strike v (e .unlent)) e) t
+entered (ReturnBuffer id address) v t = onPartition id (λ e. withBuffers (strike address (e .lent)) (e .unlent ++ (address ∷ [])) e) t
+entered Tick v t = withWaits (allLater (t .waits)) t
+entered (IdentRegion name) v t = t
+entered (SegmentSize id address) v t = t
+entered (RegionInformation id) v t = t
+entered (IdentPartition name) v t = t
+
+-- "A get answered 255 enters a wait, behind the earlier ones"
+abbrev pub waited : Call → Receipts → Receipts
+waited (GetSegment id size wait task priority ticks) t =
+    withWaits (t .waits ++ (record { task = task; id = id; size = size; priority = priority; ticks = ticks; since = 0 } ∷ [])) t
+waited (CreateRegion name start bytes page order) t = t
+waited (IdentRegion name) t = t
+waited (DeleteRegion id) t = t
+waited (ReturnSegment id address) t = t
+waited (SegmentSize id address) t = t
+waited (ResizeSegment id address size) t = t
+waited (RegionInformation id) t = t
+waited (CreatePartition name start bytes size) t = t
+waited (IdentPartition name) t = t
+waited (DeletePartition id) t = t
+waited (GetBuffer id) t = t
+waited (ReturnBuffer id address) t = t
+waited Tick t = t
+
+-- "each notice, in order, strikes its task's wait; with status 0 it enters a loan of that size, rounded alike, at its address in that
+-- region"
+unfoldable pub without : ℕ → List Wait → List Wait
+without task [] = []
+without task (w ∷ ws) = cond (eqb (w .task) task) ws (w ∷ without task ws)
+
+abbrev pub noWait : Wait
+noWait = record { task = 0; id = 0; size = 0; priority = 0; ticks = 0; since = 0 }
+
+unfoldable pub waitOf : ℕ → List Wait → Wait
+waitOf task [] = noWait
+waitOf task (w ∷ ws) = cond (eqb (w .task) task) w (waitOf task ws)
+
+abbrev pub noticed : Notice → Receipts → Receipts
+noticed n t =
+    let w = waitOf (n .task) (t .waits) in
+    let u = withWaits (without (n .task) (t .waits)) t in
+    cond (isSuccess (n .status)) (onRegion (w .id) (lend (n .address) (w .size)) u) u
+
+unfoldable pub allNoticed : List Notice → Receipts → Receipts
+allNoticed [] t = t
+allNoticed (n ∷ ns) t = allNoticed ns (noticed n t)
+
+-- WHAT A CALL AND ITS ANSWER ENTER
+unfoldable pub note : Call → Reply → Receipts → Receipts
+note c a t =
+    allNoticed (a .notices)
+    (cond (isSuccess (a .status)) (entered c (a .value) t) (cond (isWaiting (a .status)) (waited c t) t))
