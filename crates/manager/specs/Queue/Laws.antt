@@ -1,21 +1,20 @@
 -- What entering, leaving and the tick keep of the queue: its order, that a task waits once, and what is said of every place. The order
 -- is transitive, so neighbours in order are the same as all pairs in order, and pairs are kept by leaving out or putting in. Assumes
 -- nothing.
-use Prim.Native.Nat.{ℕ, zero, suc, _+_, _-_, _≤_, _<_}
+use Prim.Native.Nat.{ℕ, zero, suc, _-_, _≤_}
 use mathlib.Core.Path.{_≡_, refl, sym, ap, _∙_}
 use mathlib.Core.Bool.{Bool, true, false, cond, _&&_, _||_, not, or-not-self}
-use mathlib.Core.List.{List, [], _∷_, _++_}
+use mathlib.Core.List.{List, [], _∷_}
 use native.Mathlib.Omega.{arith}
-use borrow.Author.Tests.{eq-eqb, ne-eqb, eqb-true, eqb-false, lt-ltb, le-ltb, ltb-true, ltb-false, not-true, not-false}
+use borrow.Author.Tests.{eq-eqb, ne-eqb, eqb-true, eqb-false, le-ltb, ltb-true, ltb-false, not-true}
 use lib.Dec.{eqb, ltb}
-use lib.ListN.{length, take, drop, replicate}
+use lib.ListN.{length}
 use Rattle.manager.specs.Record.{tasks, noWaiter, regionOf, withQueue}
-use Rattle.manager.specs.Result.{pad}
 use Rattle.manager.specs.Lists.{every, some, pairwise, adjacent}
 use Rattle.manager.specs.Lists.Laws.{and-first, and-second}
-use Rattle.manager.specs.Queue.{urgent, goesBefore, push, insert, pull, removeAt, enqueue, dequeue, waiting, aged, staying, afterTick}
+use Rattle.manager.specs.Queue.{urgent, goesBefore, push, insert, removeAt, enqueue, dequeue, waiting, aged, staying, afterTick}
 use Rattle.manager.specs.Queue.Parts.{by-case, and-both, or-first, or-second, every-imp, every-behind, pairwise-behind, pairwise-adjacent, adjacent-pairwise}
-use Rattle.manager.specs.Sound.{unused, emptyWaiter, soundWaiter, soundPlace, otherTask, inOrder, soundQueue}
+use Rattle.manager.specs.Sound.{emptyWaiter, soundWaiter, soundPlace, otherTask, inOrder, soundQueue}
 use Rattle.manager.specs.declared.Manager.{Manager}
 use Rattle.manager.specs.declared.Waiter.{Waiter}
 use Rattle.manager.specs.declared.Order.{Order}

@@ -1,8 +1,8 @@
 -- The tests over a list, on lists that are made of others: appended, padded, with stronger tests; and neighbours against all pairs.
 -- Assumes nothing.
-use Prim.Native.Nat.{ℕ, zero, suc, _+_, _≤_, _<_}
+use Prim.Native.Nat.{ℕ, zero, suc}
 use mathlib.Core.Path.{_≡_, refl, sym, ap, _∙_}
-use mathlib.Core.Bool.{Bool, true, false, cond, _&&_, _||_, not, and-true, and-assoc, or-assoc, or-false}
+use mathlib.Core.Bool.{Bool, true, false, cond, _&&_, _||_, and-true, and-assoc, or-assoc, or-false}
 use mathlib.Core.List.{List, [], _∷_, _++_}
 use native.Mathlib.Omega.{arith}
 use lib.ListN.{length, replicate}
@@ -84,6 +84,13 @@ module _ {A : Type 0} where
     unfolding pairwise
     pairwise-behind [] k = pairwise-same k
     pairwise-behind (x ∷ l) k = rw (every-behind (t x) z (behind x) l k, pairwise-behind l k)
+
+  pub pairwise-imp : (t u : A → A → Bool) → ((x y : A) → t x y ≡ true → u x y ≡ true) → (l : List A) → pairwise t l ≡ true → pairwise u l ≡ true
+  unfolding pairwise
+  pairwise-imp t u f [] e = refl
+  pairwise-imp t u f (x ∷ l) e =
+      and-both (every (u x) l) (pairwise u l) (every-imp (t x) (u x) (f x) l (and-first (every (t x) l) (pairwise t l) e))
+      (pairwise-imp t u f l (and-second (every (t x) l) (pairwise t l) e))
 
   -- all pairs are in order where neighbours are
   pub pairwise-adjacent : (t : A → A → Bool) (l : List A) → pairwise t l ≡ true → adjacent t l ≡ true
