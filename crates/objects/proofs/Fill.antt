@@ -1,12 +1,12 @@
 -- An array of n places that is filled from the front: k places are done, the others are z, and `left` is what is yet to come of
 -- `whole`. Laws: how filling starts, how one place is put, and what the array is when nothing is left. Assumes nothing.
 use mathlib.Core.Path.{_≡_, refl, ap, sym, _∙_}
-use mathlib.Core.List.{List, [], _∷_, _++_, append-assoc, append-nil}
+use mathlib.Core.List.{List, [], _∷_, _++_, append-nil}
 use Prim.Native.Nat.{ℕ, zero, suc, _+_, _-_, _≤_, _<_}
 use native.Mathlib.Numerals.{add-one}
 use native.Mathlib.Omega.{arith}
-use lib.ListN.{length, take, drop, getD, set, replicate, length-set, length-append, length-replicate, take-append-drop}
-use lib.Seq.{take-suc-set, drop-set-lt, append-snoc, length-take-le, drop-cons, drop-drop, take-all, take-at, drop-at}
+use lib.ListN.{length, take, drop, set, replicate, length-set, length-append, length-replicate, take-append-drop}
+use lib.Seq.{take-suc-set, drop-set-lt, append-snoc, length-take-le, take-all, take-at, drop-at}
 use Rattle.manager.specs.Result.{pad}
 
 pub record Filling {A : Type 0} (z : A) (n : ℕ) (b : List A) (k : ℕ) (left whole : List A) : Type 0 where

@@ -1,23 +1,22 @@
 -- What the functions on objects and areas need of the definitions, over plain variables. Assumes nothing.
 use mathlib.Core.Path.{_≡_, refl, ap, sym, _∙_}
-use mathlib.Core.List.{List, [], _∷_, _++_, append-assoc, append-nil, map}
-use mathlib.Core.Bool.{Bool, true, false, not, _&&_}
+use mathlib.Core.List.{List, [], _∷_, _++_, map}
+use mathlib.Core.Bool.{Bool, true, false, not}
 use Prim.Native.Nat.{ℕ, zero, suc, _+_, _-_, _*_, _/_, _≤_, _<_}
-use native.Mathlib.Numerals.{add-one}
 use native.Mathlib.Omega.{arith}
 use borrow.Author.Tests.{eq-eqb, ne-eqb, lt-ltb, le-ltb, ltb-true, ltb-false, not-true, not-false}
 use lib.Dec.{ltb, eqb}
-use lib.ListN.{length, length-map, length-append, drop, getD, set, replicate, drop-of-length-le, List·getD-eq-default}
-use lib.Seq.{drop-cons, set-out}
+use lib.ListN.{length, length-map, drop, getD, set, replicate, drop-of-length-le, List·getD-eq-default}
+use lib.Seq.{set-out}
 use Rattle.manager.specs.declared.Manager.{Manager}
 use Rattle.manager.specs.declared.Region.{Region}
 use Rattle.manager.specs.declared.Partition.{Partition}
 use Rattle.manager.specs.declared.Area.{Area}
-use Rattle.manager.specs.Record.{slots, slotOf, regionOf, partitionOf, noRegion, noPartition, withRegion, withPartition}
+use Rattle.manager.specs.Record.{slots, slotOf, withRegion, withPartition}
 use Rattle.manager.specs.Result.{pad}
 use Rattle.manager.specs.Lists.{every, some, indexOf, pairwise}
 use Rattle.manager.specs.Lists.Laws.{Placing, index-start, index-next, index-here, index-end, rest-cons, every-cons, every-none, Pairing, pairwise-start, pairwise-next, pairwise-fail, pairwise-end, some-start, some-missed, some-found, some-end}
-use Rattle.manager.specs.Region.{areasOf, areaOf, regionAreas, partitionAreas, areas, overlap}
+use Rattle.manager.specs.Region.{areasOf, areaOf, regionAreas, partitionAreas, overlap}
 use Rattle.objects.specs.Areas.{noArea}
 use Rattle.objects.proofs.Fill.{Filling, fill-start, fill-from, fill-put, fill-end, fill-full}
 

@@ -1,8 +1,7 @@
 -- The turns of `after_tick`: two arrays are filled, with those that stay and with the notices of those that leave. Assumes nothing.
-use mathlib.Core.Path.{_≡_, refl, ap, sym, _∙_}
-use mathlib.Core.List.{List, [], _∷_, _++_}
-use Prim.Native.Nat.{ℕ, suc, _+_, _-_, _≤_, _<_}
-use native.Mathlib.Numerals.{add-one}
+use mathlib.Core.Path.{_≡_, ap}
+use mathlib.Core.List.{List, []}
+use Prim.Native.Nat.{ℕ, _+_, _-_, _≤_, _<_}
 use native.Mathlib.Omega.{arith}
 use borrow.Author.Tests.{eq-eqb, ne-eqb}
 use lib.ListN.{length, drop, getD, set, replicate, drop-of-length-le}
@@ -13,7 +12,6 @@ use Rattle.manager.specs.Record.{tasks, noWaiter, noNotice, withQueue}
 use Rattle.manager.specs.Lists.Laws.{rest-cons}
 use Rattle.manager.specs.Queue.{staying, leaving, aged, expired, afterTick}
 use Rattle.objects.proofs.Laws.{unmapped}
-use Rattle.queue.specs.declared.Ticked.{Ticked}
 use Rattle.queue.specs.Tick.{Ticks}
 use Rattle.queue.proofs.Fill.{Filling, fill-start, fill-put, fill-end}
 

@@ -1,6 +1,6 @@
 -- No slot before this one has the name, so what is left from here on gives the answer. Assumes nothing.
 use Prim.Native.Nat.{_-_}
-use Rattle.manager.specs.Record.{slots, noRegion, noPartition}
+use Rattle.manager.specs.Record.{slots, noRegion}
 use Rattle.objects.proofs.Laws.{Naming, naming}
 use Rattle.manager.specs.Regions.{regionNamed}
 use borrow.Author.Needs.{needs}
