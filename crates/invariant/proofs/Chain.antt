@@ -9,7 +9,7 @@ use native.Mathlib.Omega.{arith}
 use borrow.Author.Tests.{eq-eqb, ne-eqb, le-ltb, not-true, not-false}
 use lib.Dec.{eqb, leb, ltb}
 use lib.ListN.{length, getD, List·getD-eq-default}
-use Rattle.manager.specs.Partition.{isBuffer, buffers, linked, soundChain, nextOf, beforeOf}
+use Rattle.manager.specs.Partition.{isBuffer, buffers, linked, soundChain}
 use Rattle.manager.specs.declared.Partition.{Partition}
 
 -- a word past the memory's end is read as 0

@@ -1,7 +1,7 @@
 -- The clauses of the invariant that speak of what another call gave: the words of a map, and the region of a waiter. Assumes nothing.
 use Prim.Native.Nat.{ℕ}
-use mathlib.Core.Path.{_≡_, refl, sym, ap, _∙_}
-use mathlib.Core.Bool.{Bool, true, false, not, _&&_}
+use mathlib.Core.Path.{_≡_, ap, _∙_}
+use mathlib.Core.Bool.{Bool, true, false, not}
 use mathlib.Core.List.{List}
 use Rattle.manager.specs.Map.{soundMap}
 use Rattle.manager.specs.Record.{regionOf}

@@ -33,5 +33,7 @@ all-in-order-spec =
     (λ c κs. search needs)
     (λ c. search (needs, neighbours))
     (λ c. search needs)
-    (λ c. adjacent-passed _ _ _ _ _ (c .before .before .before .before .before .loop .inv) (c .before .before .before .before .loop-test .taken) noWaiter (c .before .in-order .result) (c .before .in-order .ensures) (not-false _ (c .if1 .left)))
+    (λ c. adjacent-passed _ _ _ _ _ (c .before .before .before .before .before .loop .inv)
+    (c .before .before .before .before .loop-test .taken) noWaiter
+    (c .before .in-order .result) (c .before .in-order .ensures) (not-false _ (c .if1 .left)))
     (λ c. search (needs, neighbours)))
