@@ -2,15 +2,15 @@
 -- Assumes nothing.
 use Prim.Native.Nat.{ℕ, zero, suc, _+_, _-_, _/_, _%_, _≤_, _<_}
 use mathlib.Core.Path.{_≡_, refl, sym, ap, _∙_}
-use mathlib.Core.Bool.{Bool, true, false, _&&_, _||_}
+use mathlib.Core.Bool.{Bool, true, false, _||_}
 use mathlib.Core.List.{List, [], _∷_}
 use native.Mathlib.Numerals.{sub-one}
 use native.Mathlib.Omega.{arith}
 use borrow.Author.Tests.{eq-eqb, ne-eqb, le-leb, lt-leb}
-use lib.Dec.{eqb, leb}
+use lib.Dec.{eqb}
 use lib.ListN.{length, getD, drop, drop-of-length-le}
 use Rattle.manager.specs.Lists.Laws.{rest-cons}
-use Rattle.manager.specs.Map.{isHeld, soundFrom, soundMap}
+use Rattle.manager.specs.Map.{soundFrom, soundMap}
 
 -- HOW FAR THE CHECK HAS COME: to word i
 pub record Checking (ws : List ℕ) (r : Bool) (i due before : ℕ) : Type 0 where

@@ -1,7 +1,7 @@
 -- The part of the memory that is a region's map, and the held segment at an address. Assumes nothing.
 use Prim.Native.Nat.{ℕ, _+_, _-_, _/_, _%_, _≤_, _<_}
 use mathlib.Core.Path.{_≡_, refl, sym, ap, _∙_}
-use mathlib.Core.Bool.{Bool, true, false, cond, _&&_}
+use mathlib.Core.Bool.{Bool, true, false, cond}
 use mathlib.Core.List.{List, []}
 use native.Mathlib.Omega.{arith}
 use borrow.Author.Tests.{eq-eqb, ne-eqb, le-leb, lt-leb}
@@ -10,7 +10,7 @@ use lib.Seq.{take-all, take-nil}
 use Rattle.arith.specs.Layout.{firstPage}
 use Rattle.arith.specs.Layout.Laws.{count-zero}
 use Rattle.manager.specs.Lists.{some}
-use Rattle.manager.specs.Map.{Segment, decode, isHeldSegment}
+use Rattle.manager.specs.Map.{decode, isHeldSegment}
 use Rattle.manager.specs.Paged.{heldFrom}
 use Rattle.manager.specs.Region.{pagesOf, baseOf, mapAt, mapWords, heldAt, anyHeld, startsPage, pageAt}
 use Rattle.manager.specs.declared.Region.{Region}
