@@ -40,6 +40,50 @@ pub updates : (d : Manager) (i : ℕ) (p : Partition) (v : ℕ) (e : Manager) (a
     → a ≡ answerOf (replied [] (withPartition d i p) Successful v)
 updates d i p v e a x y = y ∙ rw x
 
+-- 25 first always
+module _ (m : List ℕ) (d : Manager) (b : Bool) (q : b ≡ sound m d) (e : b ≡ false) where
+  pub create-unsound : (name start bytes size : ℕ) → createPartition m d name start bytes size ≡ refused m d InternalError
+  unfolding createPartition checked
+  create-unsound name start bytes size = rw (← q, e)
+
+  pub ident-unsound : (name : ℕ) → identPartition m d name ≡ refused m d InternalError
+  unfolding identPartition checked
+  ident-unsound name = rw (← q, e)
+
+  pub delete-unsound : (id : ℕ) → deletePartition m d id ≡ refused m d InternalError
+  unfolding deletePartition checked
+  delete-unsound id = rw (← q, e)
+
+  pub get-unsound : (id : ℕ) → getBuffer m d id ≡ refused m d InternalError
+  unfolding getBuffer checked
+  get-unsound id = rw (← q, e)
+
+  pub return-unsound : (id address : ℕ) → returnBuffer m d id address ≡ refused m d InternalError
+  unfolding returnBuffer checked
+  return-unsound id address = rw (← q, e)
+
+pub is-so : (b t : Bool) → b ≡ t → b ≡ true → t ≡ true
+is-so b t q e = sym q ∙ e
+
+-- ident
+module _ (m : List ℕ) (d : Manager) (name : ℕ) (b : Bool) (q : b ≡ sound m d) (s : b ≡ true) where
+  pub ident-nameless : name ≡ 0 → identPartition m d name ≡ refused m d InvalidName
+  unfolding identPartition checked
+  ident-nameless e = rw (← q, s, eq-eqb _ _ e)
+
+  module _ (h : name ≡ 0 → ⊥) (slot : ℕ) (k : slot ≡ partitionNamed d name) where
+    pub ident-none : 8 ≤ slot → identPartition m d name ≡ refused m d InvalidName
+    unfolding identPartition checked
+    ident-none e = rw (← q, s, ne-eqb _ _ h, ← k, le-leb _ _ e)
+
+    pub ident-found : slot < 8 → identPartition m d name ≡ done m d (slot + 1)
+    unfolding identPartition checked
+    ident-found e =
+        let z : slot + 1 ≡ suc slot = add-one slot in
+        rw (← q, s, ne-eqb _ _ h, ← k, lt-leb _ _ e, z)
+
+pub ruleset first = (performs-refused, performs-done, create-unsound, ident-unsound, delete-unsound, get-unsound, return-unsound, is-so, ident-nameless, ident-none, ident-found, not-true, not-false)
+
 -- what an id names, over sound records
 module _ (m : List ℕ) (d : Manager) (id : ℕ) (s : sound m d ≡ true) (p : Partition) (q : p ≡ partitionOf d id) where
   -- get
