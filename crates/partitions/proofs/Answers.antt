@@ -1,0 +1,252 @@
+-- What each directive on partitions gives over sound records, exit by exit: the tests that led there, in their order, give its result.
+-- Then a reply, and a store where there is one, perform it. Assumes nothing.
+use Prim.Native.Nat.{ℕ, suc, _+_, _-_, _*_, _/_, _%_, _≤_, _<_}
+use mathlib.Core.Path.{_≡_, refl, ap, sym, _∙_}
+use mathlib.Core.Bool.{Bool, true, false, not, cond, _||_, true≢false}
+use mathlib.Core.List.{List, [], _∷_}
+use mathlib.Core.Logic.{⊎-elim}
+use native.Mathlib.Omega.{arith}
+use native.Mathlib.Numerals.{add-one}
+use native.Mathlib.Nat.{div-le-self}
+use lib.ListN.{length}
+use lib.Dec.{eqb, leb, ltb}
+use borrow.Author.Tests.{eq-eqb, ne-eqb, lt-ltb, le-ltb, le-leb, lt-leb, ltb-false, eqb-false, not-true, not-false}
+use Rattle.manager.specs.Record.{slots, slotOf, idOf, noPartition, partitionOf, withPartition}
+use Rattle.manager.specs.Result.{Result, Performs, Check, check, checked, answerOf, replied, refused, done}
+use Rattle.manager.specs.Sound.{sound, livePartition}
+use Rattle.manager.specs.Partition.{deadPartition, buffers, isBuffer, isFree, linkAll, afterGet, gotten, afterReturn, returned}
+use Rattle.manager.specs.Partition.Distinct.{same-or-not}
+use Rattle.manager.specs.Partition.Laws.{live-laid, live-chain, sound-live, sound-most, free-fewer}
+use Rattle.manager.specs.Regions.{overlaps, pastMemory}
+use Rattle.manager.specs.Partitions.{partitionNamed, newPartition, createPartition, identPartition, deletePartition, getBuffer, returnBuffer}
+use Rattle.partitions.specs.Checks.{sizeRefused}
+use Rattle.manager.specs.declared.Manager.{Manager}
+use Rattle.manager.specs.declared.Partition.{Partition}
+use Rattle.manager.specs.declared.Area.{Area}
+use Rattle.manager.specs.declared.Answer.{Answer}
+use Rattle.manager.specs.declared.Status.{Status}
+use Rattle.manager.specs.declared.Status.the-variants.{Successful, InvalidName, InvalidId, TooMany, InvalidSize, InvalidAddress, ResourceInUse, Unsatisfied, InternalError}
+
+-- a reply performs a refusal, and a success over the memory and the record that the code made
+module _ (t : Result) (m : List ℕ) (a : Answer) where
+  pub performs-refused : (d : Manager) (s : Status) → a ≡ answerOf (replied [] d s 0) → t ≡ refused m d s → Performs t m a
+  performs-refused d s f e = rw e (record { memory = refl; answer = f })
+
+  pub performs-done : (d : Manager) (v : ℕ) → a ≡ answerOf (replied [] d Successful v) → t ≡ done m d v → Performs t m a
+  performs-done d v f e = rw e (record { memory = refl; answer = f })
+
+-- a success that puts a partition into a slot
+pub updates : (d : Manager) (i : ℕ) (p : Partition) (v : ℕ) (e : Manager) (a : Answer) → e ≡ withPartition d i p → a ≡ answerOf (replied [] e Successful v)
+    → a ≡ answerOf (replied [] (withPartition d i p) Successful v)
+updates d i p v e a x y = y ∙ rw x
+
+-- 25 first always
+module _ (m : List ℕ) (d : Manager) (b : Bool) (q : b ≡ sound m d) (e : b ≡ false) where
+  pub create-unsound : (name start bytes size : ℕ) → createPartition m d name start bytes size ≡ refused m d InternalError
+  unfolding createPartition checked
+  create-unsound name start bytes size = rw (← q, e)
+
+  pub ident-unsound : (name : ℕ) → identPartition m d name ≡ refused m d InternalError
+  unfolding identPartition checked
+  ident-unsound name = rw (← q, e)
+
+  pub delete-unsound : (id : ℕ) → deletePartition m d id ≡ refused m d InternalError
+  unfolding deletePartition checked
+  delete-unsound id = rw (← q, e)
+
+  pub get-unsound : (id : ℕ) → getBuffer m d id ≡ refused m d InternalError
+  unfolding getBuffer checked
+  get-unsound id = rw (← q, e)
+
+  pub return-unsound : (id address : ℕ) → returnBuffer m d id address ≡ refused m d InternalError
+  unfolding returnBuffer checked
+  return-unsound id address = rw (← q, e)
+
+pub is-so : (b t : Bool) → b ≡ t → b ≡ true → t ≡ true
+is-so b t q e = sym q ∙ e
+
+-- ident
+module _ (m : List ℕ) (d : Manager) (name : ℕ) (b : Bool) (q : b ≡ sound m d) (s : b ≡ true) where
+  pub ident-nameless : name ≡ 0 → identPartition m d name ≡ refused m d InvalidName
+  unfolding identPartition checked
+  ident-nameless e = rw (← q, s, eq-eqb _ _ e)
+
+  module _ (h : name ≡ 0 → ⊥) (slot : ℕ) (k : slot ≡ partitionNamed d name) where
+    pub ident-none : 8 ≤ slot → identPartition m d name ≡ refused m d InvalidName
+    unfolding identPartition checked
+    ident-none e = rw (← q, s, ne-eqb _ _ h, ← k, le-leb _ _ e)
+
+    pub ident-found : slot < 8 → identPartition m d name ≡ done m d (slot + 1)
+    unfolding identPartition checked
+    ident-found e =
+        let z : slot + 1 ≡ suc slot = add-one slot in
+        rw (← q, s, ne-eqb _ _ h, ← k, lt-leb _ _ e, z)
+
+pub ruleset first = (performs-refused, performs-done, create-unsound, ident-unsound, delete-unsound, get-unsound, return-unsound, is-so, ident-nameless, ident-none, ident-found, not-true, not-false)
+
+-- what an id names, over sound records
+module _ (m : List ℕ) (d : Manager) (id : ℕ) (s : sound m d ≡ true) (p : Partition) (q : p ≡ partitionOf d id) where
+  -- get
+  pub get-dead : p .name ≡ 0 → getBuffer m d id ≡ refused m d InvalidId
+  unfolding getBuffer checked
+  get-dead e = rw (s, ← q, eq-eqb _ _ e)
+
+  -- delete
+  pub delete-dead : p .name ≡ 0 → deletePartition m d id ≡ refused m d InvalidId
+  unfolding deletePartition checked
+  delete-dead e = rw (s, ← q, eq-eqb _ _ e)
+
+  -- return
+  pub return-dead : (address : ℕ) → p .name ≡ 0 → returnBuffer m d id address ≡ refused m d InvalidId
+  unfolding returnBuffer checked
+  return-dead address e = rw (s, ← q, eq-eqb _ _ e)
+
+  module _ (l : p .name ≡ 0 → ⊥) where
+    lives : livePartition m p ≡ true
+    lives = rw q (sound-live m d s id (λ e. l (ap (λ (x : Partition). x .name) q ∙ e)))
+
+    pub size-divides : 0 < p .size
+    size-divides = omega (arith, live-laid m p lives .shaped .big)
+
+    pub get-none : p .free ≡ 0 → getBuffer m d id ≡ refused m d Unsatisfied
+    unfolding getBuffer checked
+    get-none e = rw (s, ← q, ne-eqb _ _ l, eq-eqb _ _ e)
+
+    pub get-front : (p .free ≡ 0 → ⊥) → (g : Partition) → g ≡ gotten m p → (m′ : List ℕ) → m′ ≡ afterGet m p → (i : ℕ) → i ≡ slotOf id
+        → getBuffer m d id ≡ done m′ (withPartition d i g) (p .front)
+    unfolding getBuffer checked
+    get-front n g x m′ y i z = rw (s, ← q, ne-eqb _ _ l, ne-eqb _ _ n, z, x, y)
+
+    pub delete-held : (p .free ≡ p .length / p .size → ⊥) → deletePartition m d id ≡ refused m d ResourceInUse
+    unfolding deletePartition checked
+    delete-held e = rw (s, ← q, ne-eqb _ _ l, ne-eqb _ _ e)
+
+    pub delete-done : p .free ≡ p .length / p .size → (i : ℕ) → i ≡ slotOf id → deletePartition m d id ≡ done m (withPartition d i noPartition) 0
+    unfolding deletePartition checked
+    delete-done e i z = rw (s, ← q, ne-eqb _ _ l, eq-eqb _ _ e, z)
+
+    module _ (address : ℕ) (b : Bool) (k : b ≡ isBuffer p address) where
+      pub return-strange : b ≡ false → returnBuffer m d id address ≡ refused m d InvalidAddress
+      unfolding returnBuffer checked
+      return-strange e = rw (s, ← q, ne-eqb _ _ l, ← k, e)
+
+      module _ (h : b ≡ true) (f : Bool) (o : f ≡ isFree m p address) where
+        pub return-twice : f ≡ true → returnBuffer m d id address ≡ refused m d InvalidAddress
+        unfolding returnBuffer checked
+        return-twice e = rw (s, ← q, ne-eqb _ _ l, ← k, h, ← o, e)
+
+        module _ (e : f ≡ false) where
+          -- one more is free, and the count fits
+          pub return-fits : p .free + 1 < 4294967296
+          return-fits =
+              let g = live-laid m p lives in
+              let u = free-fewer m p (g .shaped) (live-chain m p lives) address (sym k ∙ h) (sym o ∙ e) in
+              let w : buffers p ≤ p .length = div-le-self (p .length) (p .size) in
+              omega (arith, u, w, g .inside, sound-most m d s)
+
+          pub return-rear : (g : Partition) → g ≡ returned p address → (m′ : List ℕ) → m′ ≡ afterReturn m p address → (i : ℕ) → i ≡ slotOf id
+              → returnBuffer m d id address ≡ done m′ (withPartition d i g) 0
+          unfolding returnBuffer checked
+          return-rear g x m′ y i z = rw (s, ← q, ne-eqb _ _ l, ← k, h, ← o, e, z, x, y)
+
+pub ruleset answers = (performs-refused, performs-done, get-dead, get-none, get-front, size-divides, delete-dead, delete-held, delete-done, return-dead, return-strange, return-twice, return-fits, return-rear, not-true, not-false)
+
+-- CREATE
+cond-or : {A : Type 0} (a b : Bool) (x y : A) → cond a x (cond b x y) ≡ cond (a || b) x y
+cond-or true b x y = refl
+cond-or false b x y = refl
+
+-- the five checks of the sizes are one
+sizes-one : (bytes size : ℕ) (x y : Result)
+    → cond (eqb bytes 0) x (cond (eqb size 0) x (cond (ltb bytes size) x (cond (not (eqb (size % 4) 0)) x (cond (ltb size 8) x y))))
+    ≡ cond (sizeRefused bytes size) x y
+unfolding sizeRefused
+sizes-one bytes size x y =
+    let a = eqb bytes 0 in
+    let b = eqb size 0 in
+    let c = ltb bytes size in
+    let d = not (eqb (size % 4) 0) in
+    let e = ltb size 8 in
+    ap (λ (z : Result). cond a x (cond b x (cond c x z))) (cond-or d e x y)
+    ∙ ap (λ (z : Result). cond a x (cond b x z)) (cond-or c (d || e) x y)
+    ∙ ap (λ (z : Result). cond a x z) (cond-or b (c || (d || e)) x y)
+    ∙ cond-or a (b || (c || (d || e))) x y
+
+or-first : (a b : Bool) → (a || b) ≡ false → a ≡ false
+or-first true b e = e
+or-first false b e = refl
+
+or-second : (a b : Bool) → (a || b) ≡ false → b ≡ false
+or-second true b e = absurd (true≢false e)
+or-second false b e = e
+
+module _ (bytes size : ℕ) (b : Bool) (r : b ≡ sizeRefused bytes size) (e : b ≡ false) where
+  none : sizeRefused bytes size ≡ false
+  none = sym r ∙ e
+
+  pub allowed-some : 0 < size
+  unfolding sizeRefused
+  allowed-some =
+      let n : size ≡ 0 → ⊥ = eqb-false _ _ (or-first (eqb size 0) _ (or-second (eqb bytes 0) _ none)) in
+      ⊎-elim (λ (q : size ≡ 0). absurd (n q)) (λ (q : size ≡ 0 → ⊥). omega arith) (same-or-not size 0)
+
+  pub allowed-within : size ≤ bytes
+  unfolding sizeRefused
+  allowed-within = ltb-false _ _ (or-first (ltb bytes size) _ (or-second (eqb size 0) _ (or-second (eqb bytes 0) _ none)))
+
+-- what the new record and its chain need: the area ends in the memory
+module _ (m : List ℕ) (d : Manager) (start bytes : ℕ) (s : sound m d ≡ true) (past : Bool) (pq : past ≡ ltb (4 * length m) (start + bytes))
+    (h : past ≡ false) where
+  pub area-ends : start + bytes < 4294967296
+  area-ends = omega (arith, ltb-false (4 * length m) (start + bytes) (sym pq ∙ h), sound-most m d s)
+
+  pub linking-ends : (name size : ℕ) (p : Partition) → p ≡ newPartition name start bytes size → p .start + p .length < 4294967296
+  linking-ends name size p x = rw x area-ends
+
+pub linking-some : (name start bytes size : ℕ) (b : Bool) → b ≡ sizeRefused bytes size → b ≡ false → (p : Partition) → p ≡ newPartition name start bytes size
+    → 0 < p .size
+linking-some name start bytes size b r e p x = rw x (allowed-some bytes size b r e)
+
+module _ (m : List ℕ) (d : Manager) (name start bytes size : ℕ) (s : sound m d ≡ true) where
+  pub create-nameless : name ≡ 0 → createPartition m d name start bytes size ≡ refused m d InvalidName
+  unfolding createPartition checked
+  create-nameless e = rw (s, eq-eqb _ _ e)
+
+  module _ (h1 : name ≡ 0 → ⊥) where
+    pub create-null : start ≡ 0 → createPartition m d name start bytes size ≡ refused m d InvalidAddress
+    unfolding createPartition checked
+    create-null e = rw (s, ne-eqb _ _ h1, eq-eqb _ _ e)
+
+    module _ (h2 : start ≡ 0 → ⊥) where
+      pub create-crooked : (start % 4 ≡ 0 → ⊥) → createPartition m d name start bytes size ≡ refused m d InvalidAddress
+      unfolding createPartition checked
+      create-crooked e = rw (s, ne-eqb _ _ h1, ne-eqb _ _ h2, ne-eqb _ _ e)
+
+      module _ (h3 : start % 4 ≡ 0) (past : Bool) (pq : past ≡ ltb (4 * length m) (start + bytes)) where
+        pub create-past : past ≡ true → createPartition m d name start bytes size ≡ refused m d InvalidAddress
+        unfolding createPartition checked
+        create-past e = rw (s, ne-eqb _ _ h1, ne-eqb _ _ h2, eq-eqb _ _ h3, ← pq, e)
+
+        module _ (h4 : past ≡ false) (bad : Bool) (bq : bad ≡ sizeRefused bytes size) where
+          pub create-sizes : bad ≡ true → createPartition m d name start bytes size ≡ refused m d InvalidSize
+          unfolding createPartition checked
+          create-sizes e = rw (s, ne-eqb _ _ h1, ne-eqb _ _ h2, eq-eqb _ _ h3, ← pq, h4, sizes-one, ← bq, e)
+
+          module _ (h5 : bad ≡ false) (meets : Bool) (mq : meets ≡ overlaps d (record { start = start; length = bytes })) where
+            pub create-overlaps : meets ≡ true → createPartition m d name start bytes size ≡ refused m d InvalidAddress
+            unfolding createPartition checked
+            create-overlaps e = rw (s, ne-eqb _ _ h1, ne-eqb _ _ h2, eq-eqb _ _ h3, ← pq, h4, sizes-one, ← bq, h5, ← mq, e)
+
+            module _ (h6 : meets ≡ false) (slot : ℕ) (sq : slot ≡ partitionNamed d 0) where
+              pub create-full : 8 ≤ slot → createPartition m d name start bytes size ≡ refused m d TooMany
+              unfolding createPartition checked
+              create-full e = rw (s, ne-eqb _ _ h1, ne-eqb _ _ h2, eq-eqb _ _ h3, ← pq, h4, sizes-one, ← bq, h5, ← mq, h6, ← sq, le-leb _ _ e)
+
+              pub create-done : slot < 8 → (p : Partition) → p ≡ newPartition name start bytes size → (m′ : List ℕ) → m′ ≡ linkAll (buffers p) m p 0
+                  → createPartition m d name start bytes size ≡ done m′ (withPartition d slot p) (slot + 1)
+              unfolding createPartition checked
+              create-done e p x m′ y =
+                  let z : slot + 1 ≡ suc slot = add-one slot in
+                  rw (s, ne-eqb _ _ h1, ne-eqb _ _ h2, eq-eqb _ _ h3, ← pq, h4, sizes-one, ← bq, h5, ← mq, h6, ← sq, lt-leb _ _ e, y, x, z)
+
+pub ruleset creating = (performs-refused, performs-done, create-nameless, create-null, create-crooked, create-past, create-sizes, create-overlaps, create-full, create-done, allowed-some, allowed-within, area-ends, linking-some, linking-ends)
