@@ -3,6 +3,7 @@
 pub mod Parts
 pub mod Laws
 pub mod Used
+pub mod Entry
 pub mod Room
 use Prim.Native.Nat.{ℕ, _-_}
 use mathlib.Core.Bool.{Bool, true, false, cond, not, _&&_, _||_}
