@@ -7,7 +7,6 @@ use mathlib.Core.Logic.{_⊎_}
 use Prim.Native.Nat.{ℕ, zero, suc, _+_, _-_, _≤_, _<_}
 use lib.Dec.{leb, eqb}
 use Rattle.manager.specs.Map.{Segment, free, held}
-use Rattle.manager.specs.Paged.{free+}
 
 -- a loan of pages: its first page, and how many
 pub data Loan : Type 0 where
@@ -43,11 +42,16 @@ unfoldable pub loanPages : List Loan → List ℕ
 loanPages [] = []
 loanPages (loan a n ∷ l) = n ∷ loanPages l
 
+-- a free segment for an unbroken run of unheld pages, taken whole; none where there is no such page
+abbrev pub run+ : ℕ → List Segment → List Segment
+run+ zero s = s
+run+ (suc g) s = free (suc g) ∷ s
+
 -- THE DRAWN MAP, from page `at` to page n: "a held segment for each loan and a free one for each unbroken run of unheld pages, taken
 -- whole"
 unfoldable pub drawn : ℕ → ℕ → List Loan → List Segment
-drawn n at [] = free+ (n - at) []
-drawn n at (loan a k ∷ l) = free+ (a - at) (held k ∷ drawn n (a + k) l)
+drawn n at [] = run+ (n - at) []
+drawn n at (loan a k ∷ l) = run+ (a - at) (held k ∷ drawn n (a + k) l)
 
 -- the loans lie in order between page `at` and page n, each of a page or more, and none starts before the one before it has ended
 unfoldable pub Ordered : ℕ → ℕ → List Loan → Type 0
