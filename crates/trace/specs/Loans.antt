@@ -4,7 +4,7 @@ use mathlib.Core.Path.{_≡_}
 use mathlib.Core.Bool.{Bool, cond}
 use mathlib.Core.List.{List, [], _∷_}
 use mathlib.Core.Logic.{_⊎_}
-use Prim.Native.Nat.{ℕ, zero, suc, _+_, _-_, _≤_, _<_}
+use Prim.Native.Nat.{ℕ, zero, suc, _+_, _-_, _≤_, _<_, max}
 use lib.Dec.{leb, eqb}
 use Rattle.manager.specs.Map.{Segment, free, held}
 
@@ -37,10 +37,28 @@ unfoldable pub Held : List Loan → ℕ → Type 0
 Held [] q = ⊥
 Held (loan a n ∷ l) q = ((a ≤ q) × (q < a + n)) ⊎ Held l q
 
--- the loans' pages: of each, and of all
+-- the pages of each loan
 unfoldable pub loanPages : List Loan → List ℕ
 loanPages [] = []
 loanPages (loan a n ∷ l) = n ∷ loanPages l
+
+-- the pages of each unbroken run of unheld pages, from page `at` to page n, taken whole; a gap of no page is no run
+abbrev pub size+ : ℕ → List ℕ → List ℕ
+size+ zero s = s
+size+ (suc g) s = suc g ∷ s
+
+unfoldable pub runs : ℕ → ℕ → List Loan → List ℕ
+runs n at [] = size+ (n - at) []
+runs n at (loan a k ∷ l) = size+ (a - at) (runs n (a + k) l)
+
+-- of a list of sizes: the largest (0: there is none), and all together
+unfoldable pub most : List ℕ → ℕ
+most [] = 0
+most (n ∷ ns) = max n (most ns)
+
+unfoldable pub sum : List ℕ → ℕ
+sum [] = 0
+sum (n ∷ ns) = n + sum ns
 
 -- a free segment for an unbroken run of unheld pages, taken whole; none where there is no such page
 abbrev pub run+ : ℕ → List Segment → List Segment

@@ -8,11 +8,12 @@ use Prim.Native.Nat.{ℕ, zero, suc, _+_, _-_, _≤_}
 use native.Mathlib.Omega.{arith}
 use lib.ListN.{length}
 use Rattle.manager.specs.Lists.{some}
-use Rattle.manager.specs.Map.{Segment, free, held, isHeldSegment, draw, decode, soundMap, freeSizes, heldSizes, sumOf, total}
+use Rattle.manager.specs.Map.{Segment, free, held, isHeldSegment, draw, decode, soundMap, freeSizes, heldSizes, total}
 use Rattle.manager.specs.Map.Laws.{Well, sound-drawn, reread, redraw, well-decoded, length-draw, total-decoded}
 use Rattle.manager.specs.Paged.{free+}
 use Rattle.manager.specs.Paged.Laws.{free-join, total-free, well-free, free-front}
-use Rattle.trace.specs.Loans.{Loan, loan, Lent, drawn, Ordered, loanPages}
+use Rattle.trace.specs.Loans.{Loan, loan, Lent, run+, size+, drawn, runs, Ordered, loanPages, sum}
+use Rattle.trace.specs.Claims.{freePages}
 use Rattle.trace.proofs.Loans.Drawn.{next, onward, drawn-next, ordered-next, ordered-from}
 
 -- ---- the words
@@ -56,8 +57,8 @@ held-sizes-free (suc m) [] = refl
 held-sizes-free (suc m) (free n ∷ s) = refl
 held-sizes-free (suc m) (held n ∷ s) = refl
 
-free-sum : (m : ℕ) (s : List Segment) → sumOf (freeSizes (free+ m s)) ≡ m + sumOf (freeSizes s)
-unfolding free+ freeSizes sumOf
+free-sum : (m : ℕ) (s : List Segment) → freePages (free+ m s) ≡ m + freePages s
+unfolding free+ freePages
 free-sum zero s = omega arith
 free-sum (suc m) [] = refl
 free-sum (suc m) (free n ∷ s) = omega arith
@@ -77,14 +78,25 @@ held-pages n at [] = ap heldSizes (drawn-next n at []) ∙ held-sizes-free (n - 
 held-pages n at (loan a k ∷ l) =
     ap heldSizes (drawn-next n at (loan a k ∷ l)) ∙ held-sizes-free (a - at) (held k ∷ drawn n (a + k) l) ∙ ap (λ (t : List ℕ). k ∷ t) (held-pages n (a + k) l)
 
+-- THE FREE SEGMENTS ARE THE RUNS OF UNHELD PAGES
+free-run : (g : ℕ) (s : List Segment) → freeSizes (run+ g s) ≡ size+ g (freeSizes s)
+unfolding freeSizes
+free-run zero s = refl
+free-run (suc g) s = refl
+
+pub free-runs : (n at : ℕ) (l : List Loan) → freeSizes (drawn n at l) ≡ runs n at l
+unfolding drawn freeSizes runs
+free-runs n at [] = free-run (n - at) []
+free-runs n at (loan a k ∷ l) = free-run (a - at) (held k ∷ drawn n (a + k) l) ∙ ap (size+ (a - at)) (free-runs n (a + k) l)
+
 -- WITH THE FREE PAGES THEY MAKE UP THE REGION
-counted-from : (n at : ℕ) (l : List Loan) → Ordered n at l → at + (sumOf (loanPages l) + sumOf (freeSizes (drawn n at l))) ≡ n
-unfolding Ordered freeSizes loanPages sumOf
+counted-from : (n at : ℕ) (l : List Loan) → Ordered n at l → at + (sum (loanPages l) + freePages (drawn n at l)) ≡ n
+unfolding Ordered freePages loanPages sum
 counted-from n at [] o = rw (drawn-next n at []) (omega (arith, free-sum (n - at) []))
 counted-from n at (loan a k ∷ l) o =
     rw (drawn-next n at (loan a k ∷ l)) (omega (arith, free-sum (a - at) (held k ∷ drawn n (a + k) l), counted-from n (a + k) l (o .2)))
 
-pub counted : (n : ℕ) (l : List Loan) → Ordered n 0 l → sumOf (loanPages l) + sumOf (freeSizes (drawn n 0 l)) ≡ n
+pub counted : (n : ℕ) (l : List Loan) → Ordered n 0 l → sum (loanPages l) + freePages (drawn n 0 l) ≡ n
 counted n l o = omega (arith, counted-from n 0 l o)
 
 -- SOMETHING IS HELD WHERE THERE IS A LOAN
