@@ -1,7 +1,7 @@
 -- Document 01, demand 3: what holds after every list of calls, a field for each sentence. "By the receipts" is said by the receipts
 -- alone. Assumes nothing.
 use mathlib.Core.Path.{_≡_}
-use mathlib.Core.Bool.{Bool, true, false, cond, not, _&&_}
+use mathlib.Core.Bool.{Bool, false, cond, not, _&&_}
 use mathlib.Core.List.{List, [], _∷_, _++_}
 use mathlib.Core.Logic.{_⊎_, _↔_}
 use mathlib.Core.Option.{Option, none, some}
@@ -10,13 +10,11 @@ use lib.ListN.{length}
 use lib.Dec.{eqb, ltb}
 use Rattle.arith.specs.Round.{pagesFor}
 use Rattle.manager.specs.Record.{slots, mostWords, regionOf, partitionOf}
-use Rattle.manager.specs.Result.{Result}
 use Rattle.manager.specs.Map.{Segment, free, held, draw}
 use Rattle.manager.specs.Region.{mapWords, segments}
 use Rattle.manager.specs.Partition.{chain}
 use Rattle.manager.specs.Access.{readSegment, writeSegment}
 use Rattle.manager.specs.Perform.{perform}
-use Rattle.manager.specs.declared.Manager.{Manager}
 use Rattle.manager.specs.declared.Waiter.{Waiter}
 use Rattle.manager.specs.declared.Notice.{Notice}
 use Rattle.manager.specs.declared.Information.{Information}
@@ -25,11 +23,10 @@ use Rattle.manager.specs.declared.Call.the-variants.{GetSegment, ReturnSegment,
 use Rattle.manager.specs.declared.Wait.the-variants.{No}
 use Rattle.manager.specs.declared.Order.{Order}
 use Rattle.manager.specs.declared.Order.the-variants.{Fifo, Priority}
-use Rattle.manager.specs.declared.Status.{Status}
-use Rattle.manager.specs.declared.Status.the-variants.{Successful, Timeout, InvalidAddress, Unsatisfied, InternalError}
-use Rattle.trace.specs.Loans.{Loan, Lent, Held, Run, Lowest, Room, Ordered, drawn, loanPages, runs, most, sum, enter, amend}
-use Rattle.trace.specs.Receipts.{Receipts, RegionEntry, PartitionEntry, Wait, unit, pagesIn, addressIn, pageIn, buffersIn, buffersFrom, Within, Distinct}
-use Rattle.trace.specs.Trace.{Ask, call, write, State, Object, Loaned, Runs, start, after}
+use Rattle.manager.specs.declared.Status.the-variants.{Successful, Timeout, Unsatisfied, InternalError}
+use Rattle.trace.specs.Loans.{Loan, Lent, Run, Lowest, Room, Ordered, drawn, loanPages, runs, most, sum, enter, amend}
+use Rattle.trace.specs.Receipts.{Receipts, RegionEntry, PartitionEntry, Wait, unit, pagesIn, addressIn, buffersIn, buffersFrom, Within, Distinct}
+use Rattle.trace.specs.Trace.{State, Object, Loaned, Runs, start}
 
 -- THE QUEUE BY THE RECEIPTS: a region's waits, by arrival, or by priority and equal ones by arrival
 unfoldable pub waitsIn : ℕ → List Wait → List Wait

@@ -1,7 +1,7 @@
 -- Document 01, "Receipts, for demand 3": the loans of one region, and what is read off them alone: which pages are held, the runs of
 -- unheld pages, and the drawn map. Nothing here looks at a map or at a memory. Assumes nothing.
 use mathlib.Core.Path.{_≡_}
-use mathlib.Core.Bool.{Bool, cond}
+use mathlib.Core.Bool.{cond}
 use mathlib.Core.List.{List, [], _∷_}
 use mathlib.Core.Logic.{_⊎_}
 use Prim.Native.Nat.{ℕ, zero, suc, _+_, _-_, _≤_, _<_, max}

@@ -9,7 +9,7 @@ use native.Mathlib.Omega.{arith}
 use native.Mathlib.Nat.{add-zero}
 use lib.Dec.{eqb}
 use borrow.Author.Tests.{eq-eqb, ne-eqb}
-use Rattle.manager.specs.Map.{free, held}
+use Rattle.manager.specs.Map.{held}
 use Rattle.manager.specs.Paged.{free+, held+, lead, rest, heldFrom, reachFrom, changeFrom}
 use Rattle.manager.specs.Paged.Laws.{free-join}
 use Rattle.trace.specs.Loans.{Loan, loan, loan+, amend, Lent, Held, drawn, Ordered, Room}

@@ -5,7 +5,7 @@ use mathlib.Core.List.{List, [], _∷_}
 use mathlib.Core.Logic.{inl, inr}
 use Prim.Native.Nat.{ℕ, zero, suc, _+_, _-_, _≤_, _<_}
 use native.Mathlib.Omega.{arith}
-use Rattle.manager.specs.Map.{Segment, free, held}
+use Rattle.manager.specs.Map.{Segment, held}
 use Rattle.manager.specs.Paged.{free+, lead, rest}
 use Rattle.trace.specs.Loans.{Loan, loan, Lent, Held, run+, drawn, Ordered}
 

@@ -9,7 +9,7 @@ use native.Mathlib.Omega.{arith}
 use native.Mathlib.Nat.{add-zero, sub-self, le-refl}
 use lib.Dec.{leb}
 use borrow.Author.Tests.{le-leb, lt-leb}
-use Rattle.manager.specs.Map.{Segment, free, held}
+use Rattle.manager.specs.Map.{Segment, held}
 use Rattle.manager.specs.Paged.{free+, placeFrom, take}
 use Rattle.manager.specs.declared.Place.{Place}
 use Rattle.manager.specs.declared.Place.the-variants.{At, Nowhere}
