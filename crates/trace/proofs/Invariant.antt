@@ -1,7 +1,7 @@
 -- The invariant of the trace theorem: the receipts are right in themselves (waits), and the memory and the record are their picture
 -- (regions, partitions, areas, queue). Everything that the manager keeps is determined by the receipts, but for what clients wrote.
 use mathlib.Core.Path.{_≡_}
-use mathlib.Core.Bool.{Bool, true, false}
+use mathlib.Core.Bool.{true}
 use mathlib.Core.List.{List, [], _∷_, _++_}
 use mathlib.Core.Logic.{_⊎_}
 use mathlib.Core.Option.{Option, none, some}
@@ -17,7 +17,7 @@ use Rattle.manager.specs.Sound.{soundLength, inside, livePartition, soundAreas}
 use Rattle.manager.specs.declared.Manager.{Manager}
 use Rattle.manager.specs.declared.Region.{Region}
 use Rattle.manager.specs.declared.Partition.{Partition}
-use Rattle.trace.specs.Loans.{Loan, Ordered, drawn}
+use Rattle.trace.specs.Loans.{Ordered, drawn}
 use Rattle.trace.specs.Receipts.{Receipts, RegionEntry, PartitionEntry, Wait, unit, pagesIn, Within, Distinct}
 use Rattle.trace.specs.Claims.{queueOf, waitersOf}
 

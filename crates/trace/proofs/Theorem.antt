@@ -1,9 +1,7 @@
 -- DEMAND 3. The invariant holds at a fresh start, each call and each client write keeps it, and it gives every claim: one induction over
 -- the list.
 use mathlib.Core.List.{List}
-use Prim.Native.Nat.{ℕ, _≤_}
-use lib.ListN.{length}
-use Rattle.manager.specs.Record.{mostWords}
+use Prim.Native.Nat.{ℕ}
 use Rattle.manager.specs.Perform.{perform}
 use Rattle.manager.specs.declared.Manager.{Manager}
 use Rattle.manager.specs.declared.Call.{Call}

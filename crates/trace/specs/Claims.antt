@@ -1,7 +1,7 @@
 -- Document 01, demand 3: what holds after every list of calls, a field for each sentence. "By the receipts" is said by the receipts
 -- alone. Assumes nothing.
 use mathlib.Core.Path.{_≡_}
-use mathlib.Core.Bool.{Bool, true, false, cond, not, _&&_}
+use mathlib.Core.Bool.{Bool, false, cond, not, _&&_}
 use mathlib.Core.List.{List, [], _∷_, _++_}
 use mathlib.Core.Logic.{_⊎_, _↔_}
 use mathlib.Core.Option.{Option, none, some}
@@ -9,28 +9,24 @@ use Prim.Native.Nat.{ℕ, zero, suc, _+_, _-_, _*_, _≤_, _<_}
 use lib.ListN.{length}
 use lib.Dec.{eqb, ltb}
 use Rattle.arith.specs.Round.{pagesFor}
-use Rattle.manager.specs.Record.{slots, mostWords, idOf, regionOf, partitionOf}
-use Rattle.manager.specs.Result.{Result}
-use Rattle.manager.specs.Map.{Segment, draw, freeSizes, sumOf}
+use Rattle.manager.specs.Record.{slots, mostWords, regionOf, partitionOf}
+use Rattle.manager.specs.Map.{Segment, free, held, draw}
 use Rattle.manager.specs.Region.{mapWords, segments}
 use Rattle.manager.specs.Partition.{chain}
-use Rattle.manager.specs.Queue.{waitsFor}
-use Rattle.manager.specs.Regions.{informationOf}
 use Rattle.manager.specs.Access.{readSegment, writeSegment}
 use Rattle.manager.specs.Perform.{perform}
-use Rattle.manager.specs.declared.Manager.{Manager}
 use Rattle.manager.specs.declared.Waiter.{Waiter}
 use Rattle.manager.specs.declared.Notice.{Notice}
+use Rattle.manager.specs.declared.Information.{Information}
 use Rattle.manager.specs.declared.Call.{Call}
 use Rattle.manager.specs.declared.Call.the-variants.{GetSegment, ReturnSegment, SegmentSize, ResizeSegment, RegionInformation, GetBuffer, Tick}
 use Rattle.manager.specs.declared.Wait.the-variants.{No}
 use Rattle.manager.specs.declared.Order.{Order}
 use Rattle.manager.specs.declared.Order.the-variants.{Fifo, Priority}
-use Rattle.manager.specs.declared.Status.{Status}
-use Rattle.manager.specs.declared.Status.the-variants.{Successful, Timeout, InvalidAddress, Unsatisfied, InternalError}
-use Rattle.trace.specs.Loans.{Loan, Lent, Held, Run, Lowest, Room, Ordered, drawn, loanPages, enter, amend}
-use Rattle.trace.specs.Receipts.{Receipts, RegionEntry, PartitionEntry, Wait, unit, pagesIn, addressIn, pageIn, buffersIn, buffersFrom, Within, Distinct}
-use Rattle.trace.specs.Trace.{Ask, call, write, State, Object, Loaned, Runs, start, after}
+use Rattle.manager.specs.declared.Status.the-variants.{Successful, Timeout, Unsatisfied, InternalError}
+use Rattle.trace.specs.Loans.{Loan, Lent, Run, Lowest, Room, Ordered, drawn, loanPages, runs, most, sum, enter, amend}
+use Rattle.trace.specs.Receipts.{Receipts, RegionEntry, PartitionEntry, Wait, unit, pagesIn, addressIn, buffersIn, buffersFrom, Within, Distinct}
+use Rattle.trace.specs.Trace.{State, Object, Loaned, Runs, start}
 
 -- THE QUEUE BY THE RECEIPTS: a region's waits, by arrival, or by priority and equal ones by arrival
 unfoldable pub waitsIn : ℕ → List Wait → List Wait
@@ -63,10 +59,10 @@ unfoldable pub waitersOf : List Wait → List Waiter
 waitersOf [] = []
 waitersOf (w ∷ ws) = waiterOf w ∷ waitersOf ws
 
--- the waiters of a region in the record, in their order
+-- the waiters of a region in the record, in their order: a place of task 0 is unused
 unfoldable pub waitersFor : ℕ → List Waiter → List Waiter
 waitersFor id [] = []
-waitersFor id (w ∷ ws) = cond (waitsFor id w) (w ∷ waitersFor id ws) (waitersFor id ws)
+waitersFor id (w ∷ ws) = cond (not (eqb (w .task) 0) && eqb (w .region) id) (w ∷ waitersFor id ws) (waitersFor id ws)
 
 -- GRANTS BY THE RECEIPTS: to the first waits in order, each at the lowest run at that moment, up to the first wait that has none
 pub data Grants (e : RegionEntry) : List Loan → List Wait → List Notice → Type 0 where
@@ -87,13 +83,33 @@ dueOf id none t = []
 dueOf id (some e) t = dueIn (queueOf id e t)
 
 unfoldable pub dueFrom : ℕ → ℕ → Receipts → List Notice
-dueFrom zero i t = []
-dueFrom (suc n) i t = dueOf (idOf i) (t .regions (idOf i)) t ++ dueFrom n (suc i) t
+dueFrom zero id t = []
+dueFrom (suc n) id t = dueOf id (t .regions id) t ++ dueFrom n (suc id) t
+
+-- INFORMATION BY THE RECEIPTS: count, largest and total bytes over the runs of unheld pages, then over the loans
+abbrev pub informationIn : RegionEntry → Information
+informationIn e =
+    let frees = runs (pagesIn e) 0 (e .loans) in
+    let helds = loanPages (e .loans) in
+    record {
+      «free_count» = length frees;
+      «free_largest» = most frees * unit e;
+      «free_total» = sum frees * unit e;
+      «held_count» = length helds;
+      «held_largest» = most helds * unit e;
+      «held_total» = sum helds * unit e;
+    }
+
+-- the pages free in a map
+unfoldable pub freePages : List Segment → ℕ
+freePages [] = 0
+freePages (free n ∷ s) = n + freePages s
+freePages (held n ∷ s) = freePages s
 
 -- WHAT IS CLAIMED OF A REGION that the receipts have under an id
 pub record RegionClaims (s : State) (id : ℕ) (e : RegionEntry) : Type 0 where
   -- pages held by the receipts and pages free in the map make up the region
-  pub counted : sumOf (loanPages (e .loans)) + sumOf (freeSizes (segments (s .memory) (regionOf (s .manager) id))) ≡ pagesIn e
+  pub counted : sum (loanPages (e .loans)) + freePages (segments (s .memory) (regionOf (s .manager) id)) ≡ pagesIn e
   -- its loans lie in its pages, and no two share one
   pub ordered : Ordered (pagesIn e) 0 (e .loans)
   -- the region's map is the one drawn from the receipts, unheld neighbours joined
@@ -111,8 +127,7 @@ pub record RegionClaims (s : State) (id : ℕ) (e : RegionEntry) : Type 0 where
   -- a read is empty only where the receipts have no loan at that address in that region
   pub read : (p k : ℕ) → Lent (e .loans) p k → ¬ (readSegment (s .memory) (s .manager) id (addressIn e p) ≡ [])
   -- an information call answers the count, largest and total bytes over the runs of unheld pages and over the loans
-  pub information : perform (s .memory) (s .manager) (RegionInformation id) .information
-      ≡ informationOf (unit e) (freeSizes (drawn (pagesIn e) 0 (e .loans))) (loanPages (e .loans))
+  pub information : perform (s .memory) (s .manager) (RegionInformation id) .information ≡ informationIn e
   -- size and resize answer the loan's length, and resize is 13 exactly when the pages that it lacks aren't unheld
   pub size : (p k : ℕ) → Lent (e .loans) p k → perform (s .memory) (s .manager) (SegmentSize id (addressIn e p)) .value ≡ k * unit e
   pub resize : (p k size : ℕ) → Lent (e .loans) p k → 0 < size
@@ -150,7 +165,7 @@ pub record Claims (s : State) : Type 0 where
   pub sound : (c : Call) → ¬ (perform (s .memory) (s .manager) c .status ≡ InternalError)
   pub sound-write : (id address first : ℕ) (words : List ℕ) → ¬ (writeSegment (s .memory) (s .manager) id address first words .status ≡ InternalError)
   -- a tick sends 6 to exactly those waits whose ticks have run out by the ticks counted since they began, and serves nobody
-  pub tick : perform (s .memory) (s .manager) Tick .notices ≡ dueFrom slots 0 (s .receipts)
+  pub tick : perform (s .memory) (s .manager) Tick .notices ≡ dueFrom slots 1 (s .receipts)
 
 -- after every list of calls and writes, from a fresh start over any memory of allowed length
 abbrev pub Demand3 : Type 0

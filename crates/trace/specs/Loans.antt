@@ -1,13 +1,12 @@
 -- Document 01, "Receipts, for demand 3": the loans of one region, and what is read off them alone: which pages are held, the runs of
 -- unheld pages, and the drawn map. Nothing here looks at a map or at a memory. Assumes nothing.
 use mathlib.Core.Path.{_≡_}
-use mathlib.Core.Bool.{Bool, cond}
+use mathlib.Core.Bool.{cond}
 use mathlib.Core.List.{List, [], _∷_}
 use mathlib.Core.Logic.{_⊎_}
-use Prim.Native.Nat.{ℕ, zero, suc, _+_, _-_, _≤_, _<_}
+use Prim.Native.Nat.{ℕ, zero, suc, _+_, _-_, _≤_, _<_, max}
 use lib.Dec.{leb, eqb}
 use Rattle.manager.specs.Map.{Segment, free, held}
-use Rattle.manager.specs.Paged.{free+}
 
 -- a loan of pages: its first page, and how many
 pub data Loan : Type 0 where
@@ -38,16 +37,39 @@ unfoldable pub Held : List Loan → ℕ → Type 0
 Held [] q = ⊥
 Held (loan a n ∷ l) q = ((a ≤ q) × (q < a + n)) ⊎ Held l q
 
--- the loans' pages: of each, and of all
+-- the pages of each loan
 unfoldable pub loanPages : List Loan → List ℕ
 loanPages [] = []
 loanPages (loan a n ∷ l) = n ∷ loanPages l
 
+-- the pages of each unbroken run of unheld pages, from page `at` to page n, taken whole; a gap of no page is no run
+abbrev pub size+ : ℕ → List ℕ → List ℕ
+size+ zero s = s
+size+ (suc g) s = suc g ∷ s
+
+unfoldable pub runs : ℕ → ℕ → List Loan → List ℕ
+runs n at [] = size+ (n - at) []
+runs n at (loan a k ∷ l) = size+ (a - at) (runs n (a + k) l)
+
+-- of a list of sizes: the largest (0: there is none), and all together
+unfoldable pub most : List ℕ → ℕ
+most [] = 0
+most (n ∷ ns) = max n (most ns)
+
+unfoldable pub sum : List ℕ → ℕ
+sum [] = 0
+sum (n ∷ ns) = n + sum ns
+
+-- a free segment for an unbroken run of unheld pages, taken whole; none where there is no such page
+abbrev pub run+ : ℕ → List Segment → List Segment
+run+ zero s = s
+run+ (suc g) s = free (suc g) ∷ s
+
 -- THE DRAWN MAP, from page `at` to page n: "a held segment for each loan and a free one for each unbroken run of unheld pages, taken
 -- whole"
 unfoldable pub drawn : ℕ → ℕ → List Loan → List Segment
-drawn n at [] = free+ (n - at) []
-drawn n at (loan a k ∷ l) = free+ (a - at) (held k ∷ drawn n (a + k) l)
+drawn n at [] = run+ (n - at) []
+drawn n at (loan a k ∷ l) = run+ (a - at) (held k ∷ drawn n (a + k) l)
 
 -- the loans lie in order between page `at` and page n, each of a page or more, and none starts before the one before it has ended
 unfoldable pub Ordered : ℕ → ℕ → List Loan → Type 0

@@ -1,17 +1,16 @@
 -- Document 01, "Receipts, for demand 3": written from the arguments and answers of the calls, never from the record or the memory.
 -- Assumes nothing.
 use mathlib.Core.Path.{_≡_}
-use mathlib.Core.Bool.{Bool, true, false, cond, not, _&&_}
+use mathlib.Core.Bool.{Bool, cond}
 use mathlib.Core.List.{List, [], _∷_, _++_}
 use mathlib.Core.Option.{Option, none, some}
 use mathlib.Core.Logic.{_⊎_}
 use Prim.Native.Nat.{ℕ, zero, suc, _+_, _-_, _*_, _/_}
-use lib.Dec.{eqb, ltb}
+use lib.Dec.{eqb}
 use Rattle.arith.specs.Round.{roundUp, pagesFor}
 use Rattle.arith.specs.Layout.{pageCount, firstPage}
 use Rattle.manager.specs.Status.{numberOf}
 use Rattle.manager.specs.Result.{Result}
-use Rattle.manager.specs.Map.{Segment}
 use Rattle.manager.specs.declared.Call.{Call}
 use Rattle.manager.specs.declared.Call.the-variants.{CreateRegion, IdentRegion, DeleteRegion, GetSegment, ReturnSegment, SegmentSize, ResizeSegment, RegionInformation, CreatePartition, IdentPartition, DeletePartition, GetBuffer, ReturnBuffer, Tick}
 use Rattle.manager.specs.declared.Notice.{Notice}

@@ -1,13 +1,11 @@
 -- Document 01, demand 3: every list of calls from a fresh start, refused ones included, with clients writing what they like into what
 -- they hold. Assumes nothing.
 use mathlib.Core.Path.{_≡_}
-use mathlib.Core.List.{List, [], _∷_}
-use mathlib.Core.Logic.{_⊎_}
+use mathlib.Core.List.{List}
 use mathlib.Core.Option.{some}
 use Prim.Native.Nat.{ℕ, _+_, _*_, _≤_, _<_}
 use lib.ListN.{length, getD}
 use Rattle.manager.specs.Record.{fresh}
-use Rattle.manager.specs.Result.{Result}
 use Rattle.manager.specs.Access.{writeSegment}
 use Rattle.manager.specs.Perform.{perform}
 use Rattle.manager.specs.declared.Manager.{Manager}

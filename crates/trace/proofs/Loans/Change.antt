@@ -9,7 +9,7 @@ use native.Mathlib.Omega.{arith}
 use native.Mathlib.Nat.{add-zero}
 use lib.Dec.{eqb}
 use borrow.Author.Tests.{eq-eqb, ne-eqb}
-use Rattle.manager.specs.Map.{free, held}
+use Rattle.manager.specs.Map.{held}
 use Rattle.manager.specs.Paged.{free+, held+, lead, rest, heldFrom, reachFrom, changeFrom}
 use Rattle.manager.specs.Paged.Laws.{free-join}
 use Rattle.trace.specs.Loans.{Loan, loan, loan+, amend, Lent, Held, drawn, Ordered, Room}
@@ -82,8 +82,8 @@ held-lent n at (loan a m ∷ l) p k o (inr x) =
 
 -- pages found are a loan's
 pub held-some : (n at : ℕ) (l : List Loan) (p : ℕ) → Ordered n at l → 0 < heldFrom p at (drawn n at l) → Lent l p (heldFrom p at (drawn n at l))
-unfolding Ordered Lent drawn heldFrom
-held-some n at [] p o x = let e : heldFrom p at (free+ (n - at) []) ≡ 0 = held-gap n p at (n - at) [] in absurd (omega arith)
+unfolding Ordered Lent heldFrom
+held-some n at [] p o x = let e : heldFrom p at (drawn n at []) ≡ 0 = ap (heldFrom p at) (drawn-next n at []) ∙ held-gap n p at (n - at) [] in absurd (omega arith)
 held-some n at (loan a m ∷ l) p o x =
     rw (held-first n p at a m l o)
     (by-eqb a p (λ (t : Bool). 0 < cond t m (heldFrom p (a + m) (drawn n (a + m) l)) → Lent (loan a m ∷ l) p (cond t m (heldFrom p (a + m) (drawn n (a + m) l))))
@@ -145,7 +145,7 @@ amend-behind a m p k l h = rw (ne-eqb a p h)
 
 module _ (n at a m : ℕ) (l : List Loan) (o : Ordered n at (loan a m ∷ l)) where
   drawn-here : (k : ℕ) → k ≤ mostAt n a m l → free+ (a - at) (held+ k (free+ (mostAt n a m l - k) (onward n l))) ≡ drawn n at (loan+ a k l)
-  unfolding Ordered drawn
+  unfolding Ordered
   drawn-here zero h =
       let le : a + m ≤ next n l = ordered-next n (a + m) l (o .2) in
       let same : a - at + (mostAt n a m l - 0) ≡ next n l - at = omega arith in
@@ -153,7 +153,7 @@ module _ (n at a m : ℕ) (l : List Loan) (o : Ordered n at (loan a m ∷ l)) wh
   drawn-here (suc k) h =
       let le : a + m ≤ next n l = ordered-next n (a + m) l (o .2) in
       let same : mostAt n a m l - suc k ≡ next n l - (a + suc k) = omega arith in
-      rw (same, drawn-next n (a + suc k) l)
+      rw (drawn-next n at (loan a (suc k) ∷ l), same, drawn-next n (a + suc k) l)
 
   ordered-here : (k : ℕ) → k ≤ mostAt n a m l → Ordered n at (loan+ a k l)
   unfolding Ordered
@@ -163,7 +163,7 @@ module _ (n at a m : ℕ) (l : List Loan) (o : Ordered n at (loan a m ∷ l)) wh
 -- THE LOAN HAS k PAGES FROM THEN ON
 pub changed : (n at : ℕ) (l : List Loan) (p m k : ℕ) → Ordered n at l → Lent l p m → k ≤ reachFrom p at (drawn n at l)
     → (changeFrom p k at (drawn n at l) ≡ drawn n at (amend p k l)) × Ordered n at (amend p k l)
-unfolding Ordered Lent drawn
+unfolding Ordered Lent
 changed n at [] p m k o x h = absurd x
 changed n at (loan a j ∷ l) p m k o (inl x) h =
     let reach : reachFrom p at (drawn n at (loan a j ∷ l)) ≡ mostAt n a j l = reach-first n p at a j l o ∙ rw (eq-eqb a p (x .0)) in
@@ -176,7 +176,7 @@ changed n at (loan a j ∷ l) p m k o (inr x) h =
     let reach : reachFrom p at (drawn n at (loan a j ∷ l)) ≡ reachFrom p (a + j) (drawn n (a + j) l) = reach-first n p at a j l o ∙ rw (ne-eqb a p ne) in
     let is : amend p k (loan a j ∷ l) ≡ loan a j ∷ amend p k l = amend-behind a j p k l ne in
     let ih = changed n (a + j) l p m k (o .2) x (rw reach at h) in (
-      change-first n p at a j l o k ∙ rw (ne-eqb a p ne, is, ih .0),
+      change-first n p at a j l o k ∙ rw (ne-eqb a p ne, is, ih .0, drawn-next n at (loan a j ∷ amend p k l)),
       rw is (o .0, o .1, ih .1),
     )
 

@@ -5,9 +5,9 @@ use mathlib.Core.List.{List, [], _∷_}
 use mathlib.Core.Logic.{inl, inr}
 use Prim.Native.Nat.{ℕ, zero, suc, _+_, _-_, _≤_, _<_}
 use native.Mathlib.Omega.{arith}
-use Rattle.manager.specs.Map.{Segment, free, held}
+use Rattle.manager.specs.Map.{Segment, held}
 use Rattle.manager.specs.Paged.{free+, lead, rest}
-use Rattle.trace.specs.Loans.{Loan, loan, Lent, Held, drawn, Ordered}
+use Rattle.trace.specs.Loans.{Loan, loan, Lent, Held, run+, drawn, Ordered}
 
 -- where the first loan starts, or the region ends
 abbrev pub next : ℕ → List Loan → ℕ
@@ -19,10 +19,18 @@ abbrev pub onward : ℕ → List Loan → List Segment
 onward n [] = []
 onward n (loan a k ∷ l) = held k ∷ drawn n (a + k) l
 
+-- there a run of unheld pages has no free segment behind it to be joined to
+run-free : (g n : ℕ) (l : List Loan) → run+ g (onward n l) ≡ free+ g (onward n l)
+unfolding free+
+run-free zero n l = refl
+run-free (suc g) n [] = refl
+run-free (suc g) n (loan a k ∷ l) = refl
+
+-- THE DRAWN MAP IS ITS FIRST FREE PAGES, AND THE MAP BEHIND THEM
 pub drawn-next : (n at : ℕ) (l : List Loan) → drawn n at l ≡ free+ (next n l - at) (onward n l)
 unfolding drawn
-drawn-next n at [] = refl
-drawn-next n at (loan a k ∷ l) = refl
+drawn-next n at [] = run-free (n - at) n []
+drawn-next n at (loan a k ∷ l) = run-free (a - at) n (loan a k ∷ l)
 
 -- the free pages in front are the leading segment, and the rest is behind them
 pub lead-onward : (g n : ℕ) (l : List Loan) → lead (free+ g (onward n l)) ≡ g

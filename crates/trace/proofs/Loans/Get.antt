@@ -1,6 +1,6 @@
 -- A get on a drawn map: where it is placed, and the map that it leaves, are read off the loans. By induction over the loans: the free
 -- pages before the first one serve, or what is behind it does. Assumes nothing.
-use mathlib.Core.Path.{_≡_, refl, ap}
+use mathlib.Core.Path.{_≡_, refl, sym, ap, _∙_}
 use mathlib.Core.Bool.{Bool, cond}
 use mathlib.Core.List.{List, [], _∷_}
 use mathlib.Core.Logic.{inl, inr}
@@ -9,7 +9,7 @@ use native.Mathlib.Omega.{arith}
 use native.Mathlib.Nat.{add-zero, sub-self, le-refl}
 use lib.Dec.{leb}
 use borrow.Author.Tests.{le-leb, lt-leb}
-use Rattle.manager.specs.Map.{Segment, free, held}
+use Rattle.manager.specs.Map.{Segment, held}
 use Rattle.manager.specs.Paged.{free+, placeFrom, take}
 use Rattle.manager.specs.declared.Place.{Place}
 use Rattle.manager.specs.declared.Place.the-variants.{At, Nowhere}
@@ -71,27 +71,27 @@ run-behind n a m l k q u = record { some = u .some; upto = u .upto; unheld = λ 
 -- they do not: what the rest of the map comes to
 behind : (n at a m : ℕ) (l : List Loan) (k : ℕ) {g : Place} {s : List Segment} → Ordered n at (loan a m ∷ l) → a - at < k → Got n (a + m) l k g s
     → Got n at (loan a m ∷ l) k g (free+ (a - at) (held m ∷ s))
-unfolding drawn Ordered Held
+unfolding Ordered Held
 behind n at a m l k o h (gave {s} p e i b run low) =
     let there : enter p k (loan a m ∷ l) ≡ loan a m ∷ enter p k l = enter-behind a m p k l (omega arith) in
-    let is : free+ (a - at) (held m ∷ s) ≡ drawn n at (enter p k (loan a m ∷ l)) = rw (there, e) in
+    let is : free+ (a - at) (held m ∷ s) ≡ drawn n at (enter p k (loan a m ∷ l)) = rw (there, drawn-next n at (loan a m ∷ enter p k l), e) in
     gave p is (rw there (o .0, o .1, i)) (omega arith)
     (record { some = run .some; upto = run .upto; unheld = λ q c u x. elim x [ inl y ↦ omega arith | inr y ↦ run .unheld q c u y ] })
     (λ q b u. low q (run-from n at a m l k q (o .1) h b u) (run-behind n a m l k q u))
 behind n at a m l k o h (none e no-run) =
-    none (ap (λ (t : List Segment). free+ (a - at) (held m ∷ t)) e)
+    none (ap (λ (t : List Segment). free+ (a - at) (held m ∷ t)) e ∙ sym (drawn-next n at (loan a m ∷ l)))
     (λ q b u. no-run q (run-from n at a m l k q (o .1) h b u) (run-behind n a m l k q u))
 
 -- A GET OF k PAGES
 pub got-from : (n k at : ℕ) (l : List Loan) → Ordered n at l → 0 < k → Got n at l k (placeFrom k at (drawn n at l)) (take k (drawn n at l))
-unfolding drawn Ordered placeFrom take
+unfolding Ordered placeFrom take
 got-from n k at [] o z =
-    rw (place-gap n k at (n - at) [] z, take-gap n k (n - at) [] z)
+    rw (drawn-next n at [], place-gap n k at (n - at) [] z, take-gap n k (n - at) [] z)
     (by-leb k (n - at) (λ (t : Bool). Got n at [] k (cond t (At at) Nowhere) (cond t (held k ∷ free+ (n - at - k) []) (free+ (n - at) [])))
-    (first n at k [] o z) (λ h. none refl (λ q b u. omega (arith, u .upto))))
+    (first n at k [] o z) (λ h. none (sym (drawn-next n at [])) (λ q b u. omega (arith, u .upto))))
 got-from n k at (loan a m ∷ l) o z =
     let there : at + (a - at) ≡ a = omega arith in
-    rw (place-gap n k at (a - at) (loan a m ∷ l) z, take-gap n k (a - at) (loan a m ∷ l) z, there)
+    rw (drawn-next n at (loan a m ∷ l), place-gap n k at (a - at) (loan a m ∷ l) z, take-gap n k (a - at) (loan a m ∷ l) z, there)
     (by-leb k (a - at)
     (λ (t : Bool). Got n at (loan a m ∷ l) k (cond t (At at) (placeFrom k (a + m) (drawn n (a + m) l)))
     (cond t (held k ∷ free+ (a - at - k) (held m ∷ drawn n (a + m) l)) (free+ (a - at) (held m ∷ take k (drawn n (a + m) l)))))

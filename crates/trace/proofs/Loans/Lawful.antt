@@ -8,16 +8,18 @@ use Prim.Native.Nat.{ℕ, _+_, _≤_, _<_}
 use native.Mathlib.Omega.{arith}
 use lib.ListN.{length}
 use Rattle.manager.specs.Lists.{some}
-use Rattle.manager.specs.Map.{Segment, isHeldSegment, draw, decode, freeSizes, heldSizes, sumOf}
+use Rattle.manager.specs.Map.{Segment, isHeldSegment, draw, decode, freeSizes, heldSizes}
 use Rattle.manager.specs.Paged.{Kind, free+}
 use Rattle.manager.specs.declared.Place.{Place}
 use Rattle.manager.specs.declared.Place.the-variants.{At, Nowhere}
-use Rattle.trace.specs.Loans.{Loan, loan, enter, amend, Lent, loanPages}
+use Rattle.trace.specs.Loans.{Loan, loan, enter, amend, Lent, loanPages, sum}
+use Rattle.trace.specs.Claims.{freePages}
 
--- by the loans of a region of n pages: its map; that the loans lie in it, apart; where k pages can be given, and the lowest such place;
+-- by the loans of a region of n pages: its map; the pages of its free segments; that the loans lie in it, apart; where k pages can be given, and the lowest such place;
 -- whether the loan of m pages at page p can have k
 pub record Reading : Type 1 where
   pub drawn : ℕ → List Loan → List Segment
+  pub runs : ℕ → List Loan → List ℕ
   pub Ordered : ℕ → List Loan → Type 0
   pub Run : ℕ → List Loan → ℕ → ℕ → Type 0
   pub Lowest : ℕ → List Loan → ℕ → ℕ → Type 0
@@ -59,7 +61,8 @@ pub record Lawful (K : Kind) (R : Reading) : Type 0 where
   pub loans : (ws : List ℕ) → K .sound ws ≡ true → (l : List Loan) × Drawing R (length ws) l (decode ws) × (ws ≡ draw (decode ws))
   -- its counts
   pub held-pages : {n : ℕ} {l : List Loan} {s : List Segment} → Drawing R n l s → heldSizes s ≡ loanPages l
-  pub counted : {n : ℕ} {l : List Loan} {s : List Segment} → Drawing R n l s → sumOf (loanPages l) + sumOf (freeSizes s) ≡ n
+  pub free-runs : {n : ℕ} {l : List Loan} {s : List Segment} → Drawing R n l s → freeSizes s ≡ R .runs n l
+  pub counted : {n : ℕ} {l : List Loan} {s : List Segment} → Drawing R n l s → sum (loanPages l) + freePages s ≡ n
   pub any-none : {n : ℕ} {s : List Segment} → Drawing R n [] s → some isHeldSegment s ≡ false
   pub any-some : {n a k : ℕ} {l : List Loan} {s : List Segment} → Drawing R n (loan a k ∷ l) s → some isHeldSegment s ≡ true
   -- a loan has a page and lies in the region, and no two overlap

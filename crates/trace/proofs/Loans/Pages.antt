@@ -7,11 +7,12 @@ use Prim.Native.Nat.{ℕ, _+_, _≤_, _<_}
 use native.Mathlib.Omega.{arith}
 use lib.ListN.{length}
 use Rattle.manager.specs.Lists.{some}
-use Rattle.manager.specs.Map.{Segment, isHeldSegment, draw, decode, soundMap, freeSizes, heldSizes, sumOf}
+use Rattle.manager.specs.Map.{Segment, isHeldSegment, draw, decode, soundMap, freeSizes, heldSizes}
 use Rattle.manager.specs.Map.Laws.{redraw}
 use Rattle.manager.specs.Paged.{paged, placeFrom, take, heldFrom, reachFrom, changeFrom}
 use Rattle.manager.specs.declared.Place.{Place}
-use Rattle.trace.specs.Loans.{Loan, amend, Lent, drawn, Ordered, Run, Lowest, Room, loanPages}
+use Rattle.trace.specs.Loans.{Loan, amend, Lent, drawn, runs, Ordered, Run, Lowest, Room, loanPages, sum}
+use Rattle.trace.specs.Claims.{freePages}
 use Rattle.trace.proofs.Loans.Drawn as draws
 use Rattle.trace.proofs.Loans.Get.{Got, gave, none, got-from}
 use Rattle.trace.proofs.Loans.Change as change
@@ -21,7 +22,7 @@ use Rattle.trace.proofs.Loans.Lawful.{Reading, Drawing, Gets, given, no
 
 -- what is read off the loans of such a region
 abbrev pub pages : Reading
-pages = record { drawn = λ n l. drawn n 0 l; Ordered = λ n l. Ordered n 0 l; Run = Run; Lowest = Lowest; Room = Room }
+pages = record { drawn = λ n l. drawn n 0 l; runs = λ n l. runs n 0 l; Ordered = λ n l. Ordered n 0 l; Run = Run; Lowest = Lowest; Room = Room }
 
 gets : {n k : ℕ} {l : List Loan} {g : Place} {s : List Segment} → Ordered n 0 l → Got n 0 l k g s → Gets pages n l k g s
 gets o (gave p e i b run low) = given p (record { ordered = i; is = e }) (record { run = run; first = λ q u. low q (omega arith) u })
@@ -60,7 +61,10 @@ module _ {n : ℕ} {l : List Loan} {s : List Segment} (d : Drawing pages n l s) 
   held-pages : heldSizes s ≡ loanPages l
   held-pages = rw (d .is) (words.held-pages n 0 l)
 
-  counted : sumOf (loanPages l) + sumOf (freeSizes s) ≡ n
+  free-runs : freeSizes s ≡ runs n 0 l
+  free-runs = rw (d .is) (words.free-runs n 0 l)
+
+  counted : sum (loanPages l) + freePages s ≡ n
   counted = rw (d .is) (words.counted n l (d .ordered))
 
 -- PAGES ARE LAWFUL
@@ -82,6 +86,7 @@ paged-lawful =
       size = size;
       loans = λ ws e. let i = words.sound-loans ws e in (_, record { ordered = i .ordered; is = i .drawing }, sym (redraw ws e));
       held-pages = held-pages;
+      free-runs = free-runs;
       counted = counted;
       any-none = λ {n} {s} d. ap (some isHeldSegment) (d .is) ∙ words.any-none n 0;
       any-some = λ {n} {a} {k} {l} {s} d. ap (some isHeldSegment) (d .is) ∙ words.any-some n 0 a k l;

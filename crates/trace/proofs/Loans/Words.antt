@@ -8,24 +8,26 @@ use Prim.Native.Nat.{ℕ, zero, suc, _+_, _-_, _≤_}
 use native.Mathlib.Omega.{arith}
 use lib.ListN.{length}
 use Rattle.manager.specs.Lists.{some}
-use Rattle.manager.specs.Map.{Segment, free, held, isHeldSegment, draw, decode, soundMap, freeSizes, heldSizes, sumOf, total}
+use Rattle.manager.specs.Map.{Segment, free, held, isHeldSegment, draw, decode, soundMap, freeSizes, heldSizes, total}
 use Rattle.manager.specs.Map.Laws.{Well, sound-drawn, reread, redraw, well-decoded, length-draw, total-decoded}
 use Rattle.manager.specs.Paged.{free+}
 use Rattle.manager.specs.Paged.Laws.{free-join, total-free, well-free, free-front}
-use Rattle.trace.specs.Loans.{Loan, loan, Lent, drawn, Ordered, loanPages}
+use Rattle.trace.specs.Loans.{Loan, loan, Lent, run+, size+, drawn, runs, Ordered, loanPages, sum}
+use Rattle.trace.specs.Claims.{freePages}
 use Rattle.trace.proofs.Loans.Drawn.{next, onward, drawn-next, ordered-next, ordered-from}
 
 -- ---- the words
 
 pub well : (n at : ℕ) (l : List Loan) → Ordered n at l → Well true (drawn n at l)
-unfolding Ordered drawn
-well n at [] o = well-free (n - at) [] tt
-well n at (loan a k ∷ l) o = well-free (a - at) (held k ∷ drawn n (a + k) l) (omega arith, refl, well n (a + k) l (o .2))
+unfolding Ordered
+well n at [] o = rw (drawn-next n at []) (well-free (n - at) [] tt)
+well n at (loan a k ∷ l) o = rw (drawn-next n at (loan a k ∷ l)) (well-free (a - at) (held k ∷ drawn n (a + k) l) (omega arith, refl, well n (a + k) l (o .2)))
 
 pub total-drawn : (n at : ℕ) (l : List Loan) → Ordered n at l → at + total (drawn n at l) ≡ n
-unfolding Ordered drawn total
-total-drawn n at [] o = omega (arith, total-free (n - at) [])
-total-drawn n at (loan a k ∷ l) o = omega (arith, total-free (a - at) (held k ∷ drawn n (a + k) l), total-drawn n (a + k) l (o .2))
+unfolding Ordered total
+total-drawn n at [] o = rw (drawn-next n at []) (omega (arith, total-free (n - at) []))
+total-drawn n at (loan a k ∷ l) o =
+    rw (drawn-next n at (loan a k ∷ l)) (omega (arith, total-free (a - at) (held k ∷ drawn n (a + k) l), total-drawn n (a + k) l (o .2)))
 
 -- THE MAP IS SOUND, READS AS IT WAS DRAWN, AND HAS A WORD FOR EACH PAGE
 pub sound : (n at : ℕ) (l : List Loan) → Ordered n at l → soundMap (draw (drawn n at l)) ≡ true
@@ -38,13 +40,8 @@ pub size : (n : ℕ) (l : List Loan) → Ordered n 0 l → length (draw (drawn n
 size n l o = omega (arith, length-draw (drawn n 0 l), total-drawn n 0 l o)
 
 -- the map of no loans
-pub drawn-empty : (n at : ℕ) → drawn n at [] ≡ free+ (n - at) []
-unfolding drawn
-drawn-empty n at = refl
-
 pub drawn-new : (n : ℕ) → drawn n 0 [] ≡ free+ n []
-unfolding drawn
-drawn-new n = let e : n - 0 ≡ n = omega arith in rw e
+drawn-new n = let e : n - 0 ≡ n = omega arith in rw (drawn-next n 0 [], e)
 
 pub ordered-new : (n : ℕ) → Ordered n 0 []
 unfolding Ordered
@@ -60,8 +57,8 @@ held-sizes-free (suc m) [] = refl
 held-sizes-free (suc m) (free n ∷ s) = refl
 held-sizes-free (suc m) (held n ∷ s) = refl
 
-free-sum : (m : ℕ) (s : List Segment) → sumOf (freeSizes (free+ m s)) ≡ m + sumOf (freeSizes s)
-unfolding free+ freeSizes sumOf
+free-sum : (m : ℕ) (s : List Segment) → freePages (free+ m s) ≡ m + freePages s
+unfolding free+ freePages
 free-sum zero s = omega arith
 free-sum (suc m) [] = refl
 free-sum (suc m) (free n ∷ s) = omega arith
@@ -76,28 +73,40 @@ any-free (suc m) (held n ∷ s) = refl
 
 -- THE HELD SEGMENTS ARE THE LOANS
 pub held-pages : (n at : ℕ) (l : List Loan) → heldSizes (drawn n at l) ≡ loanPages l
-unfolding drawn heldSizes loanPages
-held-pages n at [] = held-sizes-free (n - at) []
+unfolding heldSizes loanPages
+held-pages n at [] = ap heldSizes (drawn-next n at []) ∙ held-sizes-free (n - at) []
 held-pages n at (loan a k ∷ l) =
-    held-sizes-free (a - at) (held k ∷ drawn n (a + k) l) ∙ ap (λ (t : List ℕ). k ∷ t) (held-pages n (a + k) l)
+    ap heldSizes (drawn-next n at (loan a k ∷ l)) ∙ held-sizes-free (a - at) (held k ∷ drawn n (a + k) l) ∙ ap (λ (t : List ℕ). k ∷ t) (held-pages n (a + k) l)
+
+-- THE FREE SEGMENTS ARE THE RUNS OF UNHELD PAGES
+free-run : (g : ℕ) (s : List Segment) → freeSizes (run+ g s) ≡ size+ g (freeSizes s)
+unfolding freeSizes
+free-run zero s = refl
+free-run (suc g) s = refl
+
+pub free-runs : (n at : ℕ) (l : List Loan) → freeSizes (drawn n at l) ≡ runs n at l
+unfolding drawn freeSizes runs
+free-runs n at [] = free-run (n - at) []
+free-runs n at (loan a k ∷ l) = free-run (a - at) (held k ∷ drawn n (a + k) l) ∙ ap (size+ (a - at)) (free-runs n (a + k) l)
 
 -- WITH THE FREE PAGES THEY MAKE UP THE REGION
-counted-from : (n at : ℕ) (l : List Loan) → Ordered n at l → at + (sumOf (loanPages l) + sumOf (freeSizes (drawn n at l))) ≡ n
-unfolding Ordered drawn freeSizes loanPages sumOf
-counted-from n at [] o = omega (arith, free-sum (n - at) [])
-counted-from n at (loan a k ∷ l) o = omega (arith, free-sum (a - at) (held k ∷ drawn n (a + k) l), counted-from n (a + k) l (o .2))
+counted-from : (n at : ℕ) (l : List Loan) → Ordered n at l → at + (sum (loanPages l) + freePages (drawn n at l)) ≡ n
+unfolding Ordered freePages loanPages sum
+counted-from n at [] o = rw (drawn-next n at []) (omega (arith, free-sum (n - at) []))
+counted-from n at (loan a k ∷ l) o =
+    rw (drawn-next n at (loan a k ∷ l)) (omega (arith, free-sum (a - at) (held k ∷ drawn n (a + k) l), counted-from n (a + k) l (o .2)))
 
-pub counted : (n : ℕ) (l : List Loan) → Ordered n 0 l → sumOf (loanPages l) + sumOf (freeSizes (drawn n 0 l)) ≡ n
+pub counted : (n : ℕ) (l : List Loan) → Ordered n 0 l → sum (loanPages l) + freePages (drawn n 0 l) ≡ n
 counted n l o = omega (arith, counted-from n 0 l o)
 
 -- SOMETHING IS HELD WHERE THERE IS A LOAN
 pub any-none : (n at : ℕ) → some isHeldSegment (drawn n at []) ≡ false
-unfolding drawn some
-any-none n at = any-free (n - at) []
+unfolding some
+any-none n at = ap (some isHeldSegment) (drawn-next n at []) ∙ any-free (n - at) []
 
 pub any-some : (n at a k : ℕ) (l : List Loan) → some isHeldSegment (drawn n at (loan a k ∷ l)) ≡ true
-unfolding drawn some
-any-some n at a k l = any-free (a - at) (held k ∷ drawn n (a + k) l)
+unfolding some
+any-some n at a k l = ap (some isHeldSegment) (drawn-next n at (loan a k ∷ l)) ∙ any-free (a - at) (held k ∷ drawn n (a + k) l)
 
 pub none-held : (n at : ℕ) (l : List Loan) → some isHeldSegment (drawn n at l) ≡ false → l ≡ []
 none-held n at [] e = refl
@@ -164,11 +173,11 @@ loans-free n at (suc g) [] = refl
 loans-free n at (suc g) (loan a k ∷ l) = refl
 
 pub loans-drawn : (n at : ℕ) (l : List Loan) → Ordered n at l → loansOf at (drawn n at l) ≡ l
-unfolding loansOf drawn Ordered
-loans-drawn n at [] o = loans-free n at (n - at) []
+unfolding loansOf Ordered
+loans-drawn n at [] o = ap (loansOf at) (drawn-next n at []) ∙ loans-free n at (n - at) []
 loans-drawn n at (loan a k ∷ l) o =
     let there : at + (a - at) ≡ a = omega arith in
-    loans-free n at (a - at) (loan a k ∷ l) ∙ rw there (ap (λ (t : List Loan). loan a k ∷ t) (loans-drawn n (a + k) l (o .2)))
+    ap (loansOf at) (drawn-next n at (loan a k ∷ l)) ∙ loans-free n at (a - at) (loan a k ∷ l) ∙ rw there (ap (λ (t : List Loan). loan a k ∷ t) (loans-drawn n (a + k) l (o .2)))
 
 pub same-loans : (n : ℕ) (l l′ : List Loan) → Ordered n 0 l → Ordered n 0 l′ → draw (drawn n 0 l) ≡ draw (drawn n 0 l′) → l ≡ l′
 same-loans n l l′ o o′ e =

@@ -43,6 +43,6 @@ module _ (m : List ℕ) (d : Manager) (t : Receipts) (v : Inv m d t) where
       })
 
   -- A TICK SENDS 6 TO EXACTLY THOSE WHOSE TICKS HAVE RUN OUT
-  pub tick-sends : perform m d Tick .notices ≡ dueFrom slots 0 t
+  pub tick-sends : perform m d Tick .notices ≡ dueFrom slots 1 t
   unfolding perform tick Passed
   tick-sends = ap (λ (s : Result). s .notices) (acts m d [] _ (sound-inv m d t v) tt) ∙ tick-notices slots tasks d t (v .waits .queue)

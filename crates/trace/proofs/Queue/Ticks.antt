@@ -62,14 +62,14 @@ unfolding dueIn
 due-at id none t = refl
 due-at id (some e) t = refl
 
-pub due-queues : (n i : ℕ) (t : Receipts) → dueFrom n i t ≡ dueIn (queuesFrom n i t)
+pub due-queues : (n i : ℕ) (t : Receipts) → dueFrom n (idOf i) t ≡ dueIn (queuesFrom n i t)
 unfolding dueFrom queuesFrom dueIn
 due-queues zero i t = refl
 due-queues (suc n) i t =
     rw (due-at (idOf i) (t .regions (idOf i)) t, due-queues n (suc i) t)
     (sym (due-append (queueAt (idOf i) (t .regions (idOf i)) t) (queuesFrom n (suc i) t)))
 
-pub tick-notices : (n k : ℕ) (d : Manager) (t : Receipts) → Shown n k d t → leaving (d .waiters) ≡ dueFrom n 0 t
+pub tick-notices : (n k : ℕ) (d : Manager) (t : Receipts) → Shown n k d t → leaving (d .waiters) ≡ dueFrom n 1 t
 tick-notices n k d t s =
     ap leaving s ∙ leaving-pad k (waitersOf (queuesFrom n 0 t)) ∙ due-leaving (queuesFrom n 0 t) ∙ sym (due-queues n 0 t)
 
@@ -169,7 +169,7 @@ module _ (n k : ℕ) (t : Receipts) (a : Queued n k t) where
           absurd (true-false (due v) (and-first (due v) (eqb (w .task) (v .task)) (r .2)) (ap (λ (x : Wait). due x) (sym g) ∙ b))
 
   -- THE RECEIPTS AFTER A TICK: the waits that were not due, each a tick later
-  pub tick-receipts : allNoticed (dueFrom n 0 t) (withWaits (allLater (t .waits)) t) ≡ withWaits (allLater (keep notDue (t .waits))) t
+  pub tick-receipts : allNoticed (dueFrom n 1 t) (withWaits (allLater (t .waits)) t) ≡ withWaits (allLater (keep notDue (t .waits))) t
   tick-receipts =
       ap (λ (ns : List Notice). allNoticed ns (withWaits (allLater (t .waits)) t)) (due-queues n 0 t)
       ∙ notices-strike (queuesFrom n 0 t) (allLater (t .waits)) t (rw (tasks-later (t .waits)) (a .once))

@@ -1,15 +1,15 @@
 -- The directives that change nothing: ident, size and information, and what they answer by the receipts. Assumes nothing.
 use mathlib.Core.Path.{_≡_, refl, ap, _∙_}
 use mathlib.Core.Bool.{true}
-use mathlib.Core.List.{List, []}
+use mathlib.Core.List.{List, [], _∷_}
 use mathlib.Core.Option.{some}
-use Prim.Native.Nat.{ℕ, _*_}
+use Prim.Native.Nat.{ℕ, _+_, _*_, max}
 use native.Mathlib.Omega.{arith}
 use borrow.Author.Tests.{ne-eqb}
 use Rattle.manager.specs.Record.{noInformation, regionOf}
 use Rattle.manager.specs.Result.{Result}
 use Rattle.manager.specs.Lists.{every}
-use Rattle.manager.specs.Map.{Segment, freeSizes, heldSizes}
+use Rattle.manager.specs.Map.{freeSizes, heldSizes, largestOf, sumOf}
 use Rattle.manager.specs.Region.{segments, heldAt}
 use Rattle.manager.specs.Regions.{identRegion, segmentSize, regionInformation, informationOf}
 use Rattle.manager.specs.Perform.{perform}
@@ -20,8 +20,9 @@ use Rattle.manager.specs.declared.Information.{Information}
 use Rattle.manager.specs.declared.Call.{Call}
 use Rattle.manager.specs.declared.Call.the-variants.{IdentRegion, SegmentSize, RegionInformation}
 use Rattle.manager.specs.declared.Status.the-variants.{Successful, InternalError}
-use Rattle.trace.specs.Loans.{Lent, drawn, loanPages}
+use Rattle.trace.specs.Loans.{Lent, runs, loanPages, most, sum}
 use Rattle.trace.specs.Receipts.{Receipts, RegionEntry, unit, pagesIn, addressIn, entered, note, allNoticed}
+use Rattle.trace.specs.Claims.{informationIn}
 use Rattle.trace.proofs.Invariant.{regionFor, Inv}
 use Rattle.trace.proofs.Clients.{RegionAt, region-at}
 use Rattle.trace.proofs.Held.{loan-held}
@@ -60,6 +61,17 @@ module _ (m : List ℕ) (d : Manager) (t : Receipts) (v : Inv m d t) where
   keeps-information id =
       kept-checked (RegionInformation id) m d t v _ _ (sound-inv m d t v) refl (λ c. kept-answer (RegionInformation id) m d t v 0 _ refl)
 
+-- the largest of a list of sizes, and their sum
+most-is : (l : List ℕ) → largestOf l ≡ most l
+unfolding largestOf most
+most-is [] = refl
+most-is (n ∷ l) = ap (max n) (most-is l)
+
+sum-is : (l : List ℕ) → sumOf l ≡ sum l
+unfolding sumOf sum
+sum-is [] = refl
+sum-is (n ∷ l) = ap (_+_ n) (sum-is l)
+
 -- WHAT THEY ANSWER
 module _ (m : List ℕ) (d : Manager) (t : Receipts) (v : Inv m d t) (ok : sound m d ≡ true) (id : ℕ) (e : RegionEntry) (q : t .regions id ≡ some e) where
   region-is : RegionAt m (regionOf d id) e
@@ -82,12 +94,14 @@ module _ (m : List ℕ) (d : Manager) (t : Receipts) (v : Inv m d t) (ok : sound
       ∙ ap (λ (n : ℕ). n * unit e) (loan-held m e (region-is .is) p k x)
 
   -- count, largest and total bytes over the runs of unheld pages, and over the loans
-  pub information-answers : perform m d (RegionInformation id) .information
-      ≡ informationOf (unit e) (freeSizes (drawn (pagesIn e) 0 (e .loans))) (loanPages (e .loans))
+  pub information-answers : perform m d (RegionInformation id) .information ≡ informationIn e
   unfolding perform regionInformation Passed
   information-answers =
       let w = map-drawing m e (region-is .is) in
+      let frees = runs (pagesIn e) 0 (e .loans) in
+      let helds = loanPages (e .loans) in
       ap (λ (s : Result). s .information) (acts m d _ _ ok (rw (region-is .region) (not-dead m e (region-is .is)), tt))
       ∙ ap (λ (r : Region). informationOf (r .page) (freeSizes (segments m r)) (heldSizes (segments m r))) (region-is .region)
       ∙ ap (λ (l : List ℕ). informationOf (unit e) (freeSizes (segments m (regionFor e))) l) (law (regionFor e) .held-pages w)
-      ∙ ap (λ (s : List Segment). informationOf (unit e) (freeSizes s) (loanPages (e .loans))) (w .is)
+      ∙ ap (λ (l : List ℕ). informationOf (unit e) l helds) (law (regionFor e) .free-runs w)
+      ∙ rw (most-is frees, sum-is frees, most-is helds, sum-is helds)
