@@ -7,9 +7,11 @@ use manager::Order;
 use manager::Region;
 
 fn show(a: Answer) {
-    io::print_decimal(STDOUT_FILENO, manager::number(a.status) as u64);
+    let status = a.status;
+    let value = a.value;
+    io::print_decimal(STDOUT_FILENO, manager::number(status) as u64);
     io::write_all(STDOUT_FILENO, b" ");
-    io::print_decimal(STDOUT_FILENO, a.value as u64);
+    io::print_decimal(STDOUT_FILENO, value as u64);
     io::write_all(STDOUT_FILENO, b"\n");
 }
 

@@ -20,6 +20,7 @@ use Rattle.manager.specs.Partition.Laws.{live-laid, live-chain, sound-live, sou
 use Rattle.manager.specs.Regions.{overlaps, pastMemory}
 use Rattle.manager.specs.Partitions.{partitionNamed, newPartition, createPartition, identPartition, deletePartition, getBuffer, returnBuffer}
 use Rattle.partitions.specs.Checks.{sizeRefused}
+use Rattle.partitions.specs.Acts.{makes, handsOut, takesBack}
 use Rattle.manager.specs.declared.Manager.{Manager}
 use Rattle.manager.specs.declared.Partition.{Partition}
 use Rattle.manager.specs.declared.Area.{Area}
@@ -34,6 +35,37 @@ module _ (t : Result) (m : List ℕ) (a : Answer) where
 
   pub performs-done : (d : Manager) (v : ℕ) → a ≡ answerOf (replied [] d Successful v) → t ≡ done m d v → Performs t m a
   performs-done d v f e = rw e (record { memory = refl; answer = f })
+
+  -- or the rest of the code performs it
+  pub performs-as : (r : Result) → Performs r m a → t ≡ r → Performs t m a
+  performs-as r p e = rw e p
+
+-- the acts
+module _ (m : List ℕ) (d : Manager) (i : ℕ) (m′ : List ℕ) (a : Answer) (g : Partition) where
+  pub made : (p : Partition) → g ≡ p → m′ ≡ linkAll (buffers g) m g 0 → a ≡ answerOf (replied [] (withPartition d i g) Successful (i + 1)) → Performs (makes m d i p) m′ a
+  unfolding makes
+  made p e x y = let z : i + 1 ≡ suc i = add-one i in record { memory = x ∙ rw e; answer = y ∙ rw (e, z) }
+
+  module _ (k : ℕ) (q : i ≡ k) where
+    pub handed-out : (p : Partition) → g ≡ gotten m p → m′ ≡ afterGet m p → a ≡ answerOf (replied [] (withPartition d i g) Successful (p .front))
+        → Performs (handsOut m d k p) m′ a
+    unfolding handsOut
+    handed-out p e x y = record { memory = x; answer = y ∙ rw (e, q) }
+
+    pub taken-back : (p : Partition) (b : ℕ) → g ≡ returned p b → m′ ≡ afterReturn m p b → a ≡ answerOf (replied [] (withPartition d i g) Successful 0)
+        → Performs (takesBack m d k p b) m′ a
+    unfolding takesBack
+    taken-back p b e x y = record { memory = x; answer = y ∙ rw (e, q) }
+
+-- the new record's numbers, for its chain
+pub linking-some : (name start bytes size : ℕ) (p : Partition) → p ≡ newPartition name start bytes size → 0 < size → 0 < p .size
+linking-some name start bytes size p x h = rw x h
+
+pub linking-ends : (name start bytes size : ℕ) (p : Partition) → p ≡ newPartition name start bytes size → start + bytes < 4294967296
+    → p .start + p .length < 4294967296
+linking-ends name start bytes size p x h = rw x h
+
+pub ruleset acts = (made, handed-out, taken-back, linking-some, linking-ends)
 
 -- a success that puts a partition into a slot
 pub updates : (d : Manager) (i : ℕ) (p : Partition) (v : ℕ) (e : Manager) (a : Answer) → e ≡ withPartition d i p → a ≡ answerOf (replied [] e Successful v)
@@ -112,10 +144,9 @@ module _ (m : List ℕ) (d : Manager) (id : ℕ) (s : sound m d ≡ true) (p : P
     unfolding getBuffer checked
     get-none e = rw (s, ← q, ne-eqb _ _ l, eq-eqb _ _ e)
 
-    pub get-front : (p .free ≡ 0 → ⊥) → (g : Partition) → g ≡ gotten m p → (m′ : List ℕ) → m′ ≡ afterGet m p → (i : ℕ) → i ≡ slotOf id
-        → getBuffer m d id ≡ done m′ (withPartition d i g) (p .front)
-    unfolding getBuffer checked
-    get-front n g x m′ y i z = rw (s, ← q, ne-eqb _ _ l, ne-eqb _ _ n, z, x, y)
+    pub get-front : (p .free ≡ 0 → ⊥) → getBuffer m d id ≡ handsOut m d (slotOf id) p
+    unfolding getBuffer checked handsOut
+    get-front n = rw (s, ← q, ne-eqb _ _ l, ne-eqb _ _ n)
 
     pub delete-held : (p .free ≡ p .length / p .size → ⊥) → deletePartition m d id ≡ refused m d ResourceInUse
     unfolding deletePartition checked
@@ -144,12 +175,11 @@ module _ (m : List ℕ) (d : Manager) (id : ℕ) (s : sound m d ≡ true) (p : P
               let w : buffers p ≤ p .length = div-le-self (p .length) (p .size) in
               omega (arith, u, w, g .inside, sound-most m d s)
 
-          pub return-rear : (g : Partition) → g ≡ returned p address → (m′ : List ℕ) → m′ ≡ afterReturn m p address → (i : ℕ) → i ≡ slotOf id
-              → returnBuffer m d id address ≡ done m′ (withPartition d i g) 0
-          unfolding returnBuffer checked
-          return-rear g x m′ y i z = rw (s, ← q, ne-eqb _ _ l, ← k, h, ← o, e, z, x, y)
+          pub return-rear : returnBuffer m d id address ≡ takesBack m d (slotOf id) p address
+          unfolding returnBuffer checked takesBack
+          return-rear = rw (s, ← q, ne-eqb _ _ l, ← k, h, ← o, e)
 
-pub ruleset answers = (performs-refused, performs-done, get-dead, get-none, get-front, size-divides, delete-dead, delete-held, delete-done, return-dead, return-strange, return-twice, return-fits, return-rear, not-true, not-false)
+pub ruleset answers = (performs-refused, performs-done, get-dead, get-none, performs-as, get-front, size-divides, delete-dead, delete-held, delete-done, return-dead, return-strange, return-twice, return-fits, return-rear, not-true, not-false)
 
 -- CREATE
 cond-or : {A : Type 0} (a b : Bool) (x y : A) → cond a x (cond b x y) ≡ cond (a || b) x y
@@ -200,13 +230,6 @@ module _ (m : List ℕ) (d : Manager) (start bytes : ℕ) (s : sound m d ≡ tru
   pub area-ends : start + bytes < 4294967296
   area-ends = omega (arith, ltb-false (4 * length m) (start + bytes) (sym pq ∙ h), sound-most m d s)
 
-  pub linking-ends : (name size : ℕ) (p : Partition) → p ≡ newPartition name start bytes size → p .start + p .length < 4294967296
-  linking-ends name size p x = rw x area-ends
-
-pub linking-some : (name start bytes size : ℕ) (b : Bool) → b ≡ sizeRefused bytes size → b ≡ false → (p : Partition) → p ≡ newPartition name start bytes size
-    → 0 < p .size
-linking-some name start bytes size b r e p x = rw x (allowed-some bytes size b r e)
-
 module _ (m : List ℕ) (d : Manager) (name start bytes size : ℕ) (s : sound m d ≡ true) where
   pub create-nameless : name ≡ 0 → createPartition m d name start bytes size ≡ refused m d InvalidName
   unfolding createPartition checked
@@ -242,11 +265,8 @@ module _ (m : List ℕ) (d : Manager) (name start bytes size : ℕ) (s : sound m
               unfolding createPartition checked
               create-full e = rw (s, ne-eqb _ _ h1, ne-eqb _ _ h2, eq-eqb _ _ h3, ← pq, h4, sizes-one, ← bq, h5, ← mq, h6, ← sq, le-leb _ _ e)
 
-              pub create-done : slot < 8 → (p : Partition) → p ≡ newPartition name start bytes size → (m′ : List ℕ) → m′ ≡ linkAll (buffers p) m p 0
-                  → createPartition m d name start bytes size ≡ done m′ (withPartition d slot p) (slot + 1)
-              unfolding createPartition checked
-              create-done e p x m′ y =
-                  let z : slot + 1 ≡ suc slot = add-one slot in
-                  rw (s, ne-eqb _ _ h1, ne-eqb _ _ h2, eq-eqb _ _ h3, ← pq, h4, sizes-one, ← bq, h5, ← mq, h6, ← sq, lt-leb _ _ e, y, x, z)
+              pub create-makes : slot < 8 → createPartition m d name start bytes size ≡ makes m d slot (newPartition name start bytes size)
+              unfolding createPartition checked makes
+              create-makes e = rw (s, ne-eqb _ _ h1, ne-eqb _ _ h2, eq-eqb _ _ h3, ← pq, h4, sizes-one, ← bq, h5, ← mq, h6, ← sq, lt-leb _ _ e)
 
-pub ruleset creating = (performs-refused, performs-done, create-nameless, create-null, create-crooked, create-past, create-sizes, create-overlaps, create-full, create-done, allowed-some, allowed-within, area-ends, linking-some, linking-ends)
+pub ruleset creating = (performs-refused, performs-done, create-nameless, create-null, create-crooked, create-past, create-sizes, create-overlaps, create-full, performs-as, create-makes, allowed-some, allowed-within, area-ends)

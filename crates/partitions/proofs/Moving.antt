@@ -1,17 +1,9 @@
--- Getting and returning buffers: the partition's record after each, and that its numbers fit over sound records. Assumes nothing.
-use Prim.Native.Nat.{ℕ, _+_, _-_, _*_, _/_, _≤_, _<_}
-use mathlib.Core.Path.{_≡_, refl, sym, _∙_}
-use mathlib.Core.Bool.{Bool, true, false, not, cond}
-use mathlib.Core.List.{List, [], _∷_}
-use native.Mathlib.Omega.{arith}
-use native.Mathlib.Nat.{div-le-self}
-use lib.ListN.{length}
+-- Getting and returning buffers: the partition's record after each. Assumes nothing.
+use Prim.Native.Nat.{ℕ, _+_, _-_}
+use mathlib.Core.Path.{_≡_}
+use mathlib.Core.List.{List}
 use borrow.Author.Tests.{eq-eqb, ne-eqb}
-use Rattle.manager.specs.Record.{partitionOf}
-use Rattle.manager.specs.Sound.{sound}
-use Rattle.manager.specs.Partition.{buffers, isBuffer, isFree, nextOf, gotten, returned}
-use Rattle.manager.specs.Partition.Laws.{Laid, Shaped, live-laid, live-chain, sound-live, sound-most, free-fewer}
-use Rattle.manager.specs.declared.Manager.{Manager}
+use Rattle.manager.specs.Partition.{nextOf, gotten, returned}
 use Rattle.manager.specs.declared.Partition.{Partition}
 
 abbrev after : Partition → ℕ → ℕ → ℕ → Partition

@@ -7,12 +7,13 @@ ghost use mathlib.Core.Path.{_≡_};
 ghost use mathlib.Core.Bool.{true};
 ghost use Prim.Native.Nat.{_+_, _<_};
 ghost use mathlib.Core.List.{[]};
-ghost use Rattle.manager.specs.Record.{withPartition};
+ghost use Rattle.manager.specs.Record.{slotOf, withPartition};
 ghost use Rattle.manager.specs.Result.{Performs, answerOf, replied};
 ghost use Rattle.manager.specs.declared.Status.the-variants.{Successful};
 ghost use Rattle.manager.specs.Sound.{sound};
 ghost use Rattle.manager.specs.Partition.{gotten, returned};
 ghost use Rattle.manager.specs.Partitions.{deletePartition, getBuffer, returnBuffer};
+ghost use Rattle.partitions.specs.Acts.{handsOut, takesBack};
 
 // A success that puts a partition into a slot.
 pub(crate) fn update(d: Manager, slot: usize, p: Partition, value: u32) -> Answer
@@ -49,6 +50,26 @@ fn returned(p: Partition, a: u32) -> Partition
         q.front = a;
     }
     q
+}
+
+// Hands out the front.
+fn hand_out(mem: &mut [u32], d: Manager, id: u32, p: Partition) -> Answer
+    requires { ⌜ 0 < p .free ⌝ }
+    ensures { λ r. ⌜ Performs (handsOut (now (mem .entry)) d (slotOf id) p) (now (mem .exit)) r ⌝ }
+{
+    let q = gotten(mem, p);
+    chain::after_get(mem, p);
+    update(d, objects::slot_of(id), q, p.front)
+}
+
+// Takes a buffer back.
+fn take_back(mem: &mut [u32], d: Manager, id: u32, p: Partition, a: u32) -> Answer
+    requires { ⌜ p .free + 1 < 4294967296 ⌝ }
+    ensures { λ r. ⌜ Performs (takesBack (now (mem .entry)) d (slotOf id) p a) (now (mem .exit)) r ⌝ }
+{
+    let q = returned(p, a);
+    chain::after_return(mem, p, a);
+    update(d, objects::slot_of(id), q, 0)
 }
 
 // Delete: 4, 12.
@@ -88,10 +109,7 @@ pub(crate) fn get(mem: &mut [u32], d: Manager, id: u32) -> Answer
     if p.free == 0 {
         return reply::reply(d, Status::Unsatisfied, 0);
     }
-    let front = p.front;
-    let q = gotten(mem, p);
-    chain::after_get(mem, p);
-    update(d, objects::slot_of(id), q, front)
+    hand_out(mem, d, id, p)
 }
 
 // Return: 4, 9, and 9 again for a buffer that is free already.
@@ -109,7 +127,5 @@ pub(crate) fn give_back(mem: &mut [u32], d: Manager, id: u32, address: u32) -> A
     if chain::is_free(mem, p, address) {
         return reply::reply(d, Status::InvalidAddress, 0);
     }
-    let q = returned(p, address);
-    chain::after_return(mem, p, address);
-    update(d, objects::slot_of(id), q, 0)
+    take_back(mem, d, id, p, address)
 }

@@ -14,6 +14,7 @@ ghost use Rattle.manager.specs.Sound.{sound};
 ghost use Rattle.manager.specs.Partition.{buffers, linkAll};
 ghost use Rattle.manager.specs.Partitions.{newPartition, createPartition};
 ghost use Rattle.partitions.specs.Checks.{sizeRefused};
+ghost use Rattle.partitions.specs.Acts.{makes};
 
 // Whether a length and a size of buffers are not allowed: 0, less than one buffer, no whole words, or no room for the links.
 fn size_refused(length: u32, size: u32) -> bool
@@ -79,6 +80,24 @@ fn new_partition(name: u32, start: u32, length: u32, size: u32) -> Partition
     }
 }
 
+// The record in a slot, and the chain.
+fn make(
+    mem: &mut [u32],
+    d: Manager,
+    slot: usize,
+    name: u32,
+    start: u32,
+    length: u32,
+    size: u32,
+) -> Answer
+    requires { ⌜ (slot < 8) × (0 < size) × (size ≤ length) × (start + length < 4294967296) ⌝ }
+    ensures { λ r. ⌜ Performs (makes (now (mem .entry)) d slot (newPartition name start length size)) (now (mem .exit)) r ⌝ }
+{
+    let p = new_partition(name, start, length, size);
+    link_all(mem, p);
+    buffers::update(d, slot, p, slot as u32 + 1)
+}
+
 // Create, over sound records: the checks in their order, then the chain and the record.
 pub(crate) fn create(
     mem: &mut [u32],
@@ -113,7 +132,5 @@ pub(crate) fn create(
     if slot >= Manager::SLOTS {
         return reply::reply(d, Status::TooMany, 0);
     }
-    let p = new_partition(name, start, length, size);
-    link_all(mem, p);
-    buffers::update(d, slot, p, slot as u32 + 1)
+    make(mem, d, slot, name, start, length, size)
 }

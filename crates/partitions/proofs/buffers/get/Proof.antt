@@ -19,17 +19,8 @@ reply-requires-2 c κs = search (needs, answers)
 returns-2 : tie.Need-returns-2
 returns-2 c = search (needs, answers)
 
-gotten-requires : tie.Need-gotten-requires
-gotten-requires c κs = search (needs, answers)
-
-after-get-requires : tie.Need-after-get-requires
-after-get-requires c κs = search (needs, answers)
-
-slot-of-requires : tie.Need-slot-of-requires
-slot-of-requires c κs = search (needs, answers)
-
-update-requires : tie.Need-update-requires
-update-requires c κs = search (needs, answers)
+hand-out-requires : tie.Need-hand-out-requires
+hand-out-requires c κs = search (needs, answers)
 
 same-length : tie.Need-same-length
 same-length c = search (needs, answers)
@@ -46,9 +37,6 @@ get-spec =
     returns
     reply-requires-2
     returns-2
-    gotten-requires
-    after-get-requires
-    slot-of-requires
-    update-requires
+    hand-out-requires
     same-length
     returns-3)

@@ -1,7 +1,7 @@
 -- `give_back` meets its contract: each exit is one of the definition, and the count fits, since one buffer is not free. Assumes nothing.
 use borrow.Author.Needs.{needs}
-use Rattle.partitions.proofs.Answers.{answers, performs-done, return-rear}
 use borrow.Author.Tests.{not-false}
+use Rattle.partitions.proofs.Answers.{answers, performs-as, return-rear}
 use Rattle.partitions.proofs.buffers.give_back.Statement.{statement}
 use Rattle.partitions.proofs.buffers.give_back.Tie as tie
 
@@ -35,23 +35,23 @@ same-length c = search (needs, answers)
 returns-3 : tie.Need-returns-3
 returns-3 c = search (needs, answers)
 
-returned-requires : tie.Need-returned-requires
-returned-requires c κs = search (needs, answers)
-
-after-return-requires : tie.Need-after-return-requires
-after-return-requires c κs = search (needs, answers)
-
-slot-of-requires : tie.Need-slot-of-requires
-slot-of-requires c κs = search (needs, answers)
-
-update-requires : tie.Need-update-requires
-update-requires c κs = search (needs, answers)
+take-back-requires : tie.Need-take-back-requires
+take-back-requires c κs = search (needs, answers)
 
 same-length-2 : tie.Need-same-length-2
 same-length-2 c = search (needs, answers)
 
 returns-4 : tie.Need-returns-4
-returns-4 c = performs-done _ _ _ _ _ (c .update .ensures) (return-rear _ _ _ (c .before .before .before .before .before .before .before .before .before .before .before .before .before .before .before .before .pre) _ (c .before .before .before .before .before .before .before .before .before .before .before .before .before .before .partition-of .ensures) (c .before .before .before .before .before .before .before .before .before .before .before .before .if1 .left) _ _ (c .before .before .before .before .before .before .before .before .before .before .before .is-buffer .ensures) (not-false _ (c .before .before .before .before .before .before .before .before .before .before .if2 .left)) _ (c .before .before .before .before .before .before .before .before .is-free .ensures) (c .before .before .before .before .before .before .before .if3 .left) _ (c .before .before .before .before .before .before .returned .ensures) _ (c .before .before .before .before .after-return .ensures) _ (c .before .slot-of .ensures))
+returns-4 c =
+    let given = c .before .before in
+    let tested = given .before .before in
+    let free = tested .before in
+    let buffer = free .before .before .before in
+    let named = buffer .before .before .before in
+    let start = named .before .before in
+    performs-as _ _ _ _ (given .take-back .ensures)
+    (return-rear _ _ _ (start .pre) _ (named .partition-of .ensures) (buffer .before .if1 .left) _ _ (buffer .is-buffer .ensures)
+    (not-false _ (free .before .before .if2 .left)) _ (free .is-free .ensures) (tested .if3 .left))
 
 pub give-back-spec : {M : Type 1} → statement M
 give-back-spec =
@@ -67,9 +67,6 @@ give-back-spec =
     reply-requires-3
     same-length
     returns-3
-    returned-requires
-    after-return-requires
-    slot-of-requires
-    update-requires
+    take-back-requires
     same-length-2
     returns-4)

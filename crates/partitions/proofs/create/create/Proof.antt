@@ -1,6 +1,6 @@
 -- `create` meets its contract: each exit is one of the definition. Assumes nothing.
 use borrow.Author.Needs.{needs}
-use Rattle.partitions.proofs.Answers.{creating, performs-done, create-done}
+use Rattle.partitions.proofs.Answers.{creating}
 use Rattle.partitions.proofs.create.create.Statement.{statement}
 use Rattle.partitions.proofs.create.create.Tie as tie
 
@@ -58,26 +58,14 @@ reply-requires-7 c κs = search (needs, creating)
 returns-7 : tie.Need-returns-7
 returns-7 c = search (needs, creating)
 
-new-partition-requires : tie.Need-new-partition-requires
-new-partition-requires c κs = search (needs, creating)
-
-link-all-requires : tie.Need-link-all-requires
-link-all-requires c κs = search (needs, creating)
-
-cast-update : tie.Need-cast-update
-cast-update c = search (needs, creating)
-
-add-update : tie.Need-add-update
-add-update c = search (needs, creating)
-
-update-requires : tie.Need-update-requires
-update-requires c κs = search (needs, creating)
+make-requires : tie.Need-make-requires
+make-requires c κs = search (needs, creating)
 
 same-length : tie.Need-same-length
 same-length c = search (needs, creating)
 
 returns-8 : tie.Need-returns-8
-returns-8 c = performs-done _ _ _ _ _ (c .update .ensures) (create-done _ _ _ _ _ _ (c .before .before .before .before .before .before .before .before .before .before .before .before .before .before .before .before .before .before .pre) (c .before .before .before .before .before .before .before .before .before .before .before .before .before .before .before .before .if1 .left) (c .before .before .before .before .before .before .before .before .before .before .before .before .before .before .before .if2 .left) (c .before .before .before .before .before .before .before .before .before .before .before .before .before .before .if3 .left) _ (c .before .before .before .before .before .before .before .before .before .before .before .before .before .past-memory .ensures) (c .before .before .before .before .before .before .before .before .before .before .before .before .if4 .left) _ (c .before .before .before .before .before .before .before .before .before .before .before .size-refused .ensures) (c .before .before .before .before .before .before .before .before .before .before .if5 .left) _ (c .before .before .before .before .before .before .before .before .before .overlaps .ensures) (c .before .before .before .before .before .before .before .before .if6 .left) _ (c .before .before .before .before .before .before .before .partition-named .ensures) (c .before .before .before .before .before .before .if7 .left) _ (c .before .before .before .before .before .new-partition .ensures) _ (c .before .before .before .link-all .ensures))
+returns-8 c = search (needs, creating)
 
 pub create-spec : {M : Type 1} → statement M
 create-spec =
@@ -101,10 +89,6 @@ create-spec =
     partition-named-requires
     reply-requires-7
     returns-7
-    new-partition-requires
-    link-all-requires
-    cast-update
-    add-update
-    update-requires
+    make-requires
     same-length
     returns-8)
