@@ -1,0 +1,2 @@
+// The directives on regions and the clock tick.
+mod leaf;
