@@ -1,0 +1,3 @@
+pub mod Scan
+pub mod Check
+pub mod Part

@@ -1,0 +1,67 @@
+-- The part of the memory that is a region's map, and the held segment at an address. Assumes nothing.
+use Prim.Native.Nat.{ℕ, _+_, _-_, _/_, _%_, _≤_, _<_}
+use mathlib.Core.Path.{_≡_, refl, sym, ap, _∙_}
+use mathlib.Core.Bool.{Bool, true, false, cond, _&&_}
+use mathlib.Core.List.{List, []}
+use native.Mathlib.Omega.{arith}
+use borrow.Author.Tests.{eq-eqb, ne-eqb, le-leb, lt-leb}
+use lib.ListN.{length, take, drop, length-drop, drop-of-length-le}
+use lib.Seq.{take-all, take-nil}
+use Rattle.arith.specs.Layout.{firstPage}
+use Rattle.arith.specs.Layout.Laws.{count-zero}
+use Rattle.manager.specs.Lists.{some}
+use Rattle.manager.specs.Map.{Segment, decode, isHeldSegment}
+use Rattle.manager.specs.Paged.{heldFrom}
+use Rattle.manager.specs.Region.{pagesOf, baseOf, mapAt, mapWords, heldAt, anyHeld, startsPage, pageAt}
+use Rattle.manager.specs.declared.Region.{Region}
+
+pub base-is : (r : Region) (n f : ℕ) → n ≡ pagesOf r → f ≡ firstPage (r .start) (r .page) n → f ≡ baseOf r
+base-is r n f en ef = ef ∙ ap (firstPage (r .start) (r .page)) en
+
+-- the words of the map: none past the memory's end, those up to its end, or all
+module _ (m : List ℕ) (r : Region) (b n : ℕ) (eb : b ≡ mapAt r) (en : n ≡ pagesOf r) where
+  same : take n (drop b m) ≡ mapWords m r
+  same = rw (eb, en)
+
+  pub words-out : length m < b → [] ≡ mapWords m r
+  words-out h = sym (ap (take n) (drop-of-length-le m {i = b} (omega arith)) ∙ take-nil n) ∙ same
+
+  pub words-short : b ≤ length m → length m - b < n → take (length m - b) (drop b m) ≡ mapWords m r
+  words-short h k =
+      let l = length-drop b m in
+      take-all (length m - b) (drop b m) (omega arith) ∙ sym (take-all n (drop b m) (omega arith)) ∙ same
+
+  pub words-whole : take (b + n - b) (drop b m) ≡ mapWords m r
+  words-whole = let e : b + n - b ≡ n = omega arith in ap (λ (k : ℕ). take k (drop b m)) e ∙ same
+
+pub any-in : (m : List ℕ) (r : Region) (ws : List ℕ) (v : Bool) → ws ≡ mapWords m r → v ≡ some isHeldSegment (decode ws)
+    → v ≡ anyHeld m r
+any-in m r ws v ew ev = ev ∙ ap (λ (l : List ℕ). some isHeldSegment (decode l)) ew
+
+either : (b : Bool) (n : ℕ) → n ≡ 0 → cond b n 0 ≡ 0
+either true n e = e
+either false n e = refl
+
+module _ (m : List ℕ) (r : Region) (a : ℕ) where
+  -- a region with no page size has no pages
+  pub held-none : r .page ≡ 0 → 0 ≡ heldAt m r a
+  unfolding decode heldFrom
+  held-none e =
+      let z = count-zero (r .start) (r .length) (r .page) e in
+      let w : mapWords m r ≡ [] = ap (λ (k : ℕ). take k (drop (mapAt r) m)) z in
+      sym (either (startsPage r a) (heldFrom (pageAt r a) 0 (decode (mapWords m r))) (ap (λ (l : List ℕ). heldFrom (pageAt r a) 0 (decode l)) w))
+
+  module _ (b : ℕ) (eb : b ≡ baseOf r) where
+    pub held-below : a < b → 0 ≡ heldAt m r a
+    held-below h = rw (← eb, lt-leb b a h)
+
+    module _ (h : b ≤ a) where
+      pub held-between : ((a - b) % r .page ≡ 0 → ⊥) → 0 ≡ heldAt m r a
+      held-between k = rw (← eb, le-leb b a h, ne-eqb ((a - b) % r .page) 0 k)
+
+      pub held-there : (a - b) % r .page ≡ 0 → (ws : List ℕ) (n : ℕ) → ws ≡ mapWords m r
+          → n ≡ heldFrom ((a - b) / r .page) 0 (decode ws) → n ≡ heldAt m r a
+      held-there k ws n ew en =
+          rw (← eb, le-leb b a h, eq-eqb ((a - b) % r .page) 0 k) (en ∙ ap (λ (l : List ℕ). heldFrom ((a - b) / r .page) 0 (decode l)) ew)
+
+pub ruleset parts = (base-is, words-out, words-short, words-whole, any-in, held-none, held-below, held-between, held-there)

@@ -1,0 +1,36 @@
+-- `is_sound` meets its contract: word by word it goes as `soundFrom` does. Assumes nothing.
+use Prim.Native.Nat.{_-_}
+use lib.ListN.{length}
+use borrow.Author.Needs.{needs}
+use Rattle.manager.specs.Map.{soundMap}
+use Rattle.map.proofs.Check.{Checking, checking}
+use Rattle.map.proofs.is_sound.Statement.{statement}
+use Rattle.map.proofs.is_sound.Tie as tie
+
+abbrev Inv-loop : tie.InvT-loop
+Inv-loop map i₀ due₀ before₀ i due before = Checking map (soundMap map) i due before
+
+abbrev μ-loop : tie.MeasureT-loop
+μ-loop map i₀ due₀ before₀ i due before = length map - i
+
+pub is-sound-spec : {M : Type 1} → statement M
+is-sound-spec =
+    tie.close
+    (tie.spec
+    Inv-loop
+    μ-loop
+    (λ c. search (needs, checking))
+    (λ c. search (needs, checking))
+    (λ c. search (needs, checking))
+    (λ c. search (needs, checking))
+    (λ c. search (needs, checking))
+    (λ c. search (needs, checking))
+    (λ c. search (needs, checking))
+    (λ c. search (needs, checking))
+    (λ c. search (needs, checking))
+    (λ c. search (needs, checking))
+    (λ c. search (needs, checking))
+    (λ c. search (needs, checking))
+    (λ c. search (needs, checking))
+    (λ c. search (needs, checking))
+    (λ c. search (needs, checking)))
