@@ -1,0 +1,52 @@
+// Answers without notices and information.
+use manager::Answer;
+use manager::Information;
+use manager::Manager;
+use manager::Notice;
+use manager::Status;
+ghost use mathlib.Core.Path.{_≡_};
+ghost use mathlib.Core.List.{[]};
+ghost use lib.ListN.{replicate};
+ghost use Rattle.manager.specs.Record.{tasks, noNotice, noInformation};
+ghost use Rattle.manager.specs.Result.{answerOf, replied};
+
+// No notices: unused places are zero.
+pub fn no_notices() -> [Notice; 16]
+    ensures { λ r. ⌜ r ≡ replicate tasks noNotice ⌝ }
+{
+    let none = Notice {
+        task: 0,
+        status: Status::Successful,
+        address: 0,
+    };
+    [none; Manager::TASKS]
+}
+
+// The six values of a call that gives none.
+pub fn no_information() -> Information
+    ensures { λ r. ⌜ r ≡ noInformation ⌝ }
+{
+    Information {
+        free_count: 0,
+        free_largest: 0,
+        free_total: 0,
+        held_count: 0,
+        held_largest: 0,
+        held_total: 0,
+    }
+}
+
+// An answer of a status and a value. What it says of the memory is nothing: it is the same answer over any memory.
+pub fn reply(d: Manager, status: Status, value: u32) -> Answer
+    ensures { λ r. ⌜ r ≡ answerOf (replied [] d status value) ⌝ }
+{
+    let information = no_information();
+    let notices = no_notices();
+    Answer {
+        status,
+        value,
+        information,
+        notices,
+        manager: d,
+    }
+}
