@@ -2,3 +2,4 @@ pub mod Walk
 pub mod Words
 pub mod Take
 pub mod Change
+pub mod Lend

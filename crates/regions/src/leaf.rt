@@ -2,14 +2,15 @@
 use manager::Place;
 ghost use mathlib.Core.Path.{_≡_};
 ghost use mathlib.Core.Bool.{true};
+ghost use mathlib.Core.List.{[]};
 ghost use Prim.Native.Nat.{ℕ, _+_, _*_, _<_, _≤_};
 ghost use lib.ListN.{length, getD};
 ghost use Rattle.manager.specs.Map.{soundMap, decode, draw};
-ghost use Rattle.manager.specs.Paged.{placeFrom, take, heldFrom, reachFrom, changeFrom};
+ghost use Rattle.manager.specs.Paged.{free+, placeFrom, take, heldFrom, reachFrom, changeFrom};
 ghost use Rattle.regions.specs.Leaf.{holding, beforeFrom, Extends};
 
 // The first page of the free segment with the lowest address that has k pages.
-pub fn find(map: &[u32], k: u32) -> Place
+fn find(map: &[u32], k: u32) -> Place
     requires { ⌜ soundMap (now map) ≡ true ⌝ }
     ensures { λ r. ⌜ r ≡ placeFrom k 0 (decode (now (map .entry))) ⌝ }
 {
@@ -41,7 +42,7 @@ fn hold(map: &mut [u32], i: usize, pages: u32, k: u32)
 }
 
 // Takes k pages, where `find` finds them.
-pub fn take_at(map: &mut [u32], i: usize, k: u32)
+fn take_at(map: &mut [u32], i: usize, k: u32)
     requires { ⌜ (soundMap (now map) ≡ true) × (length (now map) ≤ 16384) ⌝ }
     requires { ⌜ 1 ≤ k ⌝ }
     requires { ⌜ placeFrom k 0 (decode (now map)) ≡ Place.At i ⌝ }
@@ -49,6 +50,21 @@ pub fn take_at(map: &mut [u32], i: usize, k: u32)
 {
     let pages = map[i] / 2;
     hold(map, i, pages, k);
+}
+
+// Takes k pages where there is room, and says where.
+pub fn take(map: &mut [u32], k: u32) -> Place
+    requires { ⌜ (soundMap (now map) ≡ true) × (length (now map) ≤ 16384) ⌝ }
+    requires { ⌜ 1 ≤ k ⌝ }
+    ensures { λ r. ⌜ (r ≡ placeFrom k 0 (decode (now (map .entry)))) × (now (map .exit) ≡ draw (take k (decode (now (map .entry))))) ⌝ }
+{
+    match find(map, k) {
+        Place::Nowhere => Place::Nowhere,
+        Place::At(i) => {
+            take_at(map, i, k);
+            Place::At(i)
+        }
+    }
 }
 
 // The held segment at page p takes in a free follower. Its pages then.
@@ -125,4 +141,17 @@ pub fn release_at(map: &mut [u32], p: usize)
     let pages = extend(map, p);
     let q = previous(map, p);
     release(map, p, q, pages);
+}
+
+// One free segment.
+pub fn clear(map: &mut [u32])
+    requires { ⌜ (1 ≤ length (now map)) × (length (now map) ≤ 16384) ⌝ }
+    ensures { λ _. ⌜ now (map .exit) ≡ draw (free+ (length (now (map .entry))) []) ⌝ }
+{
+    let mut i = 0;
+    while i < map.len() {
+        map[i] = 0;
+        i += 1;
+    }
+    map[0] = map.len() as u32 * 2;
 }

@@ -1,2 +1,3 @@
 // The directives on regions and the clock tick.
 mod leaf;
+mod pages;
