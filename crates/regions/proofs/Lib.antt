@@ -3,3 +3,4 @@ pub mod Words
 pub mod Take
 pub mod Change
 pub mod Lend
+pub mod Serving

@@ -1,2 +1,3 @@
 pub mod Leaf
 pub mod Pages
+pub mod Serving
