@@ -1,0 +1,21 @@
+-- `sound_partition` meets its contract: the tests in a row are the definition's. Assumes nothing.
+use Rattle.manager.specs.Sound.{soundPartition, livePartition}
+use Rattle.invariant.proofs.Tests.{choices, tests}
+use borrow.Author.Needs.{needs}
+use Rattle.invariant.proofs.slots.sound_partition.Statement.{statement}
+use Rattle.invariant.proofs.slots.sound_partition.Tie as tie
+
+pub sound-partition-spec : {M : Type 1} → statement M
+unfolding soundPartition livePartition
+sound-partition-spec =
+    tie.close
+    (tie.spec
+    (λ c κs. search needs)
+    (λ c. search (needs, choices, tests))
+    (λ c κs. search needs)
+    (λ c. search (needs, choices, tests))
+    (λ c. search (needs, choices, tests))
+    (λ c κs. search needs)
+    (λ c. search (needs, choices, tests))
+    (λ c κs. search needs)
+    (λ c. search (needs, choices, tests)))

@@ -1,0 +1,31 @@
+-- `sound_partitions` meets its contract: a loop over the places, by the laws of the test over a list. Assumes nothing.
+use Prim.Native.Nat.{_-_}
+use Rattle.invariant.proofs.Tests.{each}
+use Rattle.manager.specs.Lists.{every}
+use Rattle.manager.specs.Lists.Laws.{Passing}
+use Rattle.manager.specs.Sound.{soundPartition}
+use borrow.Author.Needs.{needs}
+use Rattle.invariant.proofs.slots.sound_partitions.Statement.{statement}
+use Rattle.invariant.proofs.slots.sound_partitions.Tie as tie
+
+abbrev Inv-loop : tie.InvT-loop
+Inv-loop mem d i₀ i = Passing (soundPartition mem) (d .partitions) 8 (every (soundPartition mem) (d .partitions)) i
+
+abbrev μ-loop : tie.MeasureT-loop
+μ-loop mem d i₀ i = 8 - i
+
+pub sound-partitions-spec : {M : Type 1} → statement M
+sound-partitions-spec =
+    tie.close
+    (tie.spec
+    Inv-loop
+    μ-loop
+    (λ c. search (needs, each))
+    (λ c. search needs)
+    (λ c. search needs)
+    (λ c. search needs)
+    (λ c κs. search needs)
+    (λ c. search (needs, each))
+    (λ c. search needs)
+    (λ c. search (needs, each))
+    (λ c. search (needs, each)))

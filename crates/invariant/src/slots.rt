@@ -1,0 +1,156 @@
+// The slots of the record: each is a sound object, or empty and all zeros.
+use manager::Manager;
+use manager::Order;
+use manager::Partition;
+use manager::Region;
+ghost use mathlib.Core.Path.{_≡_};
+ghost use Rattle.manager.specs.Lists.{every};
+ghost use Rattle.manager.specs.Sound.{inside, soundPage, soundSize, emptyRegion, emptyPartition, soundRegion, soundPartition};
+ghost use lib.ListN.{length};
+
+// Whether an area is inside the memory and does not start at 0.
+fn is_inside(mem: &[u32], start: u32, bytes: u32) -> bool
+    ensures { λ r. ⌜ r ≡ inside (now (mem .entry)) start bytes ⌝ }
+{
+    if start == 0 {
+        return false;
+    }
+    !objects::past_memory(mem.len(), start, bytes)
+}
+
+// Whether a page size is one that create leaves: 8 to 4,096, a multiple of 8.
+fn sound_page(page: u32) -> bool
+    ensures { λ b. ⌜ b ≡ soundPage page ⌝ }
+{
+    if page < 8 {
+        return false;
+    }
+    if 4096 < page {
+        return false;
+    }
+    page % 8 == 0
+}
+
+// Whether a buffer size is one that create allows: a multiple of 4, at least 8, and at most the length.
+fn sound_size(bytes: u32, size: u32) -> bool
+    ensures { λ b. ⌜ b ≡ soundSize bytes size ⌝ }
+{
+    if bytes < size {
+        return false;
+    }
+    if size % 4 != 0 {
+        return false;
+    }
+    8 <= size
+}
+
+// Whether all but the name of an empty slot is 0.
+fn empty_region(r: Region) -> bool
+    ensures { λ b. ⌜ b ≡ emptyRegion r ⌝ }
+{
+    if r.start != 0 {
+        return false;
+    }
+    if r.length != 0 {
+        return false;
+    }
+    if r.page != 0 {
+        return false;
+    }
+    let order = r.order;
+    match order {
+        Order::Fifo => true,
+        Order::Priority => false,
+    }
+}
+
+// Whether a region slot is empty, or a region whose area, page size and map are sound.
+fn sound_region(mem: &[u32], r: Region) -> bool
+    ensures { λ b. ⌜ b ≡ soundRegion (now (mem .entry)) r ⌝ }
+{
+    if r.name == 0 {
+        return empty_region(r);
+    }
+    if !is_inside(mem, r.start, r.length) {
+        return false;
+    }
+    if !sound_page(r.page) {
+        return false;
+    }
+    if map::pages_of(r) < 1 {
+        return false;
+    }
+    let words = map::map_words(mem, r);
+    map::is_sound(words)
+}
+
+// Whether all but the name of an empty slot is 0.
+fn empty_partition(p: Partition) -> bool
+    ensures { λ b. ⌜ b ≡ emptyPartition p ⌝ }
+{
+    if p.start != 0 {
+        return false;
+    }
+    if p.length != 0 {
+        return false;
+    }
+    if p.size != 0 {
+        return false;
+    }
+    if p.front != 0 {
+        return false;
+    }
+    if p.rear != 0 {
+        return false;
+    }
+    p.free == 0
+}
+
+// Whether a partition slot is empty, or a partition whose area, buffer size and chain are sound.
+fn sound_partition(mem: &[u32], p: Partition) -> bool
+    ensures { λ b. ⌜ b ≡ soundPartition (now (mem .entry)) p ⌝ }
+{
+    if p.name == 0 {
+        return empty_partition(p);
+    }
+    if !is_inside(mem, p.start, p.length) {
+        return false;
+    }
+    if p.start % 4 != 0 {
+        return false;
+    }
+    if !sound_size(p.length, p.size) {
+        return false;
+    }
+    super::chains::sound_chain(mem, p)
+}
+
+// Whether every region slot is sound.
+pub fn sound_regions(mem: &[u32], d: Manager) -> bool
+    ensures { λ b. ⌜ b ≡ every (soundRegion (now (mem .entry))) (d .regions) ⌝ }
+{
+    let mut i: usize = 0;
+    while i < Manager::SLOTS {
+        let r = d.regions[i];
+        i = i + 1;
+        if !sound_region(mem, r) {
+            return false;
+        }
+    }
+    true
+}
+
+// Whether every partition slot is sound.
+pub fn sound_partitions(mem: &[u32], d: Manager) -> bool
+    ensures { λ b. ⌜ b ≡ every (soundPartition (now (mem .entry))) (d .partitions) ⌝ }
+{
+    let mut i: usize = 0;
+    while i < Manager::SLOTS {
+        let p = d.partitions[i];
+        i = i + 1;
+        if !sound_partition(mem, p) {
+            return false;
+        }
+    }
+    true
+}
