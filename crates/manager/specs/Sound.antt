@@ -1,4 +1,5 @@
 -- Document 01, "Sound books": what a sound manager record over a memory is, clause by clause. Assumes nothing.
+pub mod Laws
 use Prim.Native.Nat.{ℕ, _+_, _*_, _/_, _%_}
 use mathlib.Core.Bool.{Bool, true, false, cond, not, _&&_, _||_}
 use mathlib.Core.List.{List, [], _∷_}

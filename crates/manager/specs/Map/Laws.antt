@@ -318,3 +318,27 @@ walk-step ws i h lt =
 pub walk-end : (ws : List ℕ) (i : ℕ) → Here ws i → length ws ≤ i → decode (drop i ws) ≡ []
 unfolding decode
 walk-end ws i h l = let e : i ≡ length ws = omega (arith, h .within) in rw (e, drop-length)
+
+-- the segment of a word, by its mark
+free-word : (w : ℕ) → w % 2 ≡ 0 → segmentOf w ≡ free (w / 2)
+free-word w e = rw e
+
+held-word : (w : ℕ) → (w % 2 ≡ 0 → ⊥) → segmentOf w ≡ held (w / 2)
+held-word w ne = let e : w % 2 ≡ 1 = omega arith in rw e
+
+-- a place of the walk, what stands there, and the next
+module _ (ws : List ℕ) (i : ℕ) (h : Here ws i) (l : i < length ws) where
+  pub says-free : getD ws i 0 % 2 ≡ 0 → decode (drop i ws) ≡ free (getD ws i 0 / 2) ∷ decode (drop (i + getD ws i 0 / 2) ws)
+  says-free e = walk-step ws i h l .says ∙ ap (λ (g : Segment). g ∷ decode (drop (i + getD ws i 0 / 2) ws)) (free-word (getD ws i 0) e)
+
+  pub says-held : (getD ws i 0 % 2 ≡ 0 → ⊥) → decode (drop i ws) ≡ held (getD ws i 0 / 2) ∷ decode (drop (i + getD ws i 0 / 2) ws)
+  says-held e = walk-step ws i h l .says ∙ ap (λ (g : Segment). g ∷ decode (drop (i + getD ws i 0 / 2) ws)) (held-word (getD ws i 0) e)
+
+  pub next-here : Here ws (i + getD ws i 0 / 2)
+  next-here = walk-step ws i h l .next
+
+  pub next-in : i + getD ws i 0 / 2 ≤ length ws
+  next-in = next-here .within
+
+  pub next-past : i < i + getD ws i 0 / 2
+  next-past = omega (arith, walk-step ws i h l .big)

@@ -1,0 +1,6 @@
+pub mod Walk
+pub mod Words
+pub mod Take
+pub mod Change
+pub mod Lend
+pub mod Serving

@@ -1,0 +1,3 @@
+pub mod Leaf
+pub mod Pages
+pub mod Serving
