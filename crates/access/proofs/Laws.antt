@@ -116,13 +116,6 @@ module _ (m : List ℕ) (r : Region) (s : Sited m r) where
   pub held-words : (a k : ℕ) → k ≡ heldAt m r a → 0 < k → a / 4 + k * r .page / 4 ≤ length m
   held-words a k q h = quarters a (k * r .page) (length m) (held-in a k (startsPage r a) refl q h)
 
--- the part from a word of it on has room for what ends within it
-pub part-room : (m : List ℕ) (f w : ℕ) → f + w ≤ length m → (first : ℕ) (ws : List ℕ) → first ≤ w → length ws ≤ w - first
-    → length ws ≤ length (take (length m - (f + first)) (drop (f + first) m))
-part-room m f w h first ws u v =
-    let e = length-drop (f + first) m in
-    rw (take-all (length m - (f + first)) (drop (f + first) m) (omega arith)) (omega arith)
-
 -- ---- what each exit gives
 
 -- a reply performs a refusal
@@ -174,40 +167,26 @@ module _ (m : List ℕ) (d : Manager) (b : Bool) (q : b ≡ sound m d) (id addre
             rw (← q, s, ← o, ne-eqb _ _ l, ← x, ne-eqb _ _ n, e, y)
 
         module _ (first : ℕ) (ws : List ℕ) where
-          -- past the segment's end
-          pub write-past : w < first → writeSegment m d id address first ws ≡ refused m d InvalidSize
+          -- they would end past the segment's end
+          pub write-past : w < first + length ws → writeSegment m d id address first ws ≡ refused m d InvalidSize
           unfolding writeSegment checked
-          write-past e = rw (← q, s, ← o, ne-eqb _ _ l, ← x, ne-eqb _ _ n, ← y, lt-ltb _ _ (past e))
-            where
-              past : w < first → w < first + length ws
-              past e = omega arith
+          write-past e = rw (← q, s, ← o, ne-eqb _ _ l, ← x, ne-eqb _ _ n, ← y, lt-ltb _ _ e)
 
-          module _ (u : first ≤ w) where
-            pub write-long : w - first < length ws → writeSegment m d id address first ws ≡ refused m d InvalidSize
+          module _ (v : first + length ws ≤ w) where
+            write-done : writeSegment m d id address first ws ≡ done (sets m (address / 4 + first) ws) d 0
             unfolding writeSegment checked
-            write-long e = rw (← q, s, ← o, ne-eqb _ _ l, ← x, ne-eqb _ _ n, ← y, lt-ltb _ _ (long e))
-              where
-                long : w - first < length ws → w < first + length ws
-                long e = omega arith
+            write-done = rw (← q, s, ← o, ne-eqb _ _ l, ← x, ne-eqb _ _ n, ← y, le-ltb _ _ v)
 
-            module _ (v : length ws ≤ w - first) where
-              write-done : writeSegment m d id address first ws ≡ done (sets m (address / 4 + first) ws) d 0
-              unfolding writeSegment checked
-              write-done = rw (← q, s, ← o, ne-eqb _ _ l, ← x, ne-eqb _ _ n, ← y, le-ltb _ _ within)
-                where
-                  within : first + length ws ≤ w
-                  within = omega arith
-
-              -- the words come to stand there, and nothing else moves
-              pub write-performs : (t : List ℕ) (a : Answer) → t ≡ sets (take (length m - (address / 4 + first)) (drop (address / 4 + first) m)) 0 ws
-                  → a ≡ answerOf (replied [] d Successful 0)
-                  → Performs (writeSegment m d id address first ws)
-                  (take (address / 4 + first) m ++ (t ++ drop (length m - (address / 4 + first)) (drop (address / 4 + first) m))) a
-              write-performs t a e f =
-                  performs-by _ a _ _ write-done
-                  (performs-reply _ a _ d Successful 0
-                  (rw e (put-back m ws (address / 4 + first) (omega (arith, words-in)))) f)
+            -- the words come to stand there, and nothing else moves
+            pub write-performs : (t : List ℕ) (a : Answer) → t ≡ sets (take (length m - (address / 4 + first)) (drop (address / 4 + first) m)) 0 ws
+                → a ≡ answerOf (replied [] d Successful 0)
+                → Performs (writeSegment m d id address first ws)
+                (take (address / 4 + first) m ++ (t ++ drop (length m - (address / 4 + first)) (drop (address / 4 + first) m))) a
+            write-performs t a e f =
+                performs-by _ a _ _ write-done
+                (performs-reply _ a _ d Successful 0
+                (rw e (put-back m ws (address / 4 + first) (omega (arith, words-in)))) f)
 
 pub ruleset reading = (read-unsound, read-dead, read-none, read-part, words-in, not-true, not-false)
 
-pub ruleset writing = (performs-refused, write-unsound, write-dead, write-none, write-past, write-long, write-performs, not-true, not-false)
+pub ruleset writing = (performs-refused, write-unsound, write-dead, write-none, write-past, write-performs, not-true, not-false)

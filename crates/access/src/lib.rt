@@ -55,16 +55,14 @@ pub fn write_segment(
     if r.name == 0 {
         return reply::reply(d, Status::InvalidId, 0);
     }
-    let pages = map::held_at(mem, r, address);
-    if pages == 0 {
+    let held = map::held_at(mem, r, address);
+    if held == 0 {
         return reply::reply(d, Status::InvalidAddress, 0);
     }
-    let room = words_of(pages, r.page);
+    let room = words_of(held, r.page);
     let skip = first as usize;
-    if room < skip {
-        return reply::reply(d, Status::InvalidSize, 0);
-    }
-    if room - skip < words.len() {
+    let end = skip + words.len();
+    if room < end {
         return reply::reply(d, Status::InvalidSize, 0);
     }
     let from = (address / 4) as usize + skip;

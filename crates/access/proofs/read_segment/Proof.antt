@@ -7,6 +7,57 @@ use Rattle.access.proofs.Laws.{reading, words-in}
 use Rattle.access.proofs.read_segment.Statement.{statement}
 use Rattle.access.proofs.read_segment.Tie as tie
 
+is-sound-requires : tie.Need-is-sound-requires
+is-sound-requires c κs = search needs
+
+sub-result : tie.Need-sub-result
+sub-result c = search needs
+
+part-result-start : tie.Need-part-result-start
+part-result-start c = search needs
+
+part-result-end : tie.Need-part-result-end
+part-result-end c = search needs
+
+returns : tie.Need-returns
+returns c = search (needs, reading)
+
+region-of-requires : tie.Need-region-of-requires
+region-of-requires c κs = search needs
+
+sub-result-2 : tie.Need-sub-result-2
+sub-result-2 c = search needs
+
+part-result-start-2 : tie.Need-part-result-start-2
+part-result-start-2 c = search needs
+
+part-result-end-2 : tie.Need-part-result-end-2
+part-result-end-2 c = search needs
+
+returns-2 : tie.Need-returns-2
+returns-2 c = search (needs, reading)
+
+held-at-requires : tie.Need-held-at-requires
+held-at-requires c κs = search needs
+
+sub-result-3 : tie.Need-sub-result-3
+sub-result-3 c = search needs
+
+part-result-start-3 : tie.Need-part-result-start-3
+part-result-start-3 c = search needs
+
+part-result-end-3 : tie.Need-part-result-end-3
+part-result-end-3 c = search needs
+
+returns-3 : tie.Need-returns-3
+returns-3 c = search (needs, reading)
+
+cast-from : tie.Need-cast-from
+cast-from c = search needs
+
+words-of-requires : tie.Need-words-of-requires
+words-of-requires c κs = search needs
+
 -- the segment's end is a word's index
 add-e : tie.Need-add-e
 add-e c =
@@ -19,30 +70,45 @@ add-e c =
           (h .before .if2 .left) _ (h .held-at .ensures) (c .before .if3 .left) _ (c .words-of .ensures),
     )
 
+mul-result : tie.Need-mul-result
+mul-result c = search needs
+
+sub-result-4 : tie.Need-sub-result-4
+sub-result-4 c = search needs
+
+part-result-start-4 : tie.Need-part-result-start-4
+part-result-start-4 c = search needs
+
+part-result-end-4 : tie.Need-part-result-end-4
+part-result-end-4 c = search (needs, reading)
+
+returns-4 : tie.Need-returns-4
+returns-4 c = search (needs, reading)
+
 pub read-segment-spec : {M : Type 1} → statement M
 read-segment-spec =
     tie.close
     (tie.spec
-    (λ c κs. search needs)
-    (λ c. search needs)
-    (λ c. search needs)
-    (λ c. search needs)
-    (λ c. search (needs, reading))
-    (λ c κs. search needs)
-    (λ c. search needs)
-    (λ c. search needs)
-    (λ c. search needs)
-    (λ c. search (needs, reading))
-    (λ c κs. search needs)
-    (λ c. search needs)
-    (λ c. search needs)
-    (λ c. search needs)
-    (λ c. search (needs, reading))
-    (λ c. search needs)
-    (λ c κs. search needs)
+    is-sound-requires
+    sub-result
+    part-result-start
+    part-result-end
+    returns
+    region-of-requires
+    sub-result-2
+    part-result-start-2
+    part-result-end-2
+    returns-2
+    held-at-requires
+    sub-result-3
+    part-result-start-3
+    part-result-end-3
+    returns-3
+    cast-from
+    words-of-requires
     add-e
-    (λ c. search needs)
-    (λ c. search needs)
-    (λ c. search needs)
-    (λ c. search (needs, reading))
-    (λ c. search (needs, reading)))
+    mul-result
+    sub-result-4
+    part-result-start-4
+    part-result-end-4
+    returns-4)

@@ -6,7 +6,7 @@ use borrow.Author.Needs.{needs}
 use borrow.Author.Tests.{not-false}
 use denote.Ref.{now}
 use lib.ListN.{length}
-use Rattle.access.proofs.Laws.{writing, words-in, part-room}
+use Rattle.access.proofs.Laws.{writing, words-in}
 use Rattle.access.proofs.write_segment.Statement.{statement}
 use Rattle.access.proofs.write_segment.Tie as tie
 use Rattle.access.proofs.write_segment.Reads as reads
@@ -17,6 +17,48 @@ use Rattle.invariant.proofs.is_sound.Reads as is-sound-reads
 use Rattle.map.proofs.held_at.Reads as held-at-reads
 use Rattle.objects.proofs.region_of.Reads as region-of-reads
 use Rattle.reply.proofs.reply.Reads as reply-reads
+
+is-sound-requires : tie.Need-is-sound-requires
+is-sound-requires c κs = search needs
+
+reply-requires : tie.Need-reply-requires
+reply-requires c κs = search needs
+
+same-length : tie.Need-same-length
+same-length c = search needs
+
+returns : tie.Need-returns
+returns c = search (needs, writing)
+
+region-of-requires : tie.Need-region-of-requires
+region-of-requires c κs = search needs
+
+reply-requires-2 : tie.Need-reply-requires-2
+reply-requires-2 c κs = search needs
+
+same-length-2 : tie.Need-same-length-2
+same-length-2 c = search needs
+
+returns-2 : tie.Need-returns-2
+returns-2 c = search (needs, writing)
+
+held-at-requires : tie.Need-held-at-requires
+held-at-requires c κs = search needs
+
+reply-requires-3 : tie.Need-reply-requires-3
+reply-requires-3 c κs = search needs
+
+same-length-3 : tie.Need-same-length-3
+same-length-3 c = search needs
+
+returns-3 : tie.Need-returns-3
+returns-3 c = search (needs, writing)
+
+words-of-requires : tie.Need-words-of-requires
+words-of-requires c κs = search needs
+
+add-end : tie.Need-add-end
+add-end c = search needs
 
 -- the segment lies in the memory
 ends : (w : lts.After-words-of
@@ -31,42 +73,73 @@ ends w =
     words-in _ _ _ (s .is-sound .ensures) (s .before .before .before .before .args .id) _ (not-false _ (r .before .if1 .left)) _ (r .region-of .ensures)
     (h .before .before .if2 .left) _ (h .held-at .ensures) (w .before .if3 .left) _ (w .words-of .ensures)
 
+reply-requires-4 : tie.Need-reply-requires-4
+reply-requires-4 c κs = search needs
+
+same-length-4 : tie.Need-same-length-4
+same-length-4 c = search needs
+
+returns-4 : tie.Need-returns-4
+returns-4 c = search (needs, writing)
+
+cast-from : tie.Need-cast-from
+cast-from c = search needs
+
+add-from : tie.Need-add-from
+add-from c = search needs
+
+mul-copy : tie.Need-mul-copy
+mul-copy c = search needs
+
+sub-copy : tie.Need-sub-copy
+sub-copy c = omega (arith, ends (c .before))
+
+part-copy-start : tie.Need-part-copy-start
+part-copy-start c = omega (arith, ends (c .before))
+
+part-copy-end : tie.Need-part-copy-end
+part-copy-end c = search needs
+
 copy-requires : tie.Need-copy-requires
-copy-requires c κs =
-    let w = c .before .before .before in
-    let a = w .before .before .before .before .before .before .before .before .before .before .before .before .args in
-    part-room (now (a .mem)) _ _ (ends w) _ (now (a .words)) (c .before .before .if4 .left) (c .before .if5 .left)
+copy-requires c κs = omega (arith, ends (c .before .before))
+
+reply-requires-5 : tie.Need-reply-requires-5
+reply-requires-5 c κs = search needs
+
+same-length-5 : tie.Need-same-length-5
+same-length-5 c = search needs
+
+returns-5 : tie.Need-returns-5
+returns-5 c = search (needs, writing)
 
 pub write-segment-spec : {M : Type 1} → statement M
 write-segment-spec =
     tie.close
     (tie.spec
-    (λ c κs. search needs)
-    (λ c κs. search needs)
-    (λ c. search needs)
-    (λ c. search (needs, writing))
-    (λ c κs. search needs)
-    (λ c κs. search needs)
-    (λ c. search needs)
-    (λ c. search (needs, writing))
-    (λ c κs. search needs)
-    (λ c κs. search needs)
-    (λ c. search needs)
-    (λ c. search (needs, writing))
-    (λ c κs. search needs)
-    (λ c κs. search needs)
-    (λ c. search needs)
-    (λ c. search (needs, writing))
-    (λ c κs. search needs)
-    (λ c. search needs)
-    (λ c. search (needs, writing))
-    (λ c. search needs)
-    (λ c. search needs)
-    (λ c. search needs)
-    (λ c. omega (arith, ends (c .before .before)))
-    (λ c. omega (arith, ends (c .before .before)))
-    (λ c. search needs)
+    is-sound-requires
+    reply-requires
+    same-length
+    returns
+    region-of-requires
+    reply-requires-2
+    same-length-2
+    returns-2
+    held-at-requires
+    reply-requires-3
+    same-length-3
+    returns-3
+    words-of-requires
+    add-end
+    reply-requires-4
+    same-length-4
+    returns-4
+    cast-from
+    add-from
+    mul-copy
+    sub-copy
+    part-copy-start
+    part-copy-end
     copy-requires
-    (λ c κs. search needs)
-    (λ c. search needs)
-    (λ c. search (needs, writing)))
+    reply-requires-5
+    same-length-5
+    returns-5)
