@@ -60,8 +60,9 @@ pub record Script : Type 0 where
   pub calls : List Call
   pub bad : Option ℕ
 
-abbrev pub ends : Script
-ends = record { calls = []; bad = none }
+-- all of it is calls
+abbrev pub whole : List Call → Script
+whole cs = record { calls = cs; bad = none }
 
 abbrev pub stops : ℕ → Script
 stops p = record { calls = []; bad = some p }
@@ -72,11 +73,11 @@ follows c t = record { calls = c ∷ t .calls; bad = t .bad }
 abbrev pub onRead : ReadCall → (ℕ → Script) → Script
 onRead (One c q) rest = follows c (rest q)
 onRead (BadAt p) rest = stops p
-onRead End rest = ends
+onRead End rest = whole []
 
 -- at most k calls from `at` on
 unfoldable pub readFrom : ℕ → List ℕ → ℕ → Script
-readFrom zero s at = ends
+readFrom zero s at = whole []
 readFrom (suc k) s at = onRead (readCall s at) λ q. readFrom k s q
 
 -- a call takes a byte or more, so there are no more calls than bytes

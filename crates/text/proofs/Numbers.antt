@@ -53,7 +53,7 @@ read-back (suc k) n h o = go (decLt n 10) (λ g. read-back k (n / 10) (omega ari
         rw (decimal-big n (omega arith), acc-append, f (omega arith))
         (acc-one (n / 10) (48 + n % 10) (omega arith) (omega arith) (omega arith) ∙ ap Is e)
 
-digits-some : (k n : ℕ) → n < k → 0 < length (decimal n)
+pub digits-some : (k n : ℕ) → n < k → 0 < length (decimal n)
 digits-some zero n h = absurd (omega arith)
 digits-some (suc k) n h = go (decLt n 10)
   where

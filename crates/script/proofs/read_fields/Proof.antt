@@ -19,7 +19,7 @@ use Rattle.script.proofs.read_fields.Lts as lts
 use Rattle.script.proofs.key_line.Reads as key-line-reads
 
 abbrev Inv-loop : tie.InvT-loop
-Inv-loop src at k out₀ from count p₀ i₀ out p i = 
+Inv-loop src at k out₀ from count p₀ i₀ out p i =
     (numbersFrom src [] at (keysOf k) ≡ numbersFrom src (take i out) p (drop i (keysOf k))) × (i ≤ length (keysOf k)) × (count ≡ length (keysOf k)) × (from ≡ getD sequenceFrom k 0) × (length out ≡ length out₀)
 
 abbrev μ-loop : tie.MeasureT-loop
@@ -83,7 +83,7 @@ loop-less : tie.Need-loop-less Inv-loop μ-loop
 loop-less c = search needs
 
 loop-again : tie.Need-loop-again Inv-loop μ-loop
-loop-again c = 
+loop-again c =
     let f = counted (c .before .before .before .before .before .before .before .before .args .k) (c .before .before .before .before .before .before .before .before .pre .0) .few in
     let g = c .before .v .given in (
       c .before .before .before .before .before .loop .inv .0
