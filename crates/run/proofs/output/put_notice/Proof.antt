@@ -1,0 +1,52 @@
+-- `run::output::put_notice` meets its contract: the three lines one after another. Assumes nothing.
+use native.Mathlib.Omega.{arith}
+use borrow.Author.Needs.{needs}
+use mathlib.Core.Path.{_≡_, refl, sym, _∙_, ap}
+use Rattle.run.specs.Output.{noticeText}
+use Rattle.run.proofs.Stores.{puts-append}
+use Rattle.run.proofs.output.put_notice.Statement.{statement}
+use Rattle.run.proofs.output.put_notice.Tie as tie
+use Rattle.run.proofs.output.put_notice.Reads as reads
+use Rattle.run.proofs.output.put_notice.Lts as lts
+use Rattle.manager.proofs.number.Reads as number-reads
+use Rattle.run.proofs.output.put_line.Reads as put-line-reads
+use Rattle.run.proofs.output.put_value.Reads as put-value-reads
+
+slice-aggregate-put-line : tie.Need-slice-aggregate-put-line
+slice-aggregate-put-line c = search needs
+
+put-line-requires : tie.Need-put-line-requires
+put-line-requires c κs = search needs
+
+slice-aggregate-put-line-2 : tie.Need-slice-aggregate-put-line-2
+slice-aggregate-put-line-2 c = search needs
+
+number-requires : tie.Need-number-requires
+number-requires c κs = search needs
+
+put-line-requires-2 : tie.Need-put-line-requires-2
+put-line-requires-2 c κs = search needs
+
+put-value-requires : tie.Need-put-value-requires
+put-value-requires c κs = search needs
+
+same-length : tie.Need-same-length
+same-length c = search needs
+
+returns : tie.Need-returns
+unfolding noticeText
+returns c =
+    rw (← (c .before .before .before .before .before .before .before .number .ensures)) (puts-append (c .before .before .before .before .before .before .before .before .before .before .before .before .put-line .ensures) (puts-append (c .before .before .before .before .before .before .put-line2 .ensures) (c .before .before .put-value .ensures)))
+
+pub put-notice-spec : {M : Type 1} → statement M
+put-notice-spec =
+    tie.close
+    (tie.spec
+    slice-aggregate-put-line
+    put-line-requires
+    slice-aggregate-put-line-2
+    number-requires
+    put-line-requires-2
+    put-value-requires
+    same-length
+    returns)

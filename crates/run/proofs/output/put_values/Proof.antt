@@ -1,0 +1,43 @@
+-- `run::output::put_values` meets its contract: six values, or one. Assumes nothing.
+use native.Mathlib.Omega.{arith}
+use borrow.Author.Needs.{needs}
+use mathlib.Core.Path.{_≡_, refl, sym, _∙_, ap}
+use Rattle.run.specs.Output.{valuesText}
+use Rattle.run.proofs.Stores.{puts-most}
+use Rattle.run.proofs.output.put_values.Statement.{statement}
+use Rattle.run.proofs.output.put_values.Tie as tie
+use Rattle.run.proofs.output.put_values.Reads as reads
+use Rattle.run.proofs.output.put_values.Lts as lts
+use Rattle.run.proofs.output.put_information.Reads as put-information-reads
+use Rattle.run.proofs.output.put_value.Reads as put-value-reads
+
+put-information-requires : tie.Need-put-information-requires
+put-information-requires c κs = search needs
+
+put-value-requires : tie.Need-put-value-requires
+put-value-requires c κs = search needs
+
+same-length : tie.Need-same-length
+same-length c = search needs
+
+returns : tie.Need-returns
+unfolding valuesText
+returns c = rw (c .before .before .before .before .before .if1 .taken) (c .before .before .put-information .ensures)
+
+same-length-2 : tie.Need-same-length-2
+same-length-2 c = search needs
+
+returns-2 : tie.Need-returns-2
+unfolding valuesText
+returns-2 c = rw (c .before .before .before .before .if1 .left) (puts-most (omega arith) (c .before .before .put-value .ensures))
+
+pub put-values-spec : {M : Type 1} → statement M
+put-values-spec =
+    tie.close
+    (tie.spec
+    put-information-requires
+    put-value-requires
+    same-length
+    returns
+    same-length-2
+    returns-2)

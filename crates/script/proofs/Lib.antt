@@ -1,0 +1,5 @@
+pub mod Tables
+pub mod Laws
+pub mod Rows
+pub mod WrittenCalls
+pub mod WrittenScript

@@ -1,0 +1,102 @@
+-- `script::object_call` meets its contract: each arm is a row of the table. Assumes nothing.
+use native.Mathlib.Omega.{arith}
+use borrow.Author.Needs.{needs}
+use mathlib.Core.Path.{_≡_, refl, sym, _∙_, ap}
+use Rattle.script.proofs.object_call.Statement.{statement}
+use Rattle.script.proofs.object_call.Tie as tie
+use Rattle.script.proofs.object_call.Reads as reads
+use Rattle.script.proofs.object_call.Lts as lts
+use Rattle.script.proofs.order_of.Reads as order-of-reads
+
+element-copy-out-t6 : tie.Need-element-copy-out-t6
+element-copy-out-t6 c = search needs
+
+element-copy-out-t9 : tie.Need-element-copy-out-t9
+element-copy-out-t9 c = search needs
+
+element-copy-out-t12 : tie.Need-element-copy-out-t12
+element-copy-out-t12 c = search needs
+
+element-copy-out-t15 : tie.Need-element-copy-out-t15
+element-copy-out-t15 c = search needs
+
+element-copy-out-order-of : tie.Need-element-copy-out-order-of
+element-copy-out-order-of c = search needs
+
+order-of-requires : tie.Need-order-of-requires
+order-of-requires c κs = search needs
+
+element-copy-out-t22 : tie.Need-element-copy-out-t22
+element-copy-out-t22 c = search needs
+
+element-copy-out-t25 : tie.Need-element-copy-out-t25
+element-copy-out-t25 c = search needs
+
+element-copy-out-t28 : tie.Need-element-copy-out-t28
+element-copy-out-t28 c = search needs
+
+element-copy-out-t31 : tie.Need-element-copy-out-t31
+element-copy-out-t31 c = search needs
+
+element-copy-out-t34 : tie.Need-element-copy-out-t34
+element-copy-out-t34 c = search needs
+
+element-copy-out-t37 : tie.Need-element-copy-out-t37
+element-copy-out-t37 c = search needs
+
+element-copy-out-t40 : tie.Need-element-copy-out-t40
+element-copy-out-t40 c = search needs
+
+element-copy-out-t43 : tie.Need-element-copy-out-t43
+element-copy-out-t43 c = search needs
+
+element-copy-out-t46 : tie.Need-element-copy-out-t46
+element-copy-out-t46 c = search needs
+
+returns : tie.Need-returns
+returns c = rw (c .before .before .before .before .before .before .match .keys1, c .order-of .ensures)
+
+returns-2 : tie.Need-returns-2
+returns-2 c = rw (c .before .before .before .before .match .keys2)
+
+returns-3 : tie.Need-returns-3
+returns-3 c = rw (c .before .match .keys3)
+
+returns-4 : tie.Need-returns-4
+returns-4 c = rw (c .before .match .keys4)
+
+returns-5 : tie.Need-returns-5
+returns-5 c = rw (c .before .match .keys5)
+
+returns-6 : tie.Need-returns-6
+returns-6 c = rw (c .before .match .keys6)
+
+returns-7 : tie.Need-returns-7
+returns-7 c = let e : c .before .before .args .k ≡ 6 = omega arith in rw e
+
+pub object-call-spec : {M : Type 1} → statement M
+object-call-spec =
+    tie.close
+    (tie.spec
+    element-copy-out-t6
+    element-copy-out-t9
+    element-copy-out-t12
+    element-copy-out-t15
+    element-copy-out-order-of
+    order-of-requires
+    element-copy-out-t22
+    element-copy-out-t25
+    element-copy-out-t28
+    element-copy-out-t31
+    element-copy-out-t34
+    element-copy-out-t37
+    element-copy-out-t40
+    element-copy-out-t43
+    element-copy-out-t46
+    returns
+    returns-2
+    returns-3
+    returns-4
+    returns-5
+    returns-6
+    returns-7)

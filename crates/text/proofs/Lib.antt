@@ -1,0 +1,4 @@
+pub mod Laws
+pub mod Digits
+pub mod Numbers
+pub mod WrittenLines

@@ -1,0 +1,9 @@
+-- A text as its bytes, so that definitions can name keys and calls as document 01 does. Assumes nothing.
+use Prim.Native.Nat.{ℕ}
+use Prim.Native.Char.{code}
+use Prim.Native.String.{String, [], _∷_}
+use mathlib.Core.List.{List, [] as none, _∷_ as _then_}
+
+abbrev pub bytes : String → List ℕ
+bytes [] = none
+bytes (c ∷ s) = code c then bytes s
