@@ -2,7 +2,7 @@
 -- and putting an object into a slot keeps the areas sound where its area meets none of the others. Everything goes by objects: two
 -- different objects have areas that share no byte, where an empty slot's area has no byte at all. Assumes nothing.
 use mathlib.Core.Path.{_≡_, refl, sym, ap, _∙_, subst}
-use mathlib.Core.Bool.{Bool, true, false, cond, not, _&&_, _||_}
+use mathlib.Core.Bool.{Bool, true, false, cond, not, _&&_}
 use mathlib.Core.List.{List, [], _∷_}
 use mathlib.Core.Logic.{_⊎_, inl, inr, ⊎-elim}
 use mathlib.Core.Option.{Option}
@@ -22,6 +22,7 @@ use Rattle.manager.specs.declared.Area.{Area}
 use Rattle.manager.specs.declared.Manager.{Manager}
 use Rattle.manager.specs.declared.Region.{Region}
 use Rattle.manager.specs.declared.Partition.{Partition}
+use Rattle.manager.specs.Queue.Parts.{or-first, or-second}
 use Rattle.trace.specs.Receipts.{Receipts, RegionEntry, PartitionEntry}
 use Rattle.trace.specs.Trace.{Object, region, partition}
 use Rattle.trace.proofs.Invariant.{Inside, Only, regionFor, RegionSlot, PartitionSlot, Inv, empty, live}
@@ -62,15 +63,7 @@ module _ {A : Type 0} (z : A) where
   unfolding someOf
   none-at t [] i e h = absurd (omega arith)
   none-at t (x ∷ l) zero e h = or-first (t x) (someOf t l) e
-    where
-      or-first : (a b : Bool) → (a || b) ≡ false → a ≡ false
-      or-first true b e = e
-      or-first false b e = refl
   none-at t (x ∷ l) (suc i) e h = none-at t l i (or-second (t x) (someOf t l) e) (omega arith)
-    where
-      or-second : (a b : Bool) → (a || b) ≡ false → b ≡ false
-      or-second true b e = absurd (let q : _≡_ {A = ℕ} 0 1 = cc in omega arith)
-      or-second false b e = e
 
 -- ---- two areas that share no byte
 

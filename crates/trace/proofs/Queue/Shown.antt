@@ -16,10 +16,11 @@ use Rattle.manager.specs.Queue.{goesBefore, waitsFor, waiting}
 use Rattle.manager.specs.declared.Manager.{Manager}
 use Rattle.manager.specs.declared.Waiter.{Waiter}
 use Rattle.manager.specs.declared.Order.{Order}
+use Rattle.manager.specs.Queue.Parts.{by-case}
 use Rattle.trace.specs.Receipts.{Receipts, RegionEntry, Wait, Within, Distinct}
 use Rattle.trace.specs.Claims.{waitsIn, arranged, queueOf, waiterOf, waitersOf, waitersFor}
 use Rattle.trace.proofs.Invariant.{AllWaits, Waits, tasksOf, queuesFrom}
-use Rattle.trace.proofs.Queue.Line.{by-case, In, keep, settle, line, in-line, in-append, keep-append, length-line, line-same}
+use Rattle.trace.proofs.Queue.Line.{In, keep, settle, line, in-line, in-append, keep-append, length-line, line-same}
 use Rattle.trace.proofs.Queue.Order.{goes, orders, Listed, queues-line, queue-of, no-waits}
 use Rattle.trace.proofs.Queue.Places.{keep-replicate, some-in, in-some, in-replicate}
 use Rattle.trace.proofs.Queue.Tasks.{few, fewer, length-tasks, in-tasks, task-in, all-in}

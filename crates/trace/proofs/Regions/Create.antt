@@ -27,7 +27,7 @@ use Rattle.manager.specs.declared.Status.the-variants.{Successful, InternalErro
 use Rattle.trace.specs.Receipts.{Receipts, RegionEntry, unit, pagesIn, put}
 use Rattle.trace.specs.Trace.{region, partition}
 use Rattle.trace.proofs.Invariant.{Only, regionFor, RegionIs, RegionSlot, live, Inv}
-use Rattle.trace.proofs.Frame.{unit-least, page-upto, map-before, map-stored, map-only, parts-inside}
+use Rattle.trace.proofs.Frame.{unit-least, map-fits, map-stored, map-only, parts-inside}
 use Rattle.trace.proofs.Areas.{areaFor, overlaps-clear, region-there, region-elsewhere, areas-new-region, region-kept, partition-kept}
 use Rattle.trace.proofs.Loans.Tests.{by-eqb}
 use Rattle.trace.proofs.Loans.Words.{drawn-new, ordered-new}
@@ -55,13 +55,8 @@ module _ (m : List ℕ) (e : RegionEntry) (fresh : e .loans ≡ []) (named : ¬ 
   some-unit : 0 < unit e
   some-unit = omega (arith, unit-least e page-some)
 
-  map-fits : mapAt (regionFor e) + pagesIn e ≤ length m
-  map-fits =
-      omega (
-        arith,
-        map-before (e .start) (e .bytes) (unit e) some-unit some-page (mapAt (regionFor e) + pagesIn e - 1) (omega (arith, some-page)),
-        page-upto (e .start) (e .bytes) (unit e) some-unit some-page 0 (omega arith),
-      )
+  fits : mapAt (regionFor e) + pagesIn e ≤ length m
+  fits = map-fits (e .start) (e .bytes) (unit e) (length m) some-unit some-page upto
 
   new-size : length (draw (free+ (pagesIn e) [])) ≡ pagesIn e
   new-size = law (regionFor e) .size (law (regionFor e) .new (pagesIn e))
@@ -79,7 +74,7 @@ module _ (m : List ℕ) (e : RegionEntry) (fresh : e .loans ≡ []) (named : ¬ 
         page-most = page-most;
         some-page = some-page;
         ordered = rw fresh (ordered-new (pagesIn e));
-        map = rw (fresh, drawn-new (pagesIn e)) (map-stored m (regionFor e) (draw (free+ (pagesIn e) [])) new-size map-fits);
+        map = rw (fresh, drawn-new (pagesIn e)) (map-stored m (regionFor e) (draw (free+ (pagesIn e) [])) new-size fits);
       }
 
 -- ---- in a slot that is empty
