@@ -18,7 +18,7 @@ use Rattle.manager.specs.Partition.Laws.{Shaped, Outside, chain-length, live-ch
 use Rattle.manager.specs.declared.Manager.{Manager}
 use Rattle.manager.specs.declared.Partition.{Partition}
 use Rattle.manager.specs.declared.Call.{Call}
-use Rattle.manager.specs.declared.Status.the-variants.{Successful, InternalError}
+use Rattle.manager.specs.declared.Status.the-variants.{Successful}
 use Rattle.trace.specs.Receipts.{Receipts, RegionEntry, PartitionEntry, Wait, buffersIn, Distinct, put, mapOption, onPartition, entered}
 use Rattle.trace.specs.Trace.{Object, region, partition}
 use Rattle.trace.proofs.Invariant.{Inside, Only, PartitionIs, PartitionSlot, AllWaits, Waits, Inv, queueAt, queuesFrom, empty, live}
@@ -27,7 +27,7 @@ use Rattle.trace.proofs.Buffers.{chain-once}
 use Rattle.trace.proofs.Areas.{areaIn, Clear, OfSlot, sound-clear, partition-slot, partition-there, partition-elsewhere, areas-partition, region-kept, partition-kept}
 use Rattle.trace.proofs.Loans.Tests.{by-eqb}
 use Rattle.trace.proofs.Queue.Tasks.{wait-same}
-use Rattle.trace.proofs.Regions.Checks.{Kept, note-done}
+use Rattle.trace.proofs.Regions.Checks.{Kept, note-done, sound-status}
 use Rattle.trace.proofs.Regions.Picture.{words-same}
 
 -- ---- what stands in a slot
@@ -147,5 +147,5 @@ pub kept-done : (c : Call) (t u : Receipts) (m : List ℕ) (d : Manager) (n : �
 kept-done c t u m d n e v =
     record {
       inv = subst (λ (r : Receipts). Inv m d r) (sym (note-done c m d t n Successful refl ∙ e)) v;
-      sound = λ (y : Successful ≡ InternalError). let z : _≡_ {A = ℕ} 0 1 = cc in omega arith;
+      sound = sound-status Successful refl;
     }

@@ -237,9 +237,3 @@ waits-tick d t v i =
       once = tick-queued slots tasks t a .once;
       queue = ap (λ (l : List Waiter). pad tasks noWaiter (staying l)) (v .queue) ∙ row-tick slots tasks t a;
     }
-
--- as the receipts are written: the tick's own entry, then each notice
-pub waits-ticked : (d : Manager) (t : Receipts) → Waits d t → Ids slots t
-    → Waits (afterTick d) (allNoticed (leaving (d .waiters)) (withWaits (allLater (t .waits)) t))
-waits-ticked d t v i =
-    rw (tick-notices slots tasks d t (v .queue), tick-receipts slots tasks t (queued d t v i)) (waits-tick d t v i)
