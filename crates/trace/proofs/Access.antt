@@ -1,8 +1,8 @@
 -- Reading and writing a held segment. A write is refused, or it changes only words of the loan at its address, so that it is one of the
 -- writes that clients may make; a read of a loan has words. Assumes nothing.
 use mathlib.Core.Path.{_≡_, refl, sym, ap, _∙_, subst}
-use mathlib.Core.Bool.{Bool, true, false, not, true≢false}
-use mathlib.Core.List.{List, [], _∷_}
+use mathlib.Core.Bool.{true, false}
+use mathlib.Core.List.{List, []}
 use mathlib.Core.Option.{Option, some}
 use Prim.Native.Nat.{ℕ, zero, suc, _+_, _*_, _/_, _≤_, _<_}
 use native.Mathlib.Nat.{mul-le-mul}
@@ -10,17 +10,17 @@ use native.Mathlib.Omega.{arith}
 use lib.ListN.{length, take, drop, length-take, length-drop}
 use lib.Seq.{sets}
 use lib.Dec.{eqb, ltb}
-use borrow.Author.Tests.{eqb-false, ne-eqb, ltb-false, not-true}
+use borrow.Author.Tests.{eqb-false, ne-eqb, ltb-false}
 use Rattle.manager.specs.Record.{regionOf}
-use Rattle.manager.specs.Result.{Result, Check, check, checked, refused}
+use Rattle.manager.specs.Lists.{every}
+use Rattle.manager.specs.Result.{Result, refused}
 use Rattle.manager.specs.Region.{dead, heldAt}
 use Rattle.manager.specs.Sound.{sound}
-use Rattle.manager.specs.Status.{numberOf}
-use Rattle.manager.specs.Access.{wordsIn, readSegment, writeSegment}
+use Rattle.manager.specs.Access.{readSegment, writeSegment}
 use Rattle.manager.specs.declared.Manager.{Manager}
 use Rattle.manager.specs.declared.Region.{Region}
 use Rattle.manager.specs.declared.Status.{Status}
-use Rattle.manager.specs.declared.Status.the-variants.{Successful, InvalidId, InvalidSize, InvalidAddress, InternalError}
+use Rattle.manager.specs.declared.Status.the-variants.{Successful, InternalError}
 use Rattle.trace.specs.Loans.{Lent}
 use Rattle.trace.specs.Receipts.{Receipts, RegionEntry, unit, addressIn, pageIn}
 use Rattle.trace.specs.Trace.{Object, region, Loaned, segment, ClientsWrite}
@@ -28,21 +28,7 @@ use Rattle.trace.proofs.Invariant.{Inside, Only, regionFor, RegionIs, R
 use Rattle.trace.proofs.Frame.{only-sets, unit-least, inside-parts}
 use Rattle.trace.proofs.Clients.{SegmentLoan, segment-in, segment-some, region-at, clients-keep}
 use Rattle.trace.proofs.Held.{loan-held, held-loan}
-
--- a chain of checks, by the outcome of the first
-pub checked-case : (P : Result → Type 0) (b : Bool) (s : Status) (cs : List Check) (refuse : Status → Result) (act : Result)
-    → (b ≡ true → P (refuse s)) → (b ≡ false → P (checked cs refuse act)) → P (checked (check b s ∷ cs) refuse act)
-unfolding checked
-checked-case P true s cs refuse act f g = f refl
-checked-case P false s cs refuse act f g = g refl
-
-pub checked-end : (P : Result → Type 0) (refuse : Status → Result) (act : Result) → P act → P (checked [] refuse act)
-unfolding checked
-checked-end P refuse act h = h
-
--- a status is not 25 where its number is not
-pub other-status : (s : Status) → ¬ (numberOf s ≡ 25) → ¬ (s ≡ InternalError)
-other-status s n e = n (ap numberOf e)
+use Rattle.trace.proofs.Regions.Checks.{Passed, refusing, refusing-sound, by-answer, sound-status}
 
 -- ---- writes
 
@@ -60,8 +46,8 @@ pub record Writes (m : List ℕ) (d : Manager) (t : Receipts) (s : Result) : Typ
   pub manager : s .manager ≡ d
   pub answered : ¬ (s .status ≡ InternalError)
 
-writes-refused : (m : List ℕ) (d : Manager) (t : Receipts) (s : Status) → ¬ (s ≡ InternalError) → Writes m d t (refused m d s)
-writes-refused m d t s n = record { clients = clients-none t m; manager = refl; answered = n }
+writes-refused : (m : List ℕ) (d : Manager) (t : Receipts) (s : Status) → refusing s ≡ true → Writes m d t (refused m d s)
+writes-refused m d t s r = record { clients = clients-none t m; manager = refl; answered = refusing-sound s r }
 
 -- words stored in the loan at an address
 module _ (m : List ℕ) (d : Manager) (t : Receipts) (id : ℕ) (e : RegionEntry) (found : t .regions id ≡ some e) (is : RegionIs m e) (a : ℕ) where
@@ -92,22 +78,14 @@ module _ (m : List ℕ) (d : Manager) (t : Receipts) (v : Inv m d t) where
   module _ (ok : sound m d ≡ true) where
     -- A WRITE IS ONE THAT CLIENTS MAY MAKE, and never answered 25
     pub writes : (id a first : ℕ) (words : List ℕ) → Writes m d t (writeSegment m d id a first words)
-    unfolding writeSegment
+    unfolding writeSegment every Passed
     writes id a first words =
-        let P : Result → Type 0 = λ s. Writes m d t s in
-        checked-case P (not (sound m d)) InternalError _ (refused m d) _
-        (λ (f : not (sound m d) ≡ true). absurd (true≢false (sym ok ∙ not-true (sound m d) f)))
-        (λ f. checked-case P (dead (regionOf d id)) InvalidId _ (refused m d) _
-        (λ x. writes-refused m d t InvalidId (other-status InvalidId (omega arith)))
-        (λ x. checked-case P (eqb (heldAt m (regionOf d id) a) 0) InvalidAddress _ (refused m d) _
-        (λ y. writes-refused m d t InvalidAddress (other-status InvalidAddress (omega arith)))
-        (λ y. checked-case P (ltb (wordsIn m d id a) (first + length words)) InvalidSize _ (refused m d) _
-        (λ z. writes-refused m d t InvalidSize (other-status InvalidSize (omega arith)))
-        (λ z. checked-end P (refused m d) _ (record {
-          clients = passed id a first words (regionOf d id) (t .regions id) refl (v .regions id) x y z;
+        by-answer m d _ _ ok (Writes m d t) refl (writes-refused m d t)
+        (λ c. record {
+          clients = passed id a first words (regionOf d id) (t .regions id) refl (v .regions id) (c .0) (c .1 .0) (c .1 .1 .0);
           manager = refl;
-          answered = other-status Successful (omega arith);
-        })))))
+          answered = sound-status Successful refl;
+        })
 
     pub write-keeps : (id a first : ℕ) (words : List ℕ)
         → Inv (writeSegment m d id a first words .memory) (writeSegment m d id a first words .manager) t

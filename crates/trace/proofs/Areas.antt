@@ -2,7 +2,7 @@
 -- and putting an object into a slot keeps the areas sound where its area meets none of the others. Everything goes by objects: two
 -- different objects have areas that share no byte, where an empty slot's area has no byte at all. Assumes nothing.
 use mathlib.Core.Path.{_≡_, refl, sym, ap, _∙_, subst}
-use mathlib.Core.Bool.{Bool, true, false, cond, not, _&&_, _||_}
+use mathlib.Core.Bool.{Bool, true, false, cond, not, _&&_}
 use mathlib.Core.List.{List, [], _∷_}
 use mathlib.Core.Logic.{_⊎_, inl, inr, ⊎-elim}
 use mathlib.Core.Option.{Option}
@@ -22,9 +22,10 @@ use Rattle.manager.specs.declared.Area.{Area}
 use Rattle.manager.specs.declared.Manager.{Manager}
 use Rattle.manager.specs.declared.Region.{Region}
 use Rattle.manager.specs.declared.Partition.{Partition}
-use Rattle.trace.specs.Receipts.{Receipts, RegionEntry, PartitionEntry}
+use Rattle.manager.specs.Queue.Parts.{or-first, or-second}
+use Rattle.trace.specs.Receipts.{RegionEntry, PartitionEntry}
 use Rattle.trace.specs.Trace.{Object, region, partition}
-use Rattle.trace.proofs.Invariant.{Inside, Only, regionFor, RegionSlot, PartitionSlot, Inv, empty, live}
+use Rattle.trace.proofs.Invariant.{Inside, Only, regionFor, RegionSlot, PartitionSlot, empty, live}
 use Rattle.trace.proofs.Frame.{region-inside, region-same, chained-buffer, buffer-inside, link-next, link-before, partition-same}
 
 -- two numbers are equal, or one is below the other
@@ -62,15 +63,7 @@ module _ {A : Type 0} (z : A) where
   unfolding someOf
   none-at t [] i e h = absurd (omega arith)
   none-at t (x ∷ l) zero e h = or-first (t x) (someOf t l) e
-    where
-      or-first : (a b : Bool) → (a || b) ≡ false → a ≡ false
-      or-first true b e = e
-      or-first false b e = refl
   none-at t (x ∷ l) (suc i) e h = none-at t l i (or-second (t x) (someOf t l) e) (omega arith)
-    where
-      or-second : (a b : Bool) → (a || b) ≡ false → b ≡ false
-      or-second true b e = absurd (let q : _≡_ {A = ℕ} 0 1 = cc in omega arith)
-      or-second false b e = e
 
 -- ---- two areas that share no byte
 
@@ -368,30 +361,18 @@ module _ (d : Manager) (nr : length (d .regions) ≡ slots) (np : length (d .par
         put-sound d (withRegion d i r) nr np (length-set (d .regions) i r ∙ nr) np (region (idOf i)) (region-others r) e
         (λ o n. rw (region-there r) (c o n))
 
-    -- a new one whose area meets no other; an empty one; one of the same area
+    -- a new one whose area meets no other; an empty one
     pub areas-new-region : (r : Region) → overlaps d (areaFor r) ≡ false → soundAreas (withRegion d i r) ≡ true
     areas-new-region r f = areas-region r (λ o n. overlaps-clear d nr np (areaFor r) f o)
 
     pub areas-no-region : soundAreas (withRegion d i noRegion) ≡ true
     areas-no-region = areas-region noRegion (λ o n. no-area (areaIn d o))
 
-    pub areas-same-region : (r : Region) → r .start ≡ regionOf d (idOf i) .start → r .length ≡ regionOf d (idOf i) .length → soundAreas (withRegion d i r) ≡ true
-    areas-same-region r s l = areas-region r (λ o n. rw (s, l) (sound-clear d nr np e (region (idOf i)) o (λ (f : region (idOf i) ≡ o). n (sym f))))
-
     -- the same of a partition
     pub areas-partition : (p : Partition) → ((o : Object) → ¬ (o ≡ partition (idOf i)) → Clear (areaOf p) (areaIn d o)) → soundAreas (withPartition d i p) ≡ true
     areas-partition p c =
         put-sound d (withPartition d i p) nr np nr (length-set (d .partitions) i p ∙ np) (partition (idOf i)) (partition-others p) e
         (λ o n. rw (partition-there p) (c o n))
-
-    pub areas-new-partition : (p : Partition) → overlaps d (areaOf p) ≡ false → soundAreas (withPartition d i p) ≡ true
-    areas-new-partition p f = areas-partition p (λ o n. overlaps-clear d nr np (areaOf p) f o)
-
-    pub areas-no-partition : soundAreas (withPartition d i noPartition) ≡ true
-    areas-no-partition = areas-partition noPartition (λ o n. no-area (areaIn d o))
-
-    pub areas-same-partition : (p : Partition) → p .start ≡ partitionOf d (idOf i) .start → p .length ≡ partitionOf d (idOf i) .length → soundAreas (withPartition d i p) ≡ true
-    areas-same-partition p s l = areas-partition p (λ o n. rw (s, l) (sound-clear d nr np e (partition (idOf i)) o (λ (f : partition (idOf i) ≡ o). n (sym f))))
 
 -- ---- a change inside one area
 
@@ -421,15 +402,3 @@ partition-kept m m′ a p o c f s = go p o f s
           next = stays (b / 4) (buffer-inside m p e is b (b / 4) v (link-next m p e is b v));
           before = stays (b / 4 + 1) (buffer-inside m p e is b (b / 4 + 1) v (link-before m p e is b v));
         }))
-
--- A CHANGE INSIDE ONE OBJECT'S AREA LEAVES EVERY OTHER OBJECT'S PICTURE
-module _ (m : List ℕ) (d : Manager) (t : Receipts) (v : Inv m d t) (m′ : List ℕ) (o : Object) (c : Only (areaIn d o .start) (areaIn d o .length) m m′) where
-  pub other-region : (id : ℕ) → ¬ (o ≡ region id) → RegionSlot m′ (regionOf d id) (t .regions id)
-  other-region id n =
-      region-kept m m′ (areaIn d o) (regionOf d id) (t .regions id) c
-      (sound-clear d (v .region-slots) (v .partition-slots) (v .areas) o (region id) n) (v .regions id)
-
-  pub other-partition : (id : ℕ) → ¬ (o ≡ partition id) → PartitionSlot m′ (partitionOf d id) (t .partitions id)
-  other-partition id n =
-      partition-kept m m′ (areaIn d o) (partitionOf d id) (t .partitions id) c
-      (sound-clear d (v .region-slots) (v .partition-slots) (v .areas) o (partition id) n) (v .partitions id)

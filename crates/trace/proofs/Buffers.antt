@@ -9,7 +9,7 @@ use native.Mathlib.Nat.{zero-mul}
 use native.Mathlib.Omega.{arith}
 use lib.ListN.{length}
 use lib.Dec.{eqb}
-use borrow.Author.Tests.{eqb-true, eqb-false, eq-eqb, ne-eqb}
+use borrow.Author.Tests.{eqb-true, eqb-false, eq-eqb}
 use Rattle.manager.specs.Partition.{buffers, isBuffer, chain}
 use Rattle.manager.specs.Partition.Distinct.{On, distinct, on-off, on-nil, on-head, on-tail, on-cases, distinct-head, distinct-tail}
 use Rattle.manager.specs.Partition.Laws.{Shaped, buffer-of, of-buffer, chain-distinct, live-laid, live-chain}
@@ -35,11 +35,6 @@ module _ (c : ℕ) where
   unfolding strike
   strike-here x l e = rw (eq-eqb x c e)
 
-  pub strike-past : (x : ℕ) (l : List ℕ) → ¬ (x ≡ c) → strike c (x ∷ l) ≡ x ∷ strike c l
-  unfolding strike
-  strike-past x l n = rw (ne-eqb x c n)
-
-  -- what is on it then was on it, and is another
   pub within-strike : (a : ℕ) (l : List ℕ) → Within a (strike c l) → Within a l
   unfolding strike Within
   within-strike a [] h = h

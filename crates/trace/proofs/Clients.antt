@@ -126,44 +126,31 @@ module _ (m : List ℕ) (d : Manager) (t : Receipts) (v : Inv m d t) where
       let l = loan-in (h .0) (h .1) (h .2) (h .3) in
       omega (arith, l .from, l .upto, l .whole, l .whole-bytes, h .4, h .5)
 
+  -- so a word of an object's area that clients hold is of a loan of that object
+  owned-of : (o : Object) (w : ℕ) → Inside (areaIn d o .start) (areaIn d o .length) w → (h : Owned t w) → Loaned t o (h .1) (h .2)
+  owned-of o w i h =
+      ⊎-elim (λ (q : h .0 ≡ o). subst (λ (x : Object). Loaned t x (h .1) (h .2)) q (h .3))
+      (λ (n : ¬ (h .0 ≡ o)). absurd (clear-words (areaIn d (h .0)) (areaIn d o) w
+      (sound-clear d (v .region-slots) (v .partition-slots) (v .areas) (h .0) o n) (owned-inside w h) i))
+      (same-object (h .0) o)
+
   -- A WORD OF A MAP IS NOT HELD BY CLIENTS
   pub map-not-owned : (id : ℕ) (e : RegionEntry) → t .regions id ≡ some e → (w : ℕ) → mapAt (regionFor e) ≤ w → w < mapAt (regionFor e) + pagesIn e → ¬ Owned t w
-  map-not-owned id e f w lo hi h = ⊎-elim same other (same-object (h .0) (region id))
-    where
-      r : RegionAt m (regionOf d id) e
-      r = region-at m (regionOf d id) (t .regions id) e (v .regions id) f
-
-      same : h .0 ≡ region id → ⊥
-      same q =
-          let l = segment-loan t id (h .1) (h .2) e f (subst (λ (o : Object). Loaned t o (h .1) (h .2)) q (h .3)) in
-          omega (arith, segment-behind m e (r .is) (h .1) (h .2) l, region-before m e (r .is) w hi, h .4)
-
-      other : ¬ (h .0 ≡ region id) → ⊥
-      other n =
-          clear-words (areaIn d (h .0)) (areaIn d (region id)) w
-          (sound-clear d (v .region-slots) (v .partition-slots) (v .areas) (h .0) (region id) n)
-          (owned-inside w h) (rw (r .region) (region-inside m e (r .is) w lo hi))
+  map-not-owned id e f w lo hi h =
+      let r = region-at m (regionOf d id) (t .regions id) e (v .regions id) f in
+      let l = segment-loan t id (h .1) (h .2) e f (owned-of (region id) w (rw (r .region) (region-inside m e (r .is) w lo hi)) h) in
+      omega (arith, segment-behind m e (r .is) (h .1) (h .2) l, region-before m e (r .is) w hi, h .4)
 
   -- NOR IS A WORD OF A BUFFER THAT IS NOT LENT
   pub buffer-not-owned : (id : ℕ) (e : PartitionEntry) → t .partitions id ≡ some e → (a w : ℕ) → Within a (e .unlent) → Inside a (partitionOf d id .size) w → ¬ Owned t w
-  buffer-not-owned id e f a w u i h = ⊎-elim same other (same-object (h .0) (partition id))
-    where
-      s : PartitionIs m (partitionOf d id) e
-      s = partition-at m (partitionOf d id) (t .partitions id) e (v .partitions id) f
-
-      same : h .0 ≡ partition id → ⊥
-      same q =
-          let l = buffer-loan t id (h .1) (h .2) e f (subst (λ (o : Object). Loaned t o (h .1) (h .2)) q (h .3)) in
-          ⊎-elim (λ (g : h .1 ≡ a). s .apart (h .1) (l .lent) (subst (λ (b : ℕ). Within b (e .unlent)) (sym g) u))
-          (⊎-elim (λ (g : h .1 + partitionOf d id .size ≤ a). omega (arith, i .low, i .high, h .4, h .5, l .bytes, s .size))
-          (λ (g : a + partitionOf d id .size ≤ h .1). omega (arith, i .low, i .high, h .4, h .5)))
-          (buffers-apart m (partitionOf d id) e s (h .1) a (s .buffer (h .1) (l .lent)) (chained-buffer m (partitionOf d id) e s a u))
-
-      other : ¬ (h .0 ≡ partition id) → ⊥
-      other n =
-          clear-words (areaIn d (h .0)) (areaIn d (partition id)) w
-          (sound-clear d (v .region-slots) (v .partition-slots) (v .areas) (h .0) (partition id) n)
-          (owned-inside w h) (buffer-inside m (partitionOf d id) e s a w (chained-buffer m (partitionOf d id) e s a u) i)
+  buffer-not-owned id e f a w u i h =
+      let s = partition-at m (partitionOf d id) (t .partitions id) e (v .partitions id) f in
+      let c = chained-buffer m (partitionOf d id) e s a u in
+      let l = buffer-loan t id (h .1) (h .2) e f (owned-of (partition id) w (buffer-inside m (partitionOf d id) e s a w c i) h) in
+      ⊎-elim (λ (g : h .1 ≡ a). s .apart (h .1) (l .lent) (subst (λ (b : ℕ). Within b (e .unlent)) (sym g) u))
+      (⊎-elim (λ (g : h .1 + partitionOf d id .size ≤ a). omega (arith, i .low, i .high, h .4, h .5, l .bytes, s .size))
+      (λ (g : a + partitionOf d id .size ≤ h .1). omega (arith, i .low, i .high, h .4, h .5)))
+      (buffers-apart m (partitionOf d id) e s (h .1) a (s .buffer (h .1) (l .lent)) c)
 
   -- WHATEVER CLIENTS WRITE KEEPS THE INVARIANT
   pub clients-keep : (m′ : List ℕ) → ClientsWrite t m m′ → Inv m′ d t

@@ -40,9 +40,6 @@ only-refl a n m = record { size = refl; same = λ w h. refl }
 pub only-trans : (a n : ℕ) (m m′ m″ : List ℕ) → Only a n m m′ → Only a n m′ m″ → Only a n m m″
 only-trans a n m m′ m″ p q = record { size = q .size ∙ p .size; same = λ w h. q .same w h ∙ p .same w h }
 
-pub only-wider : (a n b k : ℕ) (m m′ : List ℕ) → b ≤ a → a + n ≤ b + k → Only a n m m′ → Only b k m m′
-only-wider a n b k m m′ l h o = record { size = o .size; same = λ w i. o .same w (λ j. i (inside-wider a n b k w l h j)) }
-
 -- one word stored, and a run of words
 pub only-set : (a n : ℕ) (m : List ℕ) (i v : ℕ) → Inside a n i → Only a n m (set m i v)
 only-set a n m i v h =

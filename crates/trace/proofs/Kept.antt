@@ -18,8 +18,9 @@ use Rattle.manager.specs.Perform.{perform}
 use Rattle.manager.specs.declared.Manager.{Manager}
 use Rattle.manager.specs.declared.Waiter.{Waiter}
 use Rattle.manager.specs.declared.Call.{Call}
+use Rattle.manager.specs.Queue.Parts.{by-case}
 use Rattle.trace.proofs.Access.{write-keeps}
-use Rattle.trace.proofs.Queue.Line.{by-case, true-false, In}
+use Rattle.trace.proofs.Queue.Line.{true-false}
 use Rattle.trace.proofs.Queue.Places.{in-some, in-every}
 use Rattle.trace.proofs.Regions.Queue.{sound-inv}
 use Rattle.trace.proofs.Recover as recover

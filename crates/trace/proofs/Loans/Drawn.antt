@@ -83,9 +83,6 @@ lent-after n at [] p k o h = absurd h
 lent-after n at (loan a m ∷ l) p k o (inl h) = omega arith
 lent-after n at (loan a m ∷ l) p k o (inr h) = omega (arith, ordered-next n (a + m) l (o .2), lent-after n (a + m) l p k (o .2) h)
 
-pub lent-from : (n at : ℕ) (l : List Loan) (p k : ℕ) → Ordered n at l → Lent l p k → at ≤ p
-lent-from n at l p k o h = omega (arith, ordered-next n at l o, lent-after n at l p k o h)
-
 -- A LOAN HAS A PAGE, AND LIES IN THE REGION
 pub lent-some : (n at : ℕ) (l : List Loan) (p k : ℕ) → Ordered n at l → Lent l p k → 0 < k
 unfolding Ordered Lent

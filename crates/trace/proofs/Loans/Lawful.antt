@@ -1,6 +1,6 @@
 -- What a kind of region has to prove, so that the queue and the directives can be proved over any kind: what each of its functions comes
 -- to on a map that is drawn from loans. What is read off the loans alone is the kind's own: a `Reading`. Assumes nothing.
-use mathlib.Core.Path.{_≡_, refl, ap}
+use mathlib.Core.Path.{_≡_, refl}
 use mathlib.Core.Bool.{true, false}
 use mathlib.Core.List.{List, [], _∷_}
 use mathlib.Core.Logic.{_⊎_, _↔_}
@@ -76,24 +76,6 @@ module _ (K : Kind) (R : Reading) (L : Lawful K R) where
   -- no pages are found where there is no loan
   pub held-none : {n : ℕ} {l : List Loan} {s : List Segment} → Drawing R n l s → (p : ℕ) → K .held p s ≡ 0 → (k : ℕ) → ¬ Lent l p k
   held-none d p e k x = omega (arith, L .held d p k x, L .lent-some (d .ordered) p k x)
-
-  -- the answers to a get, both ways
-  nowhere-by : {n : ℕ} {l : List Loan} {k : ℕ} {g : Place} {s : List Segment} → Gets R n l k g s → (g ≡ Nowhere) ↔ ((p : ℕ) → ¬ R .Run n l k p)
-  nowhere-by (given p d low) = (λ e. let z : _≡_ {A = ℕ} 0 1 = cc in absurd (omega arith), λ h. absurd (h p (L .lowest-run low)))
-  nowhere-by (nothing d no-run) = (λ e. no-run, λ h. refl)
-
-  at-by : {n : ℕ} {l : List Loan} {k : ℕ} {g : Place} {s : List Segment} → Gets R n l k g s → (p : ℕ) → (g ≡ At p) ↔ R .Lowest n l k p
-  at-by {n} {l} {k} (given q d low) p =
-      (λ e. let y : q ≡ p = cc in rw (← y) low, λ h. ap At (omega (arith, L .lowest-first low p (L .lowest-run h), L .lowest-first h q (L .lowest-run low))))
-  at-by (nothing d no-run) p = (λ e. let z : _≡_ {A = ℕ} 0 1 = cc in absurd (omega arith), λ h. absurd (no-run p (L .lowest-run h)))
-
-  pub nowhere : {n : ℕ} {l : List Loan} {s : List Segment} → Drawing R n l s → (j : ℕ) → 0 < j
-      → (K .place (K .rounded j) s ≡ Nowhere) ↔ ((p : ℕ) → ¬ R .Run n l (K .rounded j) p)
-  nowhere d j z = nowhere-by (L .got d j z)
-
-  pub somewhere : {n : ℕ} {l : List Loan} {s : List Segment} → Drawing R n l s → (j : ℕ) → 0 < j → (p : ℕ)
-      → (K .place (K .rounded j) s ≡ At p) ↔ R .Lowest n l (K .rounded j) p
-  somewhere d j z p = at-by (L .got d j z) p
 
   -- from the words to the map
   pub drawing : (n : ℕ) (l : List Loan) (ws : List ℕ) → R .Ordered n l → ws ≡ draw (R .drawn n l) → Drawing R n l (decode ws)

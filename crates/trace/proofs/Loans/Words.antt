@@ -9,7 +9,7 @@ use native.Mathlib.Omega.{arith}
 use lib.ListN.{length}
 use Rattle.manager.specs.Lists.{some}
 use Rattle.manager.specs.Map.{Segment, free, held, isHeldSegment, draw, decode, soundMap, freeSizes, heldSizes, total}
-use Rattle.manager.specs.Map.Laws.{Well, sound-drawn, reread, redraw, well-decoded, length-draw, total-decoded}
+use Rattle.manager.specs.Map.Laws.{Well, sound-drawn, reread, well-decoded, length-draw, total-decoded}
 use Rattle.manager.specs.Paged.{free+}
 use Rattle.manager.specs.Paged.Laws.{free-join, total-free, well-free, free-front}
 use Rattle.trace.specs.Loans.{Loan, loan, Lent, run+, size+, drawn, runs, Ordered, loanPages, sum}
@@ -159,26 +159,3 @@ loans-of n at before (held k ∷ s) w e =
 -- EVERY SOUND MAP IS DRAWN FROM LOANS
 pub sound-loans : (ws : List ℕ) → soundMap ws ≡ true → Loans (length ws) 0 (decode ws) (loansOf 0 (decode ws))
 sound-loans ws e = loans-of (length ws) 0 true (decode ws) (well-decoded ws e) (omega (arith, total-decoded ws e))
-
-pub sound-words : (ws : List ℕ) → soundMap ws ≡ true
-    → (l : List Loan) × Ordered (length ws) 0 l × (ws ≡ draw (drawn (length ws) 0 l))
-sound-words ws e =
-    (loansOf 0 (decode ws), sound-loans ws e .ordered, sym (redraw ws e) ∙ ap draw (sound-loans ws e .drawing))
-
--- and of one list of loans only
-loans-free : (n at g : ℕ) (l : List Loan) → loansOf at (free+ g (onward n l)) ≡ loansOf (at + g) (onward n l)
-unfolding loansOf free+
-loans-free n at zero l = let e : at + 0 ≡ at = omega arith in rw e
-loans-free n at (suc g) [] = refl
-loans-free n at (suc g) (loan a k ∷ l) = refl
-
-pub loans-drawn : (n at : ℕ) (l : List Loan) → Ordered n at l → loansOf at (drawn n at l) ≡ l
-unfolding loansOf Ordered
-loans-drawn n at [] o = ap (loansOf at) (drawn-next n at []) ∙ loans-free n at (n - at) []
-loans-drawn n at (loan a k ∷ l) o =
-    let there : at + (a - at) ≡ a = omega arith in
-    ap (loansOf at) (drawn-next n at (loan a k ∷ l)) ∙ loans-free n at (a - at) (loan a k ∷ l) ∙ rw there (ap (λ (t : List Loan). loan a k ∷ t) (loans-drawn n (a + k) l (o .2)))
-
-pub same-loans : (n : ℕ) (l l′ : List Loan) → Ordered n 0 l → Ordered n 0 l′ → draw (drawn n 0 l) ≡ draw (drawn n 0 l′) → l ≡ l′
-same-loans n l l′ o o′ e =
-    sym (loans-drawn n 0 l o) ∙ ap (loansOf 0) (sym (reads n 0 l o) ∙ ap decode e ∙ reads n 0 l′ o′) ∙ loans-drawn n 0 l′ o′

@@ -18,15 +18,16 @@ use Rattle.manager.specs.Partition.Laws.{Shaped, Outside, chain-length, live-ch
 use Rattle.manager.specs.declared.Manager.{Manager}
 use Rattle.manager.specs.declared.Partition.{Partition}
 use Rattle.manager.specs.declared.Call.{Call}
-use Rattle.manager.specs.declared.Status.the-variants.{Successful, InternalError}
+use Rattle.manager.specs.declared.Status.the-variants.{Successful}
 use Rattle.trace.specs.Receipts.{Receipts, RegionEntry, PartitionEntry, Wait, buffersIn, Distinct, put, mapOption, onPartition, entered}
 use Rattle.trace.specs.Trace.{Object, region, partition}
-use Rattle.trace.proofs.Invariant.{Inside, Only, PartitionIs, PartitionSlot, WaitIs, AllWaits, Waits, Inv, queueAt, queuesFrom, empty, live}
+use Rattle.trace.proofs.Invariant.{Inside, Only, PartitionIs, PartitionSlot, AllWaits, Waits, Inv, queueAt, queuesFrom, empty, live}
 use Rattle.trace.proofs.Frame.{partition-shaped}
 use Rattle.trace.proofs.Buffers.{chain-once}
 use Rattle.trace.proofs.Areas.{areaIn, Clear, OfSlot, sound-clear, partition-slot, partition-there, partition-elsewhere, areas-partition, region-kept, partition-kept}
 use Rattle.trace.proofs.Loans.Tests.{by-eqb}
-use Rattle.trace.proofs.Regions.Checks.{Kept, note-done}
+use Rattle.trace.proofs.Queue.Tasks.{wait-same}
+use Rattle.trace.proofs.Regions.Checks.{Kept, note-done, sound-status}
 use Rattle.trace.proofs.Regions.Picture.{words-same}
 
 -- ---- what stands in a slot
@@ -70,25 +71,10 @@ module _ (id : ℕ) (o : Option PartitionEntry) (t : Receipts) where
   queues-kept zero i = refl
   queues-kept (suc n) i = rw (queue-kept (idOf i) (t .regions (idOf i)), queues-kept n (suc i))
 
-  wait-kept : (w : Wait) → WaitIs t w → WaitIs (keeping id o t) w
-  wait-kept w a =
-      record {
-        entry = a .entry;
-        found = a .found;
-        lending = a .lending;
-        task-some = a .task-some;
-        task-most = a .task-most;
-        size-some = a .size-some;
-        size-most = a .size-most;
-        priority-some = a .priority-some;
-        priority-most = a .priority-most;
-        time = a .time;
-      }
-
   all-kept : (ws : List Wait) → AllWaits t ws → AllWaits (keeping id o t) ws
   unfolding AllWaits
   all-kept [] a = tt
-  all-kept (w ∷ ws) a = (wait-kept w (a .0), all-kept ws (a .1))
+  all-kept (w ∷ ws) a = (wait-same t (keeping id o t) w (a .0) refl, all-kept ws (a .1))
 
   pub waits-kept : (d d′ : Manager) → d′ .waiters ≡ d .waiters → Waits d t → Waits d′ (keeping id o t)
   waits-kept d d′ e w = record { all = all-kept (t .waits) (w .all); once = w .once; queue = rw (queues-kept slots 0) (e ∙ w .queue) }
@@ -161,5 +147,5 @@ pub kept-done : (c : Call) (t u : Receipts) (m : List ℕ) (d : Manager) (n : �
 kept-done c t u m d n e v =
     record {
       inv = subst (λ (r : Receipts). Inv m d r) (sym (note-done c m d t n Successful refl ∙ e)) v;
-      sound = λ (y : Successful ≡ InternalError). let z : _≡_ {A = ℕ} 0 1 = cc in omega arith;
+      sound = sound-status Successful refl;
     }

@@ -2,7 +2,6 @@
 use mathlib.Core.Path.{_≡_, refl, ap, _∙_}
 use mathlib.Core.List.{List, []}
 use Prim.Native.Nat.{ℕ}
-use native.Mathlib.Omega.{arith}
 use Rattle.manager.specs.Record.{slots, tasks}
 use Rattle.manager.specs.Result.{Result}
 use Rattle.manager.specs.Lists.{every}
@@ -11,11 +10,11 @@ use Rattle.manager.specs.Regions.{tick}
 use Rattle.manager.specs.Perform.{perform}
 use Rattle.manager.specs.declared.Manager.{Manager}
 use Rattle.manager.specs.declared.Call.the-variants.{Tick}
-use Rattle.manager.specs.declared.Status.the-variants.{Successful, InternalError}
+use Rattle.manager.specs.declared.Status.the-variants.{Successful}
 use Rattle.trace.specs.Receipts.{Receipts, withWaits, allLater, allNoticed, note}
 use Rattle.trace.specs.Claims.{dueFrom}
 use Rattle.trace.proofs.Invariant.{Inv}
-use Rattle.trace.proofs.Regions.Checks.{Passed, Kept, kept-checked, acts}
+use Rattle.trace.proofs.Regions.Checks.{Passed, Kept, kept-checked, acts, sound-status}
 use Rattle.trace.proofs.Regions.Picture.{pictured, with-waits, any-queue}
 use Rattle.trace.proofs.Regions.Queue.{region-ids, sound-inv}
 use Rattle.trace.proofs.Queue.Line.{keep}
@@ -39,7 +38,7 @@ module _ (m : List ℕ) (d : Manager) (t : Receipts) (v : Inv m d t) where
       kept-checked Tick m d t v [] _ (sound-inv m d t v) refl (λ c.
       record {
         inv = rw noted (with-waits (any-queue m d t (afterTick d .waiters) (allLater (keep notDue (t .waits))) (pictured v)) (waits-tick d t (v .waits) ids));
-        sound = λ (y : Successful ≡ InternalError). let u : _≡_ {A = ℕ} 0 1 = cc in omega arith;
+        sound = sound-status Successful refl;
       })
 
   -- A TICK SENDS 6 TO EXACTLY THOSE WHOSE TICKS HAVE RUN OUT

@@ -1,6 +1,6 @@
 -- A get that waits: the waiter enters the array where its wait stands in the line of all waits. Assumes nothing.
 use mathlib.Core.Path.{_≡_, refl, sym, ap, _∙_, subst}
-use mathlib.Core.List.{List, [], _∷_, _++_}
+use mathlib.Core.List.{[], _∷_, _++_}
 use mathlib.Core.Logic.{_⊎_, inl, inr}
 use mathlib.Core.Option.{some}
 use Prim.Native.Nat.{ℕ, zero, suc, _-_, _≤_, _<_}
@@ -17,24 +17,8 @@ use Rattle.trace.proofs.Invariant.{WaitIs, Waits, tasksOf, queuesFrom}
 use Rattle.trace.proofs.Queue.Line.{In, settle, line, in-append, line-append}
 use Rattle.trace.proofs.Queue.Order.{goes, orderIn, orders, queues-line}
 use Rattle.trace.proofs.Queue.Places.{insert-pad}
-use Rattle.trace.proofs.Queue.Tasks.{append-once, all-in, in-all}
+use Rattle.trace.proofs.Queue.Tasks.{append-once, all-in, in-all, wait-same}
 use Rattle.trace.proofs.Queue.Shown.{Queued, Ids, Shown, queued, settle-waiters, length-waiters, length-queues, fewer-waits, row-some}
-
--- a wait that stays one where the receipts have other waits
-pub wait-kept : (t : Receipts) (ws : List Wait) (w : Wait) → WaitIs t w → WaitIs (withWaits ws t) w
-wait-kept t ws w a =
-    record {
-      entry = a .entry;
-      found = a .found;
-      lending = a .lending;
-      task-some = a .task-some;
-      task-most = a .task-most;
-      size-some = a .size-some;
-      size-most = a .size-most;
-      priority-some = a .priority-some;
-      priority-most = a .priority-most;
-      time = a .time;
-    }
 
 module _ (n k : ℕ) (d : Manager) (t : Receipts) (a : Queued n k t) (s : Shown n k d t) (w : Wait) (e : RegionEntry)
     (found : t .regions (w .id) ≡ some e) (low : 1 ≤ w .id) (high : w .id ≤ n) (order : regionOf d (w .id) .order ≡ e .order)
@@ -87,8 +71,8 @@ waits-entered d t w v i a order new =
     let u = withWaits (t .waits ++ (w ∷ [])) t in
     record {
       all = in-all u (t .waits ++ (w ∷ [])) (λ x m. elim (in-append x (t .waits) (w ∷ []) .0 m) [
-        | inl h ↦ wait-kept t (t .waits ++ (w ∷ [])) x (all-in t (t .waits) (v .all) x h)
-        | inr h ↦ elim h [ inl e ↦ subst (λ (y : Wait). WaitIs u y) e (wait-kept t (t .waits ++ (w ∷ [])) w a) | inr z ↦ absurd z ]
+        | inl h ↦ wait-same t u x (all-in t (t .waits) (v .all) x h) refl
+        | inr h ↦ elim h [ inl e ↦ subst (λ (y : Wait). WaitIs u y) e (wait-same t u w a refl) | inr z ↦ absurd z ]
       ]);
       once = append-once (t .waits) w (v .once) new;
       queue = enter-shown slots tasks d t (queued d t v i) (v .queue) w (a .entry) (a .found) (b .0) (b .1) order (a .task-some) (a .task-most) new;

@@ -14,6 +14,7 @@ use Rattle.manager.specs.Record.{slots, tasks, noWaiter}
 use Rattle.manager.specs.Result.{pad}
 use Rattle.manager.specs.Lists.{indexOf}
 use Rattle.manager.specs.Queue.{waitsFor, firstOf, removeAt, dequeue}
+use Rattle.manager.specs.Queue.Used.{length-pad}
 use Rattle.manager.specs.declared.Manager.{Manager}
 use Rattle.manager.specs.declared.Waiter.{Waiter}
 use Rattle.trace.specs.Receipts.{Receipts, RegionEntry, Wait, Distinct, withWaits, without, waitOf}
@@ -21,10 +22,9 @@ use Rattle.trace.specs.Claims.{waitsIn, queueOf, waiterOf, waitersOf}
 use Rattle.trace.proofs.Invariant.{Waits, tasksOf, queuesFrom}
 use Rattle.trace.proofs.Queue.Line.{In, keep, line, Sorted, in-append, in-keep, keep-append, keep-line}
 use Rattle.trace.proofs.Queue.Order.{goes, goes-strict, orders, queues-line, queue-of, waits-keep}
-use Rattle.trace.proofs.Queue.Places.{first-is, first-at, first-none, remove-pad, length-pad}
-use Rattle.trace.proofs.Queue.Tasks.{notOf, without-keep, keep-others, keep-once, line-once, wait-of, all-in, in-all}
+use Rattle.trace.proofs.Queue.Places.{first-is, first-at, first-none, remove-pad}
+use Rattle.trace.proofs.Queue.Tasks.{notOf, without-keep, keep-others, keep-once, line-once, wait-of, all-in, in-all, wait-same}
 use Rattle.trace.proofs.Queue.Shown.{Queued, Ids, Shown, queued, waiters-append, length-waiters, keep-waiters, keep-row, in-queues, length-queues, few-waits, row-some}
-use Rattle.trace.proofs.Queue.Enter.{wait-kept}
 
 -- the receipts without a task's wait
 abbrev pub struck : ℕ → Receipts → Receipts
@@ -87,7 +87,7 @@ module _ (n k : ℕ) (t : Receipts) (a : Queued n k t) where
     none-first z =
         ap (indexOf (waitsFor id)) s
         ∙ first-none (waitsFor id) (pad k noWaiter (waitersOf (queuesFrom n 0 t))) (keep-row n k t a id e f ∙ ap waitersOf z)
-        ∙ length-pad k noWaiter (waitersOf (queuesFrom n 0 t)) row-length
+        ∙ length-pad k (waitersOf (queuesFrom n 0 t)) row-length
 
     -- by where he stands in the queues
     module _ (w : Wait) (ws front back : List Wait) (split : queuesFrom n 0 t ≡ front ++ (w ∷ back)) (region : w .id ≡ id)
@@ -168,8 +168,8 @@ pub waits-struck : (d e : Manager) (t : Receipts) (task : ℕ) → Waits d t →
 waits-struck d e t task v i s =
     let a = queued d t v i in
     record {
-      all = in-all (struck task t) (without task (t .waits)) (λ w m. wait-kept t (without task (t .waits)) w
-          (all-in t (t .waits) (v .all) w (in-struck slots tasks t a task w m)));
+      all = in-all (struck task t) (without task (t .waits)) (λ w m.
+          wait-same t (struck task t) w (all-in t (t .waits) (v .all) w (in-struck slots tasks t a task w m)) refl);
       once = struck-queued slots tasks t a task .once;
       queue = s;
     }

@@ -2,52 +2,32 @@
 -- places come to, said of the waiters alone. Assumes nothing.
 use mathlib.Core.Path.{_≡_, refl, sym, ap, _∙_}
 use mathlib.Core.Bool.{Bool, true, false, cond, _||_}
-use mathlib.Core.List.{List, [], _∷_, _++_, append-nil, append-assoc}
+use mathlib.Core.List.{List, [], _∷_, _++_, append-assoc}
 use mathlib.Core.Logic.{inl, inr}
 use Prim.Native.Nat.{ℕ, zero, suc, _+_, _-_, _≤_, _<_}
 use native.Mathlib.Omega.{arith}
-use lib.ListN.{length, replicate, length-append, length-replicate, replicate-append-replicate}
+use lib.ListN.{length, replicate, length-append, replicate-append-replicate}
 use lib.Seq.{take-append-seam, drop-append-seam}
-use lib.Dec.{eqb}
 use Rattle.manager.specs.Record.{noWaiter}
 use Rattle.manager.specs.Result.{pad}
 use Rattle.manager.specs.Lists.{every, some, indexOf, pairwise, adjacent}
-use Rattle.manager.specs.Queue.{goesBefore, push, insert, removeAt, staying, leaving, aged, expired}
+use Rattle.manager.specs.Queue.{goesBefore, insert, removeAt}
+use Rattle.manager.specs.Queue.Used as places
 use Rattle.manager.specs.declared.Waiter.{Waiter}
 use Rattle.manager.specs.declared.Order.{Order}
-use Rattle.manager.specs.declared.Notice.{Notice}
 use Rattle.manager.specs.Lists.Laws.{and-first, and-second}
-use Rattle.trace.proofs.Queue.Line.{by-case, true-false, In, keep, settle, length-settle, in-append}
+use Rattle.manager.specs.Queue.Parts.{by-case}
+use Rattle.trace.proofs.Queue.Line.{true-false, In, keep, settle, in-append}
 
--- ONE ENTERED: all behind move on by a place
-push-none : (k : ℕ) (z : Waiter) → push z (replicate k z) ≡ replicate k z
-unfolding push
-push-none zero z = refl
-push-none (suc k) z = ap (_∷_ z) (push-none k z)
-
-push-places : (k : ℕ) (w z : Waiter) (l : List Waiter) → push w (l ++ replicate (suc k) z) ≡ w ∷ (l ++ replicate k z)
-unfolding push
-push-places k w z [] = ap (_∷_ w) (push-none k z)
-push-places k w z (x ∷ l) = ap (_∷_ w) (push-places k x z l)
-
-insert-places : (o : Order) (k : ℕ) (w : Waiter) (l : List Waiter)
-    → insert o w (l ++ replicate (suc k) noWaiter) ≡ settle (goesBefore o) w l ++ replicate k noWaiter
-unfolding insert settle goesBefore
-insert-places o k w [] = push-places k w noWaiter []
-insert-places o k w (x ∷ l) =
-    let ih = insert-places o k w l in
-    by-case (goesBefore o w x)
-    (λ t. cond t (push w (x ∷ (l ++ replicate (suc k) noWaiter))) (x ∷ insert o w (l ++ replicate (suc k) noWaiter))
-    ≡ cond t (w ∷ x ∷ l) (x ∷ settle (goesBefore o) w l) ++ replicate k noWaiter)
-    (λ t. push-places k w noWaiter (x ∷ l)) (λ f. ap (_∷_ x) ih)
+-- ONE ENTERED
+enter-settle : (o : Order) (w : Waiter) (l : List Waiter) → places.enter o w l ≡ settle (goesBefore o) w l
+unfolding places.enter settle
+enter-settle o w [] = refl
+enter-settle o w (x ∷ l) = ap (λ (r : List Waiter). cond (goesBefore o w x) (w ∷ x ∷ l) (x ∷ r)) (enter-settle o w l)
 
 pub insert-pad : (o : Order) (n : ℕ) (w : Waiter) (l : List Waiter) → length l < n
     → insert o w (pad n noWaiter l) ≡ pad n noWaiter (settle (goesBefore o) w l)
-insert-pad o n w l h =
-    let e : n - length l ≡ suc (n - suc (length l)) = omega arith in
-    ap (λ (k : ℕ). insert o w (l ++ replicate k noWaiter)) e
-    ∙ insert-places o (n - suc (length l)) w l
-    ∙ ap (λ (k : ℕ). settle (goesBefore o) w l ++ replicate (n - k) noWaiter) (sym (length-settle (goesBefore o) w l))
+insert-pad o n w l h = places.insert-pad o w n l h ∙ ap (pad n noWaiter) (enter-settle o w l)
 
 -- ONE REMOVED: an unused place more
 pub remove-pad : (n : ℕ) (a : List Waiter) (x : Waiter) (b : List Waiter) → length (a ++ (x ∷ b)) ≤ n
@@ -111,60 +91,6 @@ module _ {A : Type 0} (p : A → Bool) where
   unfolding keep
   keep-replicate zero z e = refl
   keep-replicate (suc k) z e = rw e (keep-replicate k z e)
-
-pub length-pad : {A : Type 0} (n : ℕ) (z : A) (l : List A) → length l ≤ n → length (pad n z l) ≡ n
-length-pad n z l h = omega (arith, length-append l (replicate (n - length l) z), length-replicate (n - length l) z)
-
--- A TICK: unused places stay as they are, and nobody leaves from one
-leaving-none : (k : ℕ) → leaving (replicate k noWaiter) ≡ []
-unfolding leaving
-leaving-none zero = refl
-leaving-none (suc k) = leaving-none k
-
-leaving-append : (a b : List Waiter) → leaving (a ++ b) ≡ leaving a ++ leaving b
-unfolding leaving
-leaving-append [] b = refl
-leaving-append (w ∷ a) b =
-    let ih = leaving-append a b in
-    by-case (eqb (w .ticks) 1)
-    (λ t. cond t (expired w ∷ leaving (a ++ b)) (leaving (a ++ b)) ≡ cond t (expired w ∷ leaving a) (leaving a) ++ leaving b)
-    (λ t. ap (_∷_ (expired w)) ih) (λ f. ih)
-
-pub leaving-pad : (n : ℕ) (l : List Waiter) → leaving (pad n noWaiter l) ≡ leaving l
-leaving-pad n l = leaving-append l _ ∙ ap (λ (r : List Notice). leaving l ++ r) (leaving-none (n - length l)) ∙ append-nil (leaving l)
-
-staying-none : (k : ℕ) → staying (replicate k noWaiter) ≡ replicate k noWaiter
-unfolding staying
-staying-none zero = refl
-staying-none (suc k) = ap (_∷_ noWaiter) (staying-none k)
-
-staying-append : (a b : List Waiter) → staying (a ++ b) ≡ staying a ++ staying b
-unfolding staying
-staying-append [] b = refl
-staying-append (w ∷ a) b =
-    let ih = staying-append a b in
-    by-case (eqb (w .ticks) 1)
-    (λ t. cond t (staying (a ++ b)) (aged w ∷ staying (a ++ b)) ≡ cond t (staying a) (aged w ∷ staying a) ++ staying b)
-    (λ t. ih) (λ f. ap (_∷_ (aged w)) ih)
-
-staying-length : (l : List Waiter) → length (staying l) ≤ length l
-unfolding staying
-staying-length [] = omega arith
-staying-length (w ∷ l) =
-    let ih = staying-length l in
-    by-case (eqb (w .ticks) 1) (λ t. length (cond t (staying l) (aged w ∷ staying l)) ≤ suc (length l)) (λ t. omega arith) (λ f. omega arith)
-
--- more unused places behind unused places
-pad-more : {A : Type 0} (n k : ℕ) (z : A) (l : List A) → length l + k ≤ n → pad n z (l ++ replicate k z) ≡ pad n z l
-pad-more n k z l h =
-    let e : k + (n - length (l ++ replicate k z)) ≡ n - length l = omega (arith, length-append l (replicate k z), length-replicate k z) in
-    append-assoc l (replicate k z) _ ∙ ap (λ (r : List _). l ++ r) (replicate-append-replicate k _ z ∙ ap (λ (j : ℕ). replicate j z) e)
-
-pub staying-pad : (n : ℕ) (l : List Waiter) → length l ≤ n → pad n noWaiter (staying (pad n noWaiter l)) ≡ pad n noWaiter (staying l)
-staying-pad n l h =
-    let k = n - length l in
-    ap (pad n noWaiter) (staying-append l (replicate k noWaiter) ∙ ap (λ (r : List Waiter). staying l ++ r) (staying-none k))
-    ∙ pad-more n k noWaiter (staying l) (omega (arith, staying-length l))
 
 -- TESTS OVER ALL PLACES
 module _ {A : Type 0} where

@@ -3,26 +3,27 @@
 use mathlib.Core.Path.{_≡_, refl, sym, ap, _∙_, subst}
 use mathlib.Core.Bool.{true, cond}
 use mathlib.Core.List.{List, [], _∷_, _++_, append-nil}
-use mathlib.Core.Logic.{_⊎_, inl, inr, _↔_}
+use mathlib.Core.Logic.{inl, inr, _↔_}
 use mathlib.Core.Option.{some}
 use Prim.Native.Nat.{ℕ, suc, _-_, _≤_, _<_}
 use native.Mathlib.Omega.{arith}
 use lib.ListN.{length, replicate}
 use lib.Dec.{eqb}
-use borrow.Author.Tests.{eqb-true, eq-eqb, ne-eqb}
+use borrow.Author.Tests.{eq-eqb, ne-eqb}
 use Rattle.manager.specs.Record.{slots, tasks, noWaiter}
 use Rattle.manager.specs.Result.{pad}
 use Rattle.manager.specs.Queue.{goesBefore, waitsFor, waiting}
 use Rattle.manager.specs.declared.Manager.{Manager}
 use Rattle.manager.specs.declared.Waiter.{Waiter}
 use Rattle.manager.specs.declared.Order.{Order}
+use Rattle.manager.specs.Queue.Parts.{by-case}
 use Rattle.trace.specs.Receipts.{Receipts, RegionEntry, Wait, Within, Distinct}
-use Rattle.trace.specs.Claims.{waitsIn, arranged, queueOf, waiterOf, waitersOf, waitersFor}
-use Rattle.trace.proofs.Invariant.{AllWaits, Waits, tasksOf, queuesFrom}
-use Rattle.trace.proofs.Queue.Line.{by-case, In, keep, settle, line, in-line, in-append, keep-append, length-line, line-same}
-use Rattle.trace.proofs.Queue.Order.{goes, orders, Listed, queues-line, queue-of, no-waits}
-use Rattle.trace.proofs.Queue.Places.{keep-replicate, some-in, in-some, in-replicate}
-use Rattle.trace.proofs.Queue.Tasks.{few, fewer, length-tasks, in-tasks, task-in, all-in}
+use Rattle.trace.specs.Claims.{waitsIn, queueOf, waiterOf, waitersOf, waitersFor}
+use Rattle.trace.proofs.Invariant.{Waits, tasksOf, queuesFrom}
+use Rattle.trace.proofs.Queue.Line.{In, keep, settle, in-line, in-append, keep-append, length-line}
+use Rattle.trace.proofs.Queue.Order.{goes, orders, Listed, queues-line, queue-of}
+use Rattle.trace.proofs.Queue.Places.{keep-replicate, some-in}
+use Rattle.trace.proofs.Queue.Tasks.{few, fewer, length-tasks, task-in, all-in}
 
 -- WAITS AS WAITERS, one by one
 pub waiters-append : (a b : List Wait) → waitersOf (a ++ b) ≡ waitersOf a ++ waitersOf b
@@ -105,15 +106,6 @@ queued d t w i =
 abbrev pub Shown : ℕ → ℕ → Manager → Receipts → Type 0
 Shown n k d t = d .waiters ≡ pad k noWaiter (waitersOf (queuesFrom n 0 t))
 
--- THE QUEUES REST ON THE WAITS AND ON THEIR REGIONS' ORDERS ALONE
-pub queues-same : (n : ℕ) (t u : Receipts) → Listed n t → Listed n u → u .waits ≡ t .waits
-    → ((w : Wait) → In w (t .waits) → orders t (w .id) ≡ orders u (w .id)) → queuesFrom n 0 u ≡ queuesFrom n 0 t
-unfolding goes
-queues-same n t u a b e f =
-    queues-line n u b ∙ ap (line (goes (orders u)) []) e
-    ∙ line-same (goes (orders u)) (goes (orders t)) [] (t .waits) (λ w m x. rw (f w m))
-    ∙ sym (queues-line n t a)
-
 module _ (n k : ℕ) (t : Receipts) (a : Queued n k t) where
   -- each wait stands in the queues, and nothing else; they are as many
   pub in-queues : (w : Wait) → In w (queuesFrom n 0 t) ↔ In w (t .waits)
@@ -162,30 +154,6 @@ module _ (n k : ℕ) (t : Receipts) (a : Queued n k t) where
     waiters-for id e f = for-keep id (d .waiters) ∙ ap (keep (waitsFor id)) s ∙ keep-row id e f
 
     -- a task waits in the record exactly where it waits in the receipts
-    pub waits-task : (b : ℕ) → 1 ≤ b → waiting d b ≡ true → Within b (tasksOf (t .waits))
-    waits-task b p e = go (in-append x q r .0 (subst (λ (l : List Waiter). In x l) s (found .1)))
-      where
-        q : List Waiter
-        q = waitersOf (queuesFrom n 0 t)
-
-        r : List Waiter
-        r = replicate (k - length (waitersOf (queuesFrom n 0 t))) noWaiter
-
-        found : (x : Waiter) × In x (d .waiters) × (eqb (x .task) b ≡ true)
-        found = in-some (λ w. eqb (w .task) b) (d .waiters) e
-
-        x : Waiter
-        x = found .0
-
-        go : In x q ⊎ In x r → Within b (tasksOf (t .waits))
-        go (inl h) =
-            let w = in-waiters x (queuesFrom n 0 t) h in
-            let f : w .0 .task ≡ b = ap (λ (v : Waiter). v .task) (w .2) ∙ eqb-true (x .task) b (found .2) in
-            subst (λ (c : ℕ). Within c (tasksOf (t .waits))) f (in-tasks (w .0) (t .waits) (in-queues (w .0) .0 (w .1)))
-        go (inr h) =
-            let f : 0 ≡ x .task = ap (λ (v : Waiter). v .task) (in-replicate (k - length (waitersOf (queuesFrom n 0 t))) noWaiter x h) in
-            absurd (omega (arith, eqb-true (x .task) b (found .2)))
-
     pub task-waits : (b : ℕ) → Within b (tasksOf (t .waits)) → waiting d b ≡ true
     task-waits b m =
         let w = task-in b (t .waits) m in
@@ -193,18 +161,3 @@ module _ (n k : ℕ) (t : Receipts) (a : Queued n k t) where
         .1 (inl (waiter-in (w .0) (queuesFrom n 0 t) (in-queues (w .0) .1 (w .1)))) in
         some-in (λ v. eqb (v .task) b) (d .waiters) (waiterOf (w .0)) (subst (λ (l : List Waiter). In (waiterOf (w .0)) l) (sym s) i)
         (eq-eqb (w .0 .task) b (w .2))
-
-    -- NOTHING WAITS FOR IT: no waiter of a region without waits
-    pub no-waiters : (id : ℕ) (e : RegionEntry) → t .regions id ≡ some e → queueOf id e t ≡ [] → waitersFor id (d .waiters) ≡ []
-    unfolding waitersOf
-    no-waiters id e f z = waiters-for id e f ∙ ap waitersOf z
-
--- a region that lends nothing has no wait, and so no waiter
-pub idle-queue : (t : Receipts) (id : ℕ) (e : RegionEntry) → AllWaits t (t .waits) → t .regions id ≡ some e → e .loans ≡ [] → queueOf id e t ≡ []
-unfolding arranged
-idle-queue t id e w f z =
-    ap (arranged (e .order) []) (no-waits id (t .waits) (λ x m g.
-    let a = all-in t (t .waits) w x m in
-    let h : some (a .entry) ≡ some e = sym (a .found) ∙ ap (t .regions) g ∙ f in
-    let i : a .entry ≡ e = cc in
-    a .lending (ap (λ (v : RegionEntry). v .loans) i ∙ z)))

@@ -18,10 +18,11 @@ use Rattle.manager.specs.Sound.{soundWaiter, soundPlace, otherTask, inOrder, so
 use Rattle.manager.specs.declared.Manager.{Manager}
 use Rattle.manager.specs.declared.Waiter.{Waiter}
 use Rattle.manager.specs.declared.Order.{Order}
+use Rattle.manager.specs.Queue.Parts.{by-case}
 use Rattle.trace.specs.Receipts.{Receipts, Wait, Within, Distinct}
 use Rattle.trace.specs.Claims.{waiterOf, waitersOf}
 use Rattle.trace.proofs.Invariant.{WaitIs, Waits, tasksOf, queuesFrom}
-use Rattle.trace.proofs.Queue.Line.{by-case, In, Behind, Sorted, in-append, sorted-line}
+use Rattle.trace.proofs.Queue.Line.{In, Behind, Sorted, in-append, sorted-line}
 use Rattle.trace.proofs.Queue.Order.{goes, goes-strict, orders, queues-line}
 use Rattle.trace.proofs.Queue.Places.{every-in, in-replicate, adjacent-pad, pairwise-pad}
 use Rattle.trace.proofs.Queue.Tasks.{in-tasks, line-once, all-in}

@@ -3,16 +3,19 @@
 use mathlib.Core.Path.{_≡_, refl, sym, ap, _∙_, subst}
 use mathlib.Core.Bool.{Bool, true, cond, not}
 use mathlib.Core.List.{List, [], _∷_, _++_}
-use mathlib.Core.Logic.{inl, inr}
+use mathlib.Core.Logic.{_⊎_, inl, inr}
+use mathlib.Core.Option.{some}
 use Prim.Native.Nat.{ℕ, zero, suc, _≤_, _<_}
 use native.Mathlib.Omega.{arith}
 use lib.ListN.{length}
 use lib.Dec.{eqb}
 use borrow.Author.Tests.{eq-eqb, ne-eqb}
-use Rattle.trace.specs.Receipts.{Receipts, Wait, Within, Distinct, strike, without, waitOf}
+use Rattle.manager.specs.Queue.Parts.{by-case}
+use Rattle.trace.specs.Loans.{Loan}
+use Rattle.trace.specs.Receipts.{Receipts, withLoans, Wait, Within, Distinct, strike, without, waitOf}
 use Rattle.trace.proofs.Invariant.{WaitIs, AllWaits, tasksOf}
 use Rattle.trace.proofs.Loans.Tests.{by-eqb}
-use Rattle.trace.proofs.Queue.Line.{by-case, In, keep, settle, line, in-settle, in-keep, in-append, keep-all}
+use Rattle.trace.proofs.Queue.Line.{In, keep, settle, line, in-settle, in-keep, in-append, keep-all}
 
 -- NUMBERS FROM 1 TO n, EACH ONCE, ARE AT MOST n
 strike-less : (a x : ℕ) (l : List ℕ) → Within x (strike a l) → Within x l
@@ -200,3 +203,27 @@ pub in-all : (t : Receipts) (ws : List Wait) → ((w : Wait) → In w ws → Wai
 unfolding AllWaits In
 in-all t [] h = tt
 in-all t (x ∷ ws) h = (h x (inl refl), in-all t ws (λ w m. h w (inr m)))
+
+-- A WAIT IN OTHER RECEIPTS: it is one still, at another count of ticks as well, where its region lends something and time is left
+abbrev pub counting : ℕ → Wait → Wait
+counting n w = record { task = w .task; id = w .id; size = w .size; priority = w .priority; ticks = w .ticks; since = n }
+
+pub wait-moved : (t u : Receipts) (w : Wait) (n : ℕ) (l : List Loan) (a : WaitIs t w) → u .regions (w .id) ≡ some (withLoans l (a .entry)) → ¬ (l ≡ [])
+    → (w .ticks ≡ 0) ⊎ (n < w .ticks) → WaitIs u (counting n w)
+wait-moved t u w n l a found lending time =
+    record {
+      entry = withLoans l (a .entry);
+      found = found;
+      lending = lending;
+      task-some = a .task-some;
+      task-most = a .task-most;
+      size-some = a .size-some;
+      size-most = a .size-most;
+      priority-some = a .priority-some;
+      priority-most = a .priority-most;
+      time = time;
+    }
+
+-- where its region's entry is the same
+pub wait-same : (t u : Receipts) (w : Wait) → WaitIs t w → u .regions (w .id) ≡ t .regions (w .id) → WaitIs u w
+wait-same t u w a e = wait-moved t u w (w .since) (a .entry .loans) a (e ∙ a .found) (a .lending) (a .time)

@@ -14,18 +14,20 @@ use Rattle.manager.specs.Result.{pad}
 use Rattle.manager.specs.Lists as Lists
 use Rattle.manager.specs.Lists.Laws.{and-first, and-second}
 use Rattle.manager.specs.Queue.{leaving, staying, aged, afterTick}
+use Rattle.manager.specs.Queue.Used.{told-pad, tick-pad}
 use Rattle.manager.specs.declared.Manager.{Manager}
 use Rattle.manager.specs.declared.Waiter.{Waiter}
 use Rattle.manager.specs.declared.Notice.{Notice}
 use Rattle.manager.specs.declared.Status.the-variants.{Timeout}
+use Rattle.manager.specs.Queue.Parts.{by-case}
 use Rattle.trace.specs.Receipts.{Receipts, RegionEntry, Wait, Distinct, withWaits, without, later, allLater, allNoticed}
 use Rattle.trace.specs.Claims.{waiterOf, waitersOf, dueIn, dueOf, dueFrom}
 use Rattle.trace.proofs.Invariant.{WaitIs, Waits, tasksOf, queueAt, queuesFrom}
 use Rattle.trace.proofs.Loans.Tests.{by-eqb}
-use Rattle.trace.proofs.Queue.Line.{by-case, true-false, In, keep, settle, line, Sorted, in-keep, keep-line, keep-same, keep-all, keep-keep}
+use Rattle.trace.proofs.Queue.Line.{true-false, In, keep, settle, line, Sorted, in-keep, keep-line, keep-same, keep-all, keep-keep}
 use Rattle.trace.proofs.Queue.Order.{goes, goes-strict, orders, queues-line}
-use Rattle.trace.proofs.Queue.Places.{leaving-pad, staying-pad, some-in, in-some}
-use Rattle.trace.proofs.Queue.Tasks.{notOf, without-keep, keep-once, one-wait, all-in, in-all}
+use Rattle.trace.proofs.Queue.Places.{some-in, in-some}
+use Rattle.trace.proofs.Queue.Tasks.{notOf, without-keep, keep-once, one-wait, all-in, in-all, wait-moved}
 use Rattle.trace.proofs.Queue.Shown.{Queued, Ids, Shown, queued, in-queues, length-waiters, length-queues, few-waits}
 
 -- a wait whose time runs out at this tick
@@ -71,7 +73,7 @@ due-queues (suc n) i t =
 
 pub tick-notices : (n k : ℕ) (d : Manager) (t : Receipts) → Shown n k d t → leaving (d .waiters) ≡ dueFrom n 1 t
 tick-notices n k d t s =
-    ap leaving s ∙ leaving-pad k (waitersOf (queuesFrom n 0 t)) ∙ due-leaving (queuesFrom n 0 t) ∙ sym (due-queues n 0 t)
+    ap leaving s ∙ told-pad k (waitersOf (queuesFrom n 0 t)) ∙ due-leaving (queuesFrom n 0 t) ∙ sym (due-queues n 0 t)
 
 -- THOSE THAT STAY have a tick less left
 age-one : (w : Wait) → aged (waiterOf w) ≡ waiterOf (later w)
@@ -212,7 +214,7 @@ module _ (n k : ℕ) (t : Receipts) (a : Queued n k t) where
       ≡ pad k noWaiter (waitersOf (queuesFrom n 0 (withWaits (allLater (keep notDue (t .waits))) t)))
   row-tick =
       let q = queuesFrom n 0 t in
-      staying-pad k (waitersOf q) (omega (arith, length-waiters q, length-queues n k t a, few-waits n k t a))
+      tick-pad k (waitersOf q) (omega (arith, length-waiters q, length-queues n k t a, few-waits n k t a))
       ∙ ap (pad k noWaiter) (due-staying q ∙ ap waitersOf (sym queues-tick))
 
 -- time is left to those that were not due
@@ -221,19 +223,7 @@ later-time w (inl e) f = inl e
 later-time w (inr h) f = let g : ¬ (w .ticks ≡ w .since + 1) = eqb-false (w .ticks) (w .since + 1) f in inr (omega arith)
 
 later-is : (t : Receipts) (ws : List Wait) (w : Wait) → WaitIs t w → due w ≡ false → WaitIs (withWaits ws t) (later w)
-later-is t ws w a f =
-    record {
-      entry = a .entry;
-      found = a .found;
-      lending = a .lending;
-      task-some = a .task-some;
-      task-most = a .task-most;
-      size-some = a .size-some;
-      size-most = a .size-most;
-      priority-some = a .priority-some;
-      priority-most = a .priority-most;
-      time = later-time w (a .time) f;
-    }
+later-is t ws w a f = wait-moved t (withWaits ws t) w (w .since + 1) (a .entry .loans) a (a .found) (a .lending) (later-time w (a .time) f)
 
 -- THE WAITS AFTER A TICK
 pub waits-tick : (d : Manager) (t : Receipts) → Waits d t → Ids slots t → Waits (afterTick d) (withWaits (allLater (keep notDue (t .waits))) t)
@@ -247,9 +237,3 @@ waits-tick d t v i =
       once = tick-queued slots tasks t a .once;
       queue = ap (λ (l : List Waiter). pad tasks noWaiter (staying l)) (v .queue) ∙ row-tick slots tasks t a;
     }
-
--- as the receipts are written: the tick's own entry, then each notice
-pub waits-ticked : (d : Manager) (t : Receipts) → Waits d t → Ids slots t
-    → Waits (afterTick d) (allNoticed (leaving (d .waiters)) (withWaits (allLater (t .waits)) t))
-waits-ticked d t v i =
-    rw (tick-notices slots tasks d t (v .queue), tick-receipts slots tasks t (queued d t v i)) (waits-tick d t v i)

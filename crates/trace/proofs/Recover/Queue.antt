@@ -15,6 +15,8 @@ use Rattle.manager.specs.Lists.Laws.{and-first, and-second}
 use Rattle.manager.specs.Record.{slots, tasks, noWaiter, regionOf}
 use Rattle.manager.specs.Result.{pad}
 use Rattle.manager.specs.Queue.{urgent, goesBefore}
+use Rattle.manager.specs.Queue.Parts.{or-second}
+use Rattle.manager.specs.Partition.Distinct.{either}
 use Rattle.manager.specs.Sound.{unused, soundPlace, otherTask, inOrder, soundQueue, soundRegion}
 use Rattle.manager.specs.declared.Manager.{Manager}
 use Rattle.manager.specs.declared.Waiter.{Waiter}
@@ -24,8 +26,9 @@ use Rattle.trace.proofs.Invariant.{WaitIs, AllWaits, tasksOf, queuesFro
 use Rattle.trace.proofs.Areas.{OfSlot, region-slot}
 use Rattle.trace.proofs.Queue.Line.{In, settle, line, Behind, Sorted, Strict}
 use Rattle.trace.proofs.Queue.Order.{goes, goes-strict, orders, orderIn, queues-line}
+use Rattle.trace.proofs.Queue.Tasks.{all-in}
 use Rattle.trace.proofs.Recover.Region.{entryOf, slotEntry}
-use Rattle.trace.proofs.Recover.Waits.{waiter-parts, waitFor, waitsOf, waits-cons, waits-skip, either-way, every-here, every-tail, adjacent-next, adjacent-tail, all-unused, queue-back, all-waits, tasks-once}
+use Rattle.trace.proofs.Recover.Waits.{waiter-parts, waitFor, waitsOf, waits-cons, waits-skip, every-here, every-tail, adjacent-next, adjacent-tail, all-unused, queue-back, all-waits, tasks-once}
 
 -- ---- a line that is in order already
 
@@ -61,16 +64,6 @@ module _ {A : Type 0} (lt : A → A → Bool) where
 
 -- ---- the waits that are read off a queue
 
-or-second : (a b : Bool) → (a || b) ≡ false → b ≡ false
-or-second true b e = absurd (true≢false e)
-or-second false b e = e
-
-pub all-in : (t : Receipts) (ws : List Wait) → AllWaits t ws → (w : Wait) → In w ws → WaitIs t w
-unfolding AllWaits In
-all-in t [] a w h = absurd h
-all-in t (x ∷ ws) a w (inl e) = subst (λ (y : Wait). WaitIs t y) e (a .0)
-all-in t (x ∷ ws) a w (inr h) = all-in t ws (a .1) w h
-
 module _ (m : List ℕ) (d : Manager) (t : Receipts) (entries : (id : ℕ) → t .regions id ≡ slotEntry m (regionOf d id))
     (sounds : (id : ℕ) → soundRegion m (regionOf d id) ≡ true) where
   -- a used place that stands before another does so by the receipts' order
@@ -90,13 +83,13 @@ module _ (m : List ℕ) (d : Manager) (t : Receipts) (entries : (id : ℕ) → t
   pub sorted-read : (ws : List Waiter) → every (soundPlace m d) ws ≡ true → adjacent (inOrder d) ws ≡ true → Sorted (goes (orders t)) (waitsOf ws)
   unfolding Sorted Behind waitsOf
   sorted-read [] e o = tt
-  sorted-read (w ∷ []) e o = one (either-way (unused w))
+  sorted-read (w ∷ []) e o = one (either (unused w))
     where
       one : (unused w ≡ true) ⊎ (unused w ≡ false) → Sorted (goes (orders t)) (waitsOf (w ∷ []))
       one (inl f) = rw f tt
       one (inr f) = rw f (tt, tt)
   sorted-read (w ∷ x ∷ ws) e o =
-      go (either-way (unused w)) (either-way (unused x))
+      go (either (unused w)) (either (unused x))
       (sorted-read (x ∷ ws) (every-tail (soundPlace m d) w (x ∷ ws) e) (adjacent-tail (inOrder d) w (x ∷ ws) o))
     where
       e′ : every (soundPlace m d) (x ∷ ws) ≡ true

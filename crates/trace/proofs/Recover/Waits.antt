@@ -8,7 +8,7 @@ use native.Mathlib.Nat.{eq-zero-or-pos, sub-zero}
 use native.Mathlib.Omega.{arith}
 use lib.ListN.{length, replicate}
 use lib.Dec.{eqb, leb}
-use borrow.Author.Tests.{eqb-true, eqb-false, leb-true, not-true}
+use borrow.Author.Tests.{eqb-false, leb-true, not-true}
 use Rattle.arith.specs.Round.{pagesFor}
 use Rattle.arith.specs.Layout.{pageCount}
 use Rattle.manager.specs.Lists.{every, some as someOf, pairwise, adjacent}
@@ -17,7 +17,9 @@ use Rattle.manager.specs.Map.{Segment, free, held, isHeldSegment}
 use Rattle.manager.specs.Record.{tasks, noWaiter, regionOf}
 use Rattle.manager.specs.Region.{dead, pagesOf, pagesAsked, anyHeld, segments}
 use Rattle.manager.specs.Queue.{goesBefore}
-use Rattle.manager.specs.Sound.{unused, emptyWaiter, soundWaiter, soundPlace, otherTask, inOrder, liveRegion, soundRegion}
+use Rattle.manager.specs.Sound.{unused, soundWaiter, soundPlace, otherTask, inOrder, liveRegion, soundRegion}
+use Rattle.manager.specs.Queue.Used.{empty-waiter}
+use Rattle.manager.specs.Partition.Distinct.{either}
 use Rattle.manager.specs.declared.Manager.{Manager}
 use Rattle.manager.specs.declared.Region.{Region}
 use Rattle.manager.specs.declared.Waiter.{Waiter}
@@ -48,28 +50,6 @@ waiter-back w =
     let e : w .ticks - 0 ≡ w .ticks = sub-zero (w .ticks) in
     λ i. record { task = w .task; region = w .region; size = w .size; priority = w .priority; ticks = e i }
 
-pub either-way : (b : Bool) → (b ≡ true) ⊎ (b ≡ false)
-either-way true = inl refl
-either-way false = inr refl
-
--- an unused place is all zeros
-pub no-waiter : (w : Waiter) → emptyWaiter w ≡ true → w ≡ noWaiter
-no-waiter w e =
-    let t = eqb (w .task) 0 in
-    let r = eqb (w .region) 0 in
-    let s = eqb (w .size) 0 in
-    let p = eqb (w .priority) 0 in
-    let k = eqb (w .ticks) 0 in
-    let e₁ = and-second t (r && (s && (p && k))) e in
-    let e₂ = and-second r (s && (p && k)) e₁ in
-    let e₃ = and-second s (p && k) e₂ in
-    let f₁ : w .task ≡ 0 = eqb-true (w .task) 0 (and-first t (r && (s && (p && k))) e) in
-    let f₂ : w .region ≡ 0 = eqb-true (w .region) 0 (and-first r (s && (p && k)) e₁) in
-    let f₃ : w .size ≡ 0 = eqb-true (w .size) 0 (and-first s (p && k) e₂) in
-    let f₄ : w .priority ≡ 0 = eqb-true (w .priority) 0 (and-first p k e₃) in
-    let f₅ : w .ticks ≡ 0 = eqb-true (w .ticks) 0 (and-second p k e₃) in
-    λ i. record { task = f₁ i; region = f₂ i; size = f₃ i; priority = f₄ i; ticks = f₅ i }
-
 -- ---- the used places come first
 
 pub adjacent-tail : {A : Type 0} (t : A → A → Bool) (x : A) (l : List A) → adjacent t (x ∷ l) ≡ true → adjacent t l ≡ true
@@ -92,12 +72,12 @@ every-tail t x l e = and-second (t x) (every t l) e
 module _ (m : List ℕ) (d : Manager) where
   place-unused : (w : Waiter) → soundPlace m d w ≡ true → unused w ≡ true → w ≡ noWaiter
   unfolding soundPlace
-  place-unused w e f = no-waiter w (rw f (rw f at e))
+  place-unused w e f = empty-waiter w (rw f (rw f at e))
 
   -- behind an unused place all are unused
   next-unused : (w x : Waiter) → inOrder d w x ≡ true → unused w ≡ true → unused x ≡ true
   unfolding goesBefore
-  next-unused w x e f = ⊎-elim (λ (g : unused x ≡ true). g) (λ (g : unused x ≡ false). absurd (true≢false (sym (rw (g, f) at e)))) (either-way (unused x))
+  next-unused w x e f = ⊎-elim (λ (g : unused x ≡ true). g) (λ (g : unused x ≡ false). absurd (true≢false (sym (rw (g, f) at e)))) (either (unused x))
 
   pub all-unused : (w : Waiter) (ws : List Waiter) → every (soundPlace m d) (w ∷ ws) ≡ true → adjacent (inOrder d) (w ∷ ws) ≡ true → unused w ≡ true
       → (w ∷ ws ≡ replicate (suc (length ws)) noWaiter) × (waitsOf (w ∷ ws) ≡ [])
@@ -113,7 +93,7 @@ module _ (m : List ℕ) (d : Manager) where
       → ws ≡ waitersOf (waitsOf ws) ++ replicate (length ws - length (waitersOf (waitsOf ws))) noWaiter
   unfolding waitsOf waitersOf
   queue-back [] e o = refl
-  queue-back (w ∷ ws) e o = go (either-way (unused w)) (queue-back ws (every-tail (soundPlace m d) w ws e) (adjacent-tail (inOrder d) w ws o))
+  queue-back (w ∷ ws) e o = go (either (unused w)) (queue-back ws (every-tail (soundPlace m d) w ws e) (adjacent-tail (inOrder d) w ws o))
     where
       go : (unused w ≡ true) ⊎ (unused w ≡ false) → ws ≡ waitersOf (waitsOf ws) ++ replicate (length ws - length (waitersOf (waitsOf ws))) noWaiter
           → w ∷ ws ≡ waitersOf (waitsOf (w ∷ ws)) ++ replicate (suc (length ws) - length (waitersOf (waitsOf (w ∷ ws)))) noWaiter
@@ -204,7 +184,7 @@ module _ (m : List ℕ) (d : Manager) (t : Receipts) (entries : (id : ℕ) → t
   pub all-waits : (ws : List Waiter) → every (soundPlace m d) ws ≡ true → AllWaits t (waitsOf ws)
   unfolding AllWaits waitsOf
   all-waits [] e = tt
-  all-waits (w ∷ ws) e = go (either-way (unused w)) (all-waits ws (every-tail (soundPlace m d) w ws e))
+  all-waits (w ∷ ws) e = go (either (unused w)) (all-waits ws (every-tail (soundPlace m d) w ws e))
     where
       go : (unused w ≡ true) ⊎ (unused w ≡ false) → AllWaits t (waitsOf ws) → AllWaits t (waitsOf (w ∷ ws))
       go (inl f) ih = rw f ih
@@ -214,7 +194,7 @@ module _ (m : List ℕ) (d : Manager) (t : Receipts) (entries : (id : ℕ) → t
 other-tasks : (w : Waiter) (ws : List Waiter) → unused w ≡ false → every (otherTask w) ws ≡ true → ¬ Within (w .task) (tasksOf (waitsOf ws))
 unfolding Within tasksOf waitsOf
 other-tasks w [] f e = λ (h : ⊥). h
-other-tasks w (x ∷ ws) f e = go (either-way (unused x)) (other-tasks w ws f (every-tail (otherTask w) x ws e))
+other-tasks w (x ∷ ws) f e = go (either (unused x)) (other-tasks w ws f (every-tail (otherTask w) x ws e))
   where
     go : (unused x ≡ true) ⊎ (unused x ≡ false) → ¬ Within (w .task) (tasksOf (waitsOf ws)) → ¬ Within (w .task) (tasksOf (waitsOf (x ∷ ws)))
     go (inl g) ih = rw g ih
@@ -226,7 +206,7 @@ other-tasks w (x ∷ ws) f e = go (either-way (unused x)) (other-tasks w ws f (e
 pub tasks-once : (ws : List Waiter) → pairwise otherTask ws ≡ true → Distinct (tasksOf (waitsOf ws))
 unfolding Distinct tasksOf waitsOf pairwise
 tasks-once [] e = tt
-tasks-once (w ∷ ws) e = go (either-way (unused w)) (tasks-once ws (and-second (every (otherTask w) ws) (pairwise otherTask ws) e))
+tasks-once (w ∷ ws) e = go (either (unused w)) (tasks-once ws (and-second (every (otherTask w) ws) (pairwise otherTask ws) e))
   where
     go : (unused w ≡ true) ⊎ (unused w ≡ false) → Distinct (tasksOf (waitsOf ws)) → Distinct (tasksOf (waitsOf (w ∷ ws)))
     go (inl f) ih = rw f ih

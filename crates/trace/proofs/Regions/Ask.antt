@@ -19,7 +19,7 @@ use Rattle.manager.specs.declared.Region.{Region}
 use Rattle.manager.specs.declared.Information.{Information}
 use Rattle.manager.specs.declared.Call.{Call}
 use Rattle.manager.specs.declared.Call.the-variants.{IdentRegion, SegmentSize, RegionInformation}
-use Rattle.manager.specs.declared.Status.the-variants.{Successful, InternalError}
+use Rattle.manager.specs.declared.Status.the-variants.{Successful}
 use Rattle.trace.specs.Loans.{Lent, runs, loanPages, most, sum}
 use Rattle.trace.specs.Receipts.{Receipts, RegionEntry, unit, pagesIn, addressIn, entered, note, allNoticed}
 use Rattle.trace.specs.Claims.{informationIn}
@@ -27,7 +27,7 @@ use Rattle.trace.proofs.Invariant.{regionFor, Inv}
 use Rattle.trace.proofs.Clients.{RegionAt, region-at}
 use Rattle.trace.proofs.Held.{loan-held}
 use Rattle.trace.proofs.Loans.Drawn.{lent-some}
-use Rattle.trace.proofs.Regions.Checks.{Passed, acts, Kept, kept-checked}
+use Rattle.trace.proofs.Regions.Checks.{Passed, acts, Kept, kept-checked, sound-status}
 use Rattle.trace.proofs.Regions.Live.{law, not-dead, map-drawing}
 use Rattle.trace.proofs.Regions.Queue.{sound-inv}
 
@@ -41,7 +41,7 @@ module _ (c : Call) (m : List ℕ) (d : Manager) (t : Receipts) (v : Inv m d t) 
   kept-answer e =
       record {
         inv = rw e v;
-        sound = λ (y : Successful ≡ InternalError). let u : _≡_ {A = ℕ} 0 1 = cc in omega arith;
+        sound = sound-status Successful refl;
       }
 
 -- THEY KEEP THE PICTURE

@@ -9,6 +9,7 @@ use lib.Dec.{eqb}
 use borrow.Author.Tests.{not-true}
 use Rattle.manager.specs.Lists.{every}
 use Rattle.manager.specs.Lists.Laws.{and-first, and-second}
+use Rattle.manager.specs.Queue.Parts.{by-case}
 use Rattle.manager.specs.Status.{numberOf}
 use Rattle.manager.specs.Result.{Result, Check, checked, replied, refused}
 use Rattle.manager.specs.Regions.{answered}
@@ -32,24 +33,15 @@ refusing s = not (isSuccess s) && (not (isWaiting s) && not (eqb (numberOf s) 25
 abbrev pub refuses : Check → Bool
 refuses c = refusing (c .status)
 
--- EVERY CHECK PASSES AND THE DIRECTIVE ACTS, OR ONE REFUSES
-pub data Checked (cs : List Check) (refuse : Status → Result) (act : Result) : Result → Type 0 where
-  passed : Passed cs → Checked cs refuse act act
-  failed : (s : Status) → refusing s ≡ true → Checked cs refuse act (refuse s)
-
-pub by-checks : (cs : List Check) (refuse : Status → Result) (act : Result) → every refuses cs ≡ true → Checked cs refuse act (checked cs refuse act)
+-- EVERY CHECK PASSES AND THE DIRECTIVE ACTS, OR ONE REFUSES: what holds of the action and of each refusal holds of the answer
+pub by-checks : (P : Result → Type 0) (cs : List Check) (refuse : Status → Result) (act : Result) → every refuses cs ≡ true
+    → ((s : Status) → refusing s ≡ true → P (refuse s)) → (Passed cs → P act) → P (checked cs refuse act)
 unfolding checked Passed every
-by-checks [] refuse act h = passed tt
-by-checks (c ∷ cs) refuse act h = go (c .fails) refl (by-checks cs refuse act (and-second (refuses c) (every refuses cs) h))
-  where
-    later : (s : Result) → c .fails ≡ false → Checked cs refuse act s → Checked (c ∷ cs) refuse act s
-    later s e (passed p) = passed (e, p)
-    later s e (failed u r) = failed u r
-
-    go : (b : Bool) → c .fails ≡ b → Checked cs refuse act (checked cs refuse act)
-        → Checked (c ∷ cs) refuse act (cond b (refuse (c .status)) (checked cs refuse act))
-    go true e k = failed (c .status) (and-first (refuses c) (every refuses cs) h)
-    go false e k = later (checked cs refuse act) e k
+by-checks P [] refuse act h f g = g tt
+by-checks P (c ∷ cs) refuse act h f g =
+    by-case (c .fails) (λ b. P (cond b (refuse (c .status)) (checked cs refuse act)))
+    (λ e. f (c .status) (and-first (refuses c) (every refuses cs) h))
+    (λ e. by-checks P cs refuse act (and-second (refuses c) (every refuses cs) h) f (λ p. g (e, p)))
 
 pub all-pass : (cs : List Check) (refuse : Status → Result) (act : Result) → Passed cs → checked cs refuse act ≡ act
 unfolding checked Passed
@@ -64,6 +56,22 @@ module _ (m : List ℕ) (d : Manager) (cs : List Check) (act : Result) (e : soun
 
   pub acts : Passed cs → answered m d cs act ≡ act
   acts p = answered-sound ∙ all-pass cs (refused m d) act p
+
+  pub by-answer : (P : Result → Type 0) → every refuses cs ≡ true → ((s : Status) → refusing s ≡ true → P (refused m d s)) → (Passed cs → P act)
+      → P (answered m d cs act)
+  by-answer P h f g = rw answered-sound (by-checks P cs (refused m d) act h f g)
+
+-- a status of another number is not 25; so a refusal never is
+pub sound-status : (s : Status) → eqb (numberOf s) 25 ≡ false → ¬ (s ≡ InternalError)
+sound-status s n e =
+    let f : eqb (numberOf InternalError) 25 ≡ false = subst (λ (u : Status). eqb (numberOf u) 25 ≡ false) e n in
+    let z : _≡_ {A = ℕ} 0 1 = cc in
+    omega arith
+
+pub refusing-sound : (s : Status) → refusing s ≡ true → ¬ (s ≡ InternalError)
+refusing-sound s r =
+    sound-status s (not-true (eqb (numberOf s) 25)
+    (and-second (not (isWaiting s)) (not (eqb (numberOf s) 25)) (and-second (not (isSuccess s)) (not (isWaiting s) && not (eqb (numberOf s) 25)) r)))
 
 -- what a call that is answered without notices enters
 module _ (c : Call) (m : List ℕ) (d : Manager) (t : Receipts) where
@@ -91,20 +99,12 @@ module _ (c : Call) (m : List ℕ) (d : Manager) (t : Receipts) (v : Inv m d t) 
       let a = and-first (not (isSuccess s)) (not (isWaiting s) && not (eqb (numberOf s) 25)) r in
       let b = and-second (not (isSuccess s)) (not (isWaiting s) && not (eqb (numberOf s) 25)) r in
       let w = and-first (not (isWaiting s)) (not (eqb (numberOf s) 25)) b in
-      let i = and-second (not (isWaiting s)) (not (eqb (numberOf s) 25)) b in
       record {
         inv = rw (note-other c m d t n s (not-true (isSuccess s) a) (not-true (isWaiting s) w)) v;
-        sound = λ (e : s ≡ InternalError).
-            let f : not (eqb (numberOf InternalError) 25) ≡ true = subst (λ (u : Status). not (eqb (numberOf u) 25) ≡ true) e i in
-            let z : _≡_ {A = ℕ} 0 1 = cc in
-            omega arith;
+        sound = refusing-sound s r;
       }
 
   -- a directive keeps it where its action does
   pub kept-checked : (cs : List Check) (act : Result) → sound m d ≡ true → every refuses cs ≡ true → (Passed cs → Kept c t act)
       → Kept c t (answered m d cs act)
-  kept-checked cs act e h k = rw (answered-sound m d cs act e) (go (checked cs (refused m d) act) (by-checks cs (refused m d) act h))
-    where
-      go : (s : Result) → Checked cs (refused m d) act s → Kept c t s
-      go s (passed p) = k p
-      go s (failed u r) = kept-refused u 0 r
+  kept-checked cs act e h k = by-answer m d cs act e (Kept c t) h (λ s r. kept-refused s 0 r) k

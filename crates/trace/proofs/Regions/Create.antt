@@ -23,15 +23,15 @@ use Rattle.manager.specs.declared.Region.{Region}
 use Rattle.manager.specs.declared.Order.{Order}
 use Rattle.manager.specs.declared.Call.{Call}
 use Rattle.manager.specs.declared.Call.the-variants.{CreateRegion}
-use Rattle.manager.specs.declared.Status.the-variants.{Successful, InternalError}
+use Rattle.manager.specs.declared.Status.the-variants.{Successful}
 use Rattle.trace.specs.Receipts.{Receipts, RegionEntry, unit, pagesIn, put}
 use Rattle.trace.specs.Trace.{region, partition}
 use Rattle.trace.proofs.Invariant.{Only, regionFor, RegionIs, RegionSlot, live, Inv}
-use Rattle.trace.proofs.Frame.{unit-least, page-upto, map-before, map-stored, map-only, parts-inside}
+use Rattle.trace.proofs.Frame.{unit-least, map-fits, map-stored, map-only, parts-inside}
 use Rattle.trace.proofs.Areas.{areaFor, overlaps-clear, region-there, region-elsewhere, areas-new-region, region-kept, partition-kept}
 use Rattle.trace.proofs.Loans.Tests.{by-eqb}
 use Rattle.trace.proofs.Loans.Words.{drawn-new, ordered-new}
-use Rattle.trace.proofs.Regions.Checks.{Passed, note-done, Kept, kept-checked}
+use Rattle.trace.proofs.Regions.Checks.{Passed, note-done, Kept, kept-checked, sound-status}
 use Rattle.trace.proofs.Regions.Live.{law, slot-none}
 use Rattle.trace.proofs.Regions.Picture.{Picture, with-waits, words-same}
 use Rattle.trace.proofs.Regions.Lending.{none-there, registering, waits-put}
@@ -55,13 +55,8 @@ module _ (m : List ℕ) (e : RegionEntry) (fresh : e .loans ≡ []) (named : ¬ 
   some-unit : 0 < unit e
   some-unit = omega (arith, unit-least e page-some)
 
-  map-fits : mapAt (regionFor e) + pagesIn e ≤ length m
-  map-fits =
-      omega (
-        arith,
-        map-before (e .start) (e .bytes) (unit e) some-unit some-page (mapAt (regionFor e) + pagesIn e - 1) (omega (arith, some-page)),
-        page-upto (e .start) (e .bytes) (unit e) some-unit some-page 0 (omega arith),
-      )
+  fits : mapAt (regionFor e) + pagesIn e ≤ length m
+  fits = map-fits (e .start) (e .bytes) (unit e) (length m) some-unit some-page upto
 
   new-size : length (draw (free+ (pagesIn e) [])) ≡ pagesIn e
   new-size = law (regionFor e) .size (law (regionFor e) .new (pagesIn e))
@@ -79,7 +74,7 @@ module _ (m : List ℕ) (e : RegionEntry) (fresh : e .loans ≡ []) (named : ¬ 
         page-most = page-most;
         some-page = some-page;
         ordered = rw fresh (ordered-new (pagesIn e));
-        map = rw (fresh, drawn-new (pagesIn e)) (map-stored m (regionFor e) (draw (free+ (pagesIn e) [])) new-size map-fits);
+        map = rw (fresh, drawn-new (pagesIn e)) (map-stored m (regionFor e) (draw (free+ (pagesIn e) [])) new-size fits);
       }
 
 -- ---- in a slot that is empty
@@ -134,7 +129,7 @@ module _ (m : List ℕ) (d : Manager) (t : Receipts) (v : Inv m d t) (name start
         record {
           inv = rw (note-done asks memory manager t (idOf slot) Successful refl)
               (with-waits picture (waits-put t (idOf slot) (some asked) d manager refl (none-there t (idOf slot) (t .waits) (v .waits .all) not-there) (v .waits)));
-          sound = λ (y : Successful ≡ InternalError). let u : _≡_ {A = ℕ} 0 1 = cc in omega arith;
+          sound = sound-status Successful refl;
         }
 
   -- A CREATE KEEPS THE PICTURE

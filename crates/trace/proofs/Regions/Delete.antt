@@ -4,7 +4,6 @@ use mathlib.Core.Bool.{Bool, false, cond}
 use mathlib.Core.List.{List, []}
 use mathlib.Core.Option.{none, some}
 use Prim.Native.Nat.{ℕ}
-use native.Mathlib.Omega.{arith}
 use lib.ListN.{length-set}
 use Rattle.manager.specs.Record.{noRegion, regionOf, slotOf, idOf, withRegion}
 use Rattle.manager.specs.Result.{done}
@@ -14,7 +13,7 @@ use Rattle.manager.specs.Regions.{deleteRegion}
 use Rattle.manager.specs.declared.Manager.{Manager}
 use Rattle.manager.specs.declared.Region.{Region}
 use Rattle.manager.specs.declared.Call.the-variants.{DeleteRegion}
-use Rattle.manager.specs.declared.Status.the-variants.{Successful, InternalError}
+use Rattle.manager.specs.declared.Status.the-variants.{Successful}
 use Rattle.trace.specs.Receipts.{Receipts, RegionEntry, put}
 use Rattle.trace.specs.Claims.{waitsIn}
 use Rattle.trace.proofs.Invariant.{regionFor, RegionSlot, empty, Inv}
@@ -23,7 +22,7 @@ use Rattle.trace.proofs.Clients.{RegionAt}
 use Rattle.trace.proofs.Loans.Tests.{by-eqb}
 use Rattle.trace.proofs.Loans.Lawful.{none-held}
 use Rattle.trace.proofs.Loans.Pages.{pages}
-use Rattle.trace.proofs.Regions.Checks.{Passed, note-done, Kept, kept-checked}
+use Rattle.trace.proofs.Regions.Checks.{Passed, note-done, Kept, kept-checked, sound-status}
 use Rattle.trace.proofs.Regions.Live.{law, slot-entry, map-drawing}
 use Rattle.trace.proofs.Regions.Picture.{Picture, with-waits}
 use Rattle.trace.proofs.Regions.Lending.{none-lent, registering, waits-put}
@@ -65,7 +64,7 @@ module _ (m : List ℕ) (d : Manager) (t : Receipts) (v : Inv m d t) (id : ℕ) 
         record {
           inv = rw (note-done (DeleteRegion id) m (withRegion d (slotOf id) noRegion) t 0 Successful refl)
               (with-waits picture (waits-put t id none d (withRegion d (slotOf id) noRegion) refl nobody (v .waits)));
-          sound = λ (y : Successful ≡ InternalError). let u : _≡_ {A = ℕ} 0 1 = cc in omega arith;
+          sound = sound-status Successful refl;
         }
 
   -- A DELETE KEEPS THE PICTURE

@@ -27,7 +27,7 @@ use Rattle.manager.specs.declared.Wait as asking
 use Rattle.manager.specs.declared.Wait.the-variants.{No, Yes}
 use Rattle.manager.specs.declared.Call.{Call}
 use Rattle.manager.specs.declared.Call.the-variants.{GetSegment}
-use Rattle.manager.specs.declared.Status.the-variants.{Successful, Unsatisfied, InternalError, Waiting}
+use Rattle.manager.specs.declared.Status.the-variants.{Successful, Unsatisfied, Waiting}
 use Rattle.trace.specs.Loans.{Loan, enter, Held, Run, Lowest}
 use Rattle.trace.specs.Receipts.{Receipts, RegionEntry, Wait, unit, pagesIn, addressIn, lend, withLoans}
 use Rattle.trace.proofs.Invariant.{regionFor, RegionIs, WaitIs, Inv}
@@ -37,7 +37,7 @@ use Rattle.trace.proofs.Held.{page-address}
 use Rattle.trace.proofs.Loans.Lawful.{Drawing, Gets, given, nothing}
 use Rattle.trace.proofs.Loans.Pages.{pages}
 use Rattle.trace.proofs.Queue.Enter.{new-waiter, new-time}
-use Rattle.trace.proofs.Regions.Checks.{Passed, refuses, acts, note-done, note-waiting, Kept, kept-refused, kept-checked}
+use Rattle.trace.proofs.Regions.Checks.{Passed, refuses, acts, note-done, note-waiting, Kept, kept-refused, kept-checked, sound-status}
 use Rattle.trace.proofs.Regions.Live.{law, slot-entry, not-dead, map-drawing}
 use Rattle.trace.proofs.Regions.Picture.{lending, on-region, pictured, with-waits, any-queue, changed-map}
 use Rattle.trace.proofs.Regions.Lending.{waits-lent, enter-some}
@@ -106,7 +106,7 @@ module _ (m : List ℕ) (d : Manager) (t : Receipts) (v : Inv m d t) (id size : 
             inv = rw (note-waiting asks m (enqueue d waiter) t 0 Waiting refl refl)
                 (with-waits (any-queue m d t (enqueue d waiter .waiters) (t .waits ++ (entry ∷ [])) (pictured v))
                 (rw (new-waiter task id size priority ticks) at (wait-inv m d t v entry (entry-is c) (c .1 .1 .1 .1 .0))));
-            sound = λ (x : Waiting ≡ InternalError). let y : _≡_ {A = ℕ} 0 1 = cc in omega arith;
+            sound = sound-status Waiting refl;
           }
 
       unplaced-kept : (w : asking.Wait) → Passed (waitChecks d w task priority) → Kept asks t (unplaced m d w waiter)
@@ -124,7 +124,7 @@ module _ (m : List ℕ) (d : Manager) (t : Receipts) (v : Inv m d t) (id size : 
           )
               (with-waits (changed-map m d t (pictured v) id e q (enter p wants (e .loans)) s w)
               (waits-lent t id e q (enter p wants (e .loans)) d (v .waits) (inl (enter-some p wants (e .loans)))));
-          sound = λ (x : Successful ≡ InternalError). let y : _≡_ {A = ℕ} 0 1 = cc in omega arith;
+          sound = sound-status Successful refl;
         }
 
     got-kept : (g : Place) (s : List Segment) → Gets pages (pagesIn e) (e .loans) wants g s → Passed (waitChecks d wait task priority)

@@ -18,7 +18,7 @@ use Rattle.trace.specs.Claims.{waitsIn, arranged, behind, urgentThan}
 use Rattle.trace.proofs.Invariant.{WaitIs, AllWaits, Waits, queueAt, queuesFrom}
 use Rattle.trace.proofs.Loans.Tests.{by-eqb, by-leb}
 use Rattle.trace.proofs.Queue.Order.{no-waits}
-use Rattle.trace.proofs.Queue.Tasks.{all-in}
+use Rattle.trace.proofs.Queue.Tasks.{all-in, wait-moved, wait-same}
 use Rattle.trace.proofs.Regions.Picture.{put-here, put-else, lending}
 
 -- ---- waits of a region
@@ -113,31 +113,8 @@ module _ (t : Receipts) (id : ℕ) (e : RegionEntry) (q : t .regions id ≡ some
           let s : w .id ≡ id = eqb-true (w .id) id f in
           let r : t .regions id ≡ some (a .entry) = subst (λ (j : ℕ). t .regions j ≡ some (a .entry)) s (a .found) in
           let g : a .entry ≡ e = cc in
-          record {
-            entry = withLoans l (a .entry);
-            found = rw (s, put-here id (some (withLoans l e)) (t .regions), g);
-            lending = h s;
-            task-some = a .task-some;
-            task-most = a .task-most;
-            size-some = a .size-some;
-            size-most = a .size-most;
-            priority-some = a .priority-some;
-            priority-most = a .priority-most;
-            time = a .time;
-          }
-      go false f =
-          record {
-            entry = a .entry;
-            found = put-else id (some (withLoans l e)) (t .regions) (w .id) (eqb-false (w .id) id f) ∙ a .found;
-            lending = a .lending;
-            task-some = a .task-some;
-            task-most = a .task-most;
-            size-some = a .size-some;
-            size-most = a .size-most;
-            priority-some = a .priority-some;
-            priority-most = a .priority-most;
-            time = a .time;
-          }
+          wait-moved t (lending id e l t) w (w .since) l a (rw (s, put-here id (some (withLoans l e)) (t .regions), g)) (h s) (a .time)
+      go false f = wait-same t (lending id e l t) w a (put-else id (some (withLoans l e)) (t .regions) (w .id) (eqb-false (w .id) id f))
 
   all-lent : (ws : List Wait) → AllWaits t ws → (¬ (l ≡ [])) ⊎ (waitsIn id ws ≡ []) → AllWaits (lending id e l t) ws
   unfolding AllWaits
@@ -199,21 +176,8 @@ module _ (t : Receipts) (id : ℕ) (o : Option RegionEntry) where
   all-put : (ws : List Wait) → AllWaits t ws → waitsIn id ws ≡ [] → AllWaits (registering id o t) ws
   unfolding AllWaits
   all-put [] a h = tt
-  all-put (w ∷ ws) a h = (
-    record {
-      entry = a .0 .entry;
-      found = put-else id o (t .regions) (w .id) (not-for id w ws h) ∙ a .0 .found;
-      lending = a .0 .lending;
-      task-some = a .0 .task-some;
-      task-most = a .0 .task-most;
-      size-some = a .0 .size-some;
-      size-most = a .0 .size-most;
-      priority-some = a .0 .priority-some;
-      priority-most = a .0 .priority-most;
-      time = a .0 .time;
-    },
-    all-put ws (a .1) (none-behind id w ws h),
-  )
+  all-put (w ∷ ws) a h =
+      (wait-same t (registering id o t) w (a .0) (put-else id o (t .regions) (w .id) (not-for id w ws h)), all-put ws (a .1) (none-behind id w ws h))
 
   -- THE WAITS STAY
   pub waits-put : (d d′ : Manager) → d′ .waiters ≡ d .waiters → waitsIn id (t .waits) ≡ [] → Waits d t → Waits d′ (registering id o t)

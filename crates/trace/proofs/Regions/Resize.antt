@@ -21,7 +21,7 @@ use Rattle.manager.specs.Sound.{sound}
 use Rattle.manager.specs.declared.Manager.{Manager}
 use Rattle.manager.specs.declared.Region.{Region}
 use Rattle.manager.specs.declared.Call.the-variants.{ResizeSegment}
-use Rattle.manager.specs.declared.Status.the-variants.{Successful, Unsatisfied, InternalError}
+use Rattle.manager.specs.declared.Status.the-variants.{Successful, Unsatisfied}
 use Rattle.trace.specs.Loans.{Loan, amend, Lent, Room}
 use Rattle.trace.specs.Receipts.{Receipts, RegionEntry, unit, pagesIn, addressIn, pageIn, refit}
 use Rattle.trace.proofs.Invariant.{regionFor, RegionIs, Inv}
@@ -33,7 +33,7 @@ use Rattle.trace.proofs.Loans.Drawn.{lent-some}
 use Rattle.trace.proofs.Loans.Book.{amend-is}
 use Rattle.trace.proofs.Loans.Lawful.{Drawing}
 use Rattle.trace.proofs.Loans.Pages.{pages}
-use Rattle.trace.proofs.Regions.Checks.{Passed, acts, note-done, Kept, kept-refused, kept-checked}
+use Rattle.trace.proofs.Regions.Checks.{Passed, acts, note-done, Kept, kept-refused, kept-checked, sound-status}
 use Rattle.trace.proofs.Regions.Live.{law, slot-entry, not-dead, map-drawing, lent-held}
 use Rattle.trace.proofs.Regions.Picture.{on-region, pictured, with-waits, changed-map}
 use Rattle.trace.proofs.Regions.Lending.{waits-lent, lent-list}
@@ -71,7 +71,7 @@ module _ (m : List ℕ) (d : Manager) (t : Receipts) (v : Inv m d t) (id a size 
           )
               (with-waits (changed-map m d t (pictured v) id e q other s w)
               (waits-lent t id e q other d (v .waits) (inl (lent-list other (pageIn e a) wants other-lent))));
-          sound = λ (y : Successful ≡ InternalError). let u : _≡_ {A = ℕ} 0 1 = cc in omega arith;
+          sound = sound-status Successful refl;
         }
 
     act-kept : Kept (ResizeSegment id a size) t (resizing m d a (regionFor e) wants)

@@ -17,7 +17,7 @@ use Rattle.manager.specs.Perform.{perform}
 use Rattle.manager.specs.declared.Manager.{Manager}
 use Rattle.manager.specs.declared.Region.{Region}
 use Rattle.manager.specs.declared.Call.the-variants.{ReturnSegment}
-use Rattle.manager.specs.declared.Status.the-variants.{Successful, InternalError}
+use Rattle.manager.specs.declared.Status.the-variants.{Successful}
 use Rattle.trace.specs.Loans.{Loan, amend, Lent}
 use Rattle.trace.specs.Receipts.{Receipts, RegionEntry, pagesIn, addressIn, pageIn, giveBack, onRegion, withLoans, note}
 use Rattle.trace.specs.Claims.{queueOf, Grants}
@@ -25,7 +25,7 @@ use Rattle.trace.proofs.Invariant.{regionFor, Inv}
 use Rattle.trace.proofs.Clients.{RegionAt, region-at}
 use Rattle.trace.proofs.Held.{page-address, loan-held}
 use Rattle.trace.proofs.Loans.Drawn.{lent-some}
-use Rattle.trace.proofs.Regions.Checks.{Passed, acts, Kept, kept-checked}
+use Rattle.trace.proofs.Regions.Checks.{Passed, acts, Kept, kept-checked, sound-status}
 use Rattle.trace.proofs.Regions.Live.{law, slot-entry, not-dead, map-drawing, lent-held}
 use Rattle.trace.proofs.Regions.Picture.{put-here, lending, on-region, lending-again, pictured, changed-map}
 use Rattle.trace.proofs.Regions.Lending.{waits-lent}
@@ -70,7 +70,7 @@ module _ (m : List ℕ) (d : Manager) (t : Receipts) (v : Inv m d t) (id a : ℕ
       subst (λ (r : Region). Kept (ReturnSegment id a) t (fromServed (returning m d id a r))) (sym (s .2 .region))
       (record {
         inv = outcome (s .0) (s .1) (s .2) _ (h .lent) .inv;
-        sound = λ (x : Successful ≡ InternalError). let y : _≡_ {A = ℕ} 0 1 = cc in omega arith;
+        sound = sound-status Successful refl;
       }))
 
 -- WHAT A RETURN ANSWERS: 0, and the grants by the receipts
