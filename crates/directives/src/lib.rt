@@ -1,33 +1,51 @@
 // One call, whichever it is.
 use manager::Answer;
 use manager::Call;
-use manager::Information;
 use manager::Manager;
-use manager::Notice;
-use manager::Status;
 ghost use Rattle.manager.specs.Result.{Performs};
-ghost use Rattle.directives.specs.Perform.{perform as Perform·perform};
+ghost use Rattle.manager.specs.Perform.{perform as Perform·perform};
 
 pub fn perform(mem: &mut [u32], d: Manager, call: Call) -> Answer
     ensures { λ r. ⌜ Performs (Perform·perform (now (mem .entry)) d call) (now (mem .exit)) r ⌝ }
 {
-    let notice = Notice {
-        task: 0,
-        status: Status::Successful,
-        address: 0,
-    };
-    Answer {
-        status: Status::InternalError,
-        value: 0,
-        information: Information {
-            free_count: 0,
-            free_largest: 0,
-            free_total: 0,
-            held_count: 0,
-            held_largest: 0,
-            held_total: 0,
-        },
-        notices: [notice; 16],
-        manager: d,
+    match call {
+        Call::CreateRegion {
+            name,
+            start,
+            length,
+            page,
+            order,
+        } => regions::create_region(mem, d, name, start, length, page, order),
+        Call::IdentRegion { name } => regions_read::ident_region(mem, d, name),
+        Call::DeleteRegion { id } => regions_read::delete_region(mem, d, id),
+        Call::GetSegment {
+            id,
+            size,
+            wait,
+            task,
+            priority,
+            ticks,
+        } => regions::get_segment(mem, d, id, size, wait, task, priority, ticks),
+        Call::ReturnSegment { id, address } => regions::return_segment(mem, d, id, address),
+        Call::SegmentSize { id, address } => regions_read::segment_size(mem, d, id, address),
+        Call::ResizeSegment { id, address, size } => regions::resize_segment(
+            mem,
+            d,
+            id,
+            address,
+            size,
+        ),
+        Call::RegionInformation { id } => regions_read::region_information(mem, d, id),
+        Call::CreatePartition {
+            name,
+            start,
+            length,
+            size,
+        } => partitions::create_partition(mem, d, name, start, length, size),
+        Call::IdentPartition { name } => partitions::ident_partition(mem, d, name),
+        Call::DeletePartition { id } => partitions::delete_partition(mem, d, id),
+        Call::GetBuffer { id } => partitions::get_buffer(mem, d, id),
+        Call::ReturnBuffer { id, address } => partitions::return_buffer(mem, d, id, address),
+        Call::Tick => regions_read::tick(mem, d),
     }
 }

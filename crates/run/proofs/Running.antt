@@ -15,7 +15,7 @@ use Rattle.manager.specs.Result.{Result, answerOf, Performs}
 use Rattle.manager.specs.declared.Manager.{Manager}
 use Rattle.manager.specs.declared.Answer.{Answer}
 use Rattle.manager.specs.declared.Call.{Call}
-use Rattle.directives.specs.Perform.{perform}
+use Rattle.manager.specs.Perform.{perform}
 use Rattle.script.specs.Reading.{Script, whole, stops, follows, readCall, readFrom, readAll}
 use Rattle.script.specs.declared.ReadCall.the-variants.{One, BadAt, End}
 use Rattle.script.proofs.Laws.{read-end}

@@ -9,7 +9,7 @@ use Rattle.manager.specs.Record.{fresh}
 use Rattle.manager.specs.Result.{answerOf}
 use Rattle.manager.specs.declared.Manager.{Manager}
 use Rattle.manager.specs.declared.Call.{Call}
-use Rattle.directives.specs.Perform.{perform}
+use Rattle.manager.specs.Perform.{perform}
 use Rattle.script.specs.Reading.{Script, readAll}
 use Rattle.run.specs.Output.{line, asksInformation, answerText, lineNumber}
 
