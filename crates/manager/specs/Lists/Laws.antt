@@ -1,0 +1,253 @@
+-- The tests over a whole list, as a loop over the places 0, 1, .. meets them. For each test a record says how far a loop has come:
+-- what is left from place i on gives the answer `w` of the whole (`rest`). Its laws say how a loop starts, goes on by one place, and
+-- ends early or at the list's end. `n` is the list's length, and the element at a place is `getD l i z` for any z. Assumes nothing.
+use Prim.Native.Nat.{ℕ, zero, suc, _+_, _≤_, _<_}
+use mathlib.Core.Path.{_≡_, refl, sym, ap, _∙_}
+use mathlib.Core.Bool.{Bool, true, false, cond, _&&_, _||_}
+use mathlib.Core.List.{List, [], _∷_}
+use native.Mathlib.Numerals.{add-one}
+use native.Mathlib.Omega.{arith}
+use lib.ListN.{length, getD, drop, set, drop-of-length-le, length-drop}
+use lib.Seq.{drop-cons}
+use Rattle.manager.specs.Lists.{every, some, indexOf, pairwise, adjacent}
+
+-- two tests, both true
+pub and-first : (a b : Bool) → (a && b) ≡ true → a ≡ true
+and-first true b e = refl
+and-first false b e = e
+
+pub and-second : (a b : Bool) → (a && b) ≡ true → b ≡ true
+and-second true b e = e
+and-second false b e = absurd (let z : _≡_ {A = ℕ} 0 1 = cc in omega arith)
+
+module _ {A : Type 0} where
+  -- the list from place i on
+  pub rest-cons : (l : List A) (i : ℕ) (z : A) → i < length l → drop i l ≡ getD l i z ∷ drop (i + 1) l
+  rest-cons l i z h = rw (add-one i, drop-cons l i z h)
+
+  module _ (t : A → Bool) (l : List A) (i : ℕ) where
+    -- one place, and the end
+    pub every-cons : (z : A) → i < length l → every t (drop i l) ≡ (t (getD l i z) && every t (drop (i + 1) l))
+    unfolding every
+    every-cons z h = ap (every t) (rest-cons l i z h)
+
+    pub every-none : length l ≤ i → every t (drop i l) ≡ true
+    unfolding every
+    every-none h = ap (every t) (drop-of-length-le l h)
+
+    pub some-cons : (z : A) → i < length l → some t (drop i l) ≡ (t (getD l i z) || some t (drop (i + 1) l))
+    unfolding some
+    some-cons z h = ap (some t) (rest-cons l i z h)
+
+    pub some-none : length l ≤ i → some t (drop i l) ≡ false
+    unfolding some
+    some-none h = ap (some t) (drop-of-length-le l h)
+
+    pub index-cons : (z : A) → i < length l
+        → indexOf t (drop i l) ≡ cond (t (getD l i z)) 0 (suc (indexOf t (drop (i + 1) l)))
+    unfolding indexOf
+    index-cons z h = ap (indexOf t) (rest-cons l i z h)
+
+    pub index-none : length l ≤ i → indexOf t (drop i l) ≡ 0
+    unfolding indexOf
+    index-none h = ap (indexOf t) (drop-of-length-le l h)
+
+  module _ (t : A → A → Bool) (l : List A) (i : ℕ) where
+    pub pairwise-cons : (z : A) → i < length l
+        → pairwise t (drop i l) ≡ (every (t (getD l i z)) (drop (i + 1) l) && pairwise t (drop (i + 1) l))
+    unfolding pairwise
+    pairwise-cons z h = ap (pairwise t) (rest-cons l i z h)
+
+    pub pairwise-none : length l ≤ i → pairwise t (drop i l) ≡ true
+    unfolding pairwise
+    pairwise-none h = ap (pairwise t) (drop-of-length-le l h)
+
+    pub adjacent-cons : (z : A) → i + 1 < length l
+        → adjacent t (drop i l) ≡ (t (getD l i z) (getD l (i + 1) z) && adjacent t (drop (i + 1) l))
+    unfolding adjacent
+    adjacent-cons z h =
+        let r : drop (i + 1) l ≡ getD l (i + 1) z ∷ drop (i + 1 + 1) l = rest-cons l (i + 1) z h in
+        ap (adjacent t) (rest-cons l i z (omega arith) ∙ ap (λ (s : List A). getD l i z ∷ s) r)
+        ∙ ap (λ (s : List A). t (getD l i z) (getD l (i + 1) z) && adjacent t s) (sym r)
+
+    alone : (s : List A) → length s ≤ 1 → adjacent t s ≡ true
+    unfolding adjacent
+    alone [] h = refl
+    alone (x ∷ []) h = refl
+    alone (x ∷ y ∷ s) h = absurd (omega arith)
+
+    pub adjacent-none : length l ≤ i + 1 → adjacent t (drop i l) ≡ true
+    adjacent-none h = alone (drop i l) (omega (arith, length-drop i l))
+
+  -- HOW FAR A LOOP HAS COME
+  -- every: no element before place i failed
+  pub record Passing (t : A → Bool) (l : List A) (n : ℕ) (w : Bool) (i : ℕ) : Type 0 where
+    pub size : length l ≡ n
+    pub within : i ≤ n
+    pub rest : every t (drop i l) ≡ w
+
+  pub every-start : (t : A → Bool) (l : List A) (n : ℕ) → length l ≡ n → Passing t l n (every t l) 0
+  every-start t l n e = record { size = e; within = omega arith; rest = refl }
+
+  pub every-from : (t : A → Bool) (l : List A) (n k : ℕ) → length l ≡ n → k ≤ n → Passing t l n (every t (drop k l)) k
+  every-from t l n k e h = record { size = e; within = h; rest = refl }
+
+  module _ (t : A → Bool) (l : List A) (n : ℕ) (w : Bool) (i : ℕ) (v : Passing t l n w i) where
+    pub every-next : i < n → (z : A) → t (getD l i z) ≡ true → Passing t l n w (i + 1)
+    every-next h z e =
+        let c = every-cons t l i z (omega (arith, v .size)) in
+        record { size = v .size; within = omega arith; rest = sym (rw e at c) ∙ v .rest }
+
+    pub every-fail : i < n → (z : A) → t (getD l i z) ≡ false → false ≡ w
+    every-fail h z e = let c = every-cons t l i z (omega (arith, v .size)) in sym (rw e at c) ∙ v .rest
+
+    -- the same, where the test was a call
+    pub every-passed : i < n → (z : A) (b : Bool) → b ≡ t (getD l i z) → b ≡ true → Passing t l n w (i + 1)
+    every-passed h z b e g = every-next h z (sym e ∙ g)
+
+    pub every-failed : i < n → (z : A) (b : Bool) → b ≡ t (getD l i z) → b ≡ false → false ≡ w
+    every-failed h z b e g = every-fail h z (sym e ∙ g)
+
+    pub every-end : n ≤ i → true ≡ w
+    every-end h = sym (every-none t l i (omega (arith, v .size))) ∙ v .rest
+
+  -- some: no element before place i passed
+  pub record Seeking (t : A → Bool) (l : List A) (n : ℕ) (w : Bool) (i : ℕ) : Type 0 where
+    pub size : length l ≡ n
+    pub within : i ≤ n
+    pub rest : some t (drop i l) ≡ w
+
+  pub some-start : (t : A → Bool) (l : List A) (n : ℕ) → length l ≡ n → Seeking t l n (some t l) 0
+  some-start t l n e = record { size = e; within = omega arith; rest = refl }
+
+  module _ (t : A → Bool) (l : List A) (n : ℕ) (w : Bool) (i : ℕ) (v : Seeking t l n w i) where
+    pub some-next : i < n → (z : A) → t (getD l i z) ≡ false → Seeking t l n w (i + 1)
+    some-next h z e =
+        let c = some-cons t l i z (omega (arith, v .size)) in
+        record { size = v .size; within = omega arith; rest = sym (rw e at c) ∙ v .rest }
+
+    pub some-here : i < n → (z : A) → t (getD l i z) ≡ true → true ≡ w
+    some-here h z e = let c = some-cons t l i z (omega (arith, v .size)) in sym (rw e at c) ∙ v .rest
+
+    pub some-missed : i < n → (z : A) (b : Bool) → b ≡ t (getD l i z) → b ≡ false → Seeking t l n w (i + 1)
+    some-missed h z b e g = some-next h z (sym e ∙ g)
+
+    pub some-found : i < n → (z : A) (b : Bool) → b ≡ t (getD l i z) → b ≡ true → true ≡ w
+    some-found h z b e g = some-here h z (sym e ∙ g)
+
+    pub some-end : n ≤ i → false ≡ w
+    some-end h = sym (some-none t l i (omega (arith, v .size))) ∙ v .rest
+
+  -- indexOf: the first that passes is not before place i
+  pub record Placing (t : A → Bool) (l : List A) (n : ℕ) (w : ℕ) (i : ℕ) : Type 0 where
+    pub size : length l ≡ n
+    pub within : i ≤ n
+    pub rest : i + indexOf t (drop i l) ≡ w
+
+  pub index-start : (t : A → Bool) (l : List A) (n : ℕ) → length l ≡ n → Placing t l n (indexOf t l) 0
+  index-start t l n e = record { size = e; within = omega arith; rest = omega arith }
+
+  module _ (t : A → Bool) (l : List A) (n : ℕ) (w : ℕ) (i : ℕ) (v : Placing t l n w i) where
+    pub index-next : i < n → (z : A) → t (getD l i z) ≡ false → Placing t l n w (i + 1)
+    index-next h z e =
+        let c = index-cons t l i z (omega (arith, v .size)) in
+        record { size = v .size; within = omega arith; rest = omega (arith, v .rest, rw e at c) }
+
+    pub index-here : i < n → (z : A) → t (getD l i z) ≡ true → i ≡ w
+    index-here h z e = let c = index-cons t l i z (omega (arith, v .size)) in omega (arith, v .rest, rw e at c)
+
+    pub index-missed : i < n → (z : A) (b : Bool) → b ≡ t (getD l i z) → b ≡ false → Placing t l n w (i + 1)
+    index-missed h z b e g = index-next h z (sym e ∙ g)
+
+    pub index-found : i < n → (z : A) (b : Bool) → b ≡ t (getD l i z) → b ≡ true → i ≡ w
+    index-found h z b e g = index-here h z (sym e ∙ g)
+
+    pub index-end : n ≤ i → i ≡ w
+    index-end h = omega (arith, v .rest, index-none t l i (omega (arith, v .size)))
+
+  -- pairwise: no element before place i failed with one behind it
+  pub record Pairing (t : A → A → Bool) (l : List A) (n : ℕ) (w : Bool) (i : ℕ) : Type 0 where
+    pub size : length l ≡ n
+    pub within : i ≤ n
+    pub rest : pairwise t (drop i l) ≡ w
+
+  pub pairwise-start : (t : A → A → Bool) (l : List A) (n : ℕ) → length l ≡ n → Pairing t l n (pairwise t l) 0
+  pairwise-start t l n e = record { size = e; within = omega arith; rest = refl }
+
+  module _ (t : A → A → Bool) (l : List A) (n : ℕ) (w : Bool) (i : ℕ) (v : Pairing t l n w i) where
+    pub pairwise-next : i < n → (z : A) (b : Bool) → b ≡ every (t (getD l i z)) (drop (i + 1) l) → b ≡ true
+        → Pairing t l n w (i + 1)
+    pairwise-next h z b e g =
+        let c = pairwise-cons t l i z (omega (arith, v .size)) in
+        record { size = v .size; within = omega arith; rest = sym (rw (sym e ∙ g) at c) ∙ v .rest }
+
+    pub pairwise-fail : i < n → (z : A) (b : Bool) → b ≡ every (t (getD l i z)) (drop (i + 1) l) → b ≡ false → false ≡ w
+    pairwise-fail h z b e g =
+        let c = pairwise-cons t l i z (omega (arith, v .size)) in sym (rw (sym e ∙ g) at c) ∙ v .rest
+
+    pub pairwise-end : n ≤ i → true ≡ w
+    pairwise-end h = sym (pairwise-none t l i (omega (arith, v .size))) ∙ v .rest
+
+  -- adjacent: no element before place i failed with the next
+  pub record Following (t : A → A → Bool) (l : List A) (n : ℕ) (w : Bool) (i : ℕ) : Type 0 where
+    pub size : length l ≡ n
+    pub within : i ≤ n
+    pub rest : adjacent t (drop i l) ≡ w
+
+  pub adjacent-start : (t : A → A → Bool) (l : List A) (n : ℕ) → length l ≡ n → Following t l n (adjacent t l) 0
+  adjacent-start t l n e = record { size = e; within = omega arith; rest = refl }
+
+  module _ (t : A → A → Bool) (l : List A) (n : ℕ) (w : Bool) (i : ℕ) (v : Following t l n w i) where
+    pub adjacent-next : i + 1 < n → (z : A) → t (getD l i z) (getD l (i + 1) z) ≡ true → Following t l n w (i + 1)
+    adjacent-next h z e =
+        let c = adjacent-cons t l i z (omega (arith, v .size)) in
+        record { size = v .size; within = omega arith; rest = sym (rw e at c) ∙ v .rest }
+
+    pub adjacent-fail : i + 1 < n → (z : A) → t (getD l i z) (getD l (i + 1) z) ≡ false → false ≡ w
+    adjacent-fail h z e = let c = adjacent-cons t l i z (omega (arith, v .size)) in sym (rw e at c) ∙ v .rest
+
+    pub adjacent-passed : i + 1 < n → (z : A) (b : Bool) → b ≡ t (getD l i z) (getD l (i + 1) z) → b ≡ true
+        → Following t l n w (i + 1)
+    adjacent-passed h z b e g = adjacent-next h z (sym e ∙ g)
+
+    pub adjacent-failed : i + 1 < n → (z : A) (b : Bool) → b ≡ t (getD l i z) (getD l (i + 1) z) → b ≡ false → false ≡ w
+    adjacent-failed h z b e g = adjacent-fail h z (sym e ∙ g)
+
+    pub adjacent-end : n ≤ i + 1 → true ≡ w
+    adjacent-end h = sym (adjacent-none t l i (omega (arith, v .size))) ∙ v .rest
+
+  -- WHAT A TEST OVER THE LIST SAYS OF ONE ELEMENT
+  pub every-at : (t : A → Bool) (l : List A) (i : ℕ) (z : A) → every t l ≡ true → i < length l → t (getD l i z) ≡ true
+  unfolding every
+  every-at t [] i z e h = absurd (omega arith)
+  every-at t (x ∷ l) zero z e h = and-first (t x) (every t l) e
+  every-at t (x ∷ l) (suc i) z e h = every-at t l i z (and-second (t x) (every t l) e) (omega arith)
+
+  -- and after one is replaced by another that passes
+  pub every-set : (t : A → Bool) (l : List A) (i : ℕ) (x : A) → every t l ≡ true → t x ≡ true → every t (set l i x) ≡ true
+  unfolding every
+  every-set t [] i x e g = refl
+  every-set t (y ∷ l) zero x e g = rw g (and-second (t y) (every t l) e)
+  every-set t (y ∷ l) (suc i) x e g =
+      rw (and-first (t y) (every t l) e) (every-set t l i x (and-second (t y) (every t l) e) g)
+
+  -- the first that passes is at most the length
+  pub index-within : (t : A → Bool) (l : List A) → indexOf t l ≤ length l
+  unfolding indexOf
+  index-within t [] = omega arith
+  index-within t (x ∷ l) = step (t x) (index-within t l)
+    where
+      step : (b : Bool) → indexOf t l ≤ length l → cond b 0 (suc (indexOf t l)) ≤ suc (length l)
+      step true h = omega arith
+      step false h = omega arith
+
+-- the laws of a loop, for `search`
+pub ruleset every-loop = (every-start, every-from, every-next, every-fail, every-passed, every-failed, every-end)
+
+pub ruleset some-loop = (some-start, some-next, some-here, some-missed, some-found, some-end)
+
+pub ruleset index-loop = (index-start, index-next, index-here, index-missed, index-found, index-end)
+
+pub ruleset pairwise-loop = (pairwise-start, pairwise-next, pairwise-fail, pairwise-end)
+
+pub ruleset adjacent-loop = (adjacent-start, adjacent-next, adjacent-fail, adjacent-passed, adjacent-failed, adjacent-end)

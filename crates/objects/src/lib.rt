@@ -1,0 +1,223 @@
+// Finding objects and areas in the manager record. Every function is total, and nothing but the record is read.
+use manager::Area;
+use manager::Manager;
+use manager::Order;
+use manager::Partition;
+use manager::Region;
+ghost use mathlib.Core.Path.{_≡_};
+ghost use mathlib.Core.Bool.{not};
+ghost use Prim.Native.Nat.{_+_, _*_};
+ghost use lib.Dec.{ltb};
+ghost use lib.ListN.{drop};
+ghost use Rattle.manager.specs.Record.{slots, slotOf, regionOf, partitionOf, withRegion, withPartition};
+ghost use Rattle.manager.specs.Result.{pad};
+ghost use Rattle.manager.specs.Lists.{every};
+ghost use Rattle.manager.specs.Region.{regionAreas, areas, overlap};
+ghost use Rattle.manager.specs.Regions.{overlaps, regionNamed};
+ghost use Rattle.manager.specs.Partitions.{partitionNamed};
+ghost use Rattle.manager.specs.Sound.{soundAreas};
+ghost use Rattle.objects.specs.Areas.{noArea};
+
+// The place of an id in its array; past the end for id 0.
+pub fn slot_of(id: u32) -> usize
+    ensures { λ r. ⌜ r ≡ slotOf id ⌝ }
+{
+    if id == 0 {
+        return Manager::SLOTS;
+    }
+    (id - 1) as usize
+}
+
+// The region of an id; an empty slot where it has none.
+pub fn region_of(d: Manager, id: u32) -> Region
+    ensures { λ r. ⌜ r ≡ regionOf d id ⌝ }
+{
+    let i = slot_of(id);
+    if i < Manager::SLOTS {
+        return d.regions[i];
+    }
+    Region {
+        name: 0,
+        start: 0,
+        length: 0,
+        page: 0,
+        order: Order::Fifo,
+    }
+}
+
+// The partition of an id; an empty slot where it has none.
+pub fn partition_of(d: Manager, id: u32) -> Partition
+    ensures { λ r. ⌜ r ≡ partitionOf d id ⌝ }
+{
+    let i = slot_of(id);
+    if i < Manager::SLOTS {
+        return d.partitions[i];
+    }
+    Partition {
+        name: 0,
+        start: 0,
+        length: 0,
+        size: 0,
+        front: 0,
+        rear: 0,
+        free: 0,
+    }
+}
+
+// The slot of the first region with a name; the number of slots where none has it.
+pub fn region_named(d: Manager, name: u32) -> usize
+    ensures { λ r. ⌜ r ≡ regionNamed d name ⌝ }
+{
+    let mut slot: usize = 0;
+    while slot < Manager::SLOTS {
+        let x = d.regions[slot];
+        if x.name == name {
+            return slot;
+        }
+        slot = slot + 1;
+    }
+    slot
+}
+
+// The slot of the first partition with a name; the number of slots where none has it.
+pub fn partition_named(d: Manager, name: u32) -> usize
+    ensures { λ r. ⌜ r ≡ partitionNamed d name ⌝ }
+{
+    let mut at: usize = 0;
+    while at < Manager::SLOTS {
+        let x = d.partitions[at];
+        if x.name == name {
+            return at;
+        }
+        at = at + 1;
+    }
+    at
+}
+
+// The record with another region in a slot; as it was where there is no such slot.
+pub fn with_region(d: Manager, i: usize, r: Region) -> Manager
+    ensures { λ e. ⌜ e ≡ withRegion d i r ⌝ }
+{
+    let mut e = d;
+    if i < Manager::SLOTS {
+        e.regions[i] = r;
+    }
+    e
+}
+
+// The record with another partition in a slot; as it was where there is no such slot.
+pub fn with_partition(d: Manager, i: usize, p: Partition) -> Manager
+    ensures { λ e. ⌜ e ≡ withPartition d i p ⌝ }
+{
+    let mut e = d;
+    if i < Manager::SLOTS {
+        e.partitions[i] = p;
+    }
+    e
+}
+
+// Whether an area ends past a memory of so many words: in words, so that no number of words is too large.
+pub fn past_memory(words: usize, start: u32, bytes: u32) -> bool
+    ensures { λ r. ⌜ r ≡ ltb (4 * words) (start + bytes) ⌝ }
+{
+    let end = start as u64 + bytes as u64;
+    (words as u64) < (end + 3) / 4
+}
+
+// Whether two areas have a byte in common.
+pub fn overlap(a: Area, b: Area) -> bool
+    ensures { λ r. ⌜ r ≡ overlap a b ⌝ }
+{
+    let end = b.start as u64 + b.length as u64;
+    if end <= a.start as u64 {
+        return false;
+    }
+    (b.start as u64) < a.start as u64 + a.length as u64
+}
+
+// The areas of the regions, one a slot, and room for as many more.
+fn region_areas(d: Manager) -> [Area; 16]
+    ensures { λ r. ⌜ r ≡ pad 16 noArea (regionAreas (d .regions)) ⌝ }
+{
+    let none = Area {
+        start: 0,
+        length: 0,
+    };
+    let mut all = [none; 16];
+    let mut i: usize = 0;
+    while i < Manager::SLOTS {
+        let x = d.regions[i];
+        let area = Area {
+            start: x.start,
+            length: x.length,
+        };
+        all[i] = area;
+        i = i + 1;
+    }
+    all
+}
+
+// The areas of all objects: those of the regions, then those of the partitions. An empty slot's has no byte.
+pub fn areas(d: Manager) -> [Area; 16]
+    ensures { λ r. ⌜ r ≡ areas d ⌝ }
+{
+    let mut all = region_areas(d);
+    let mut k: usize = 0;
+    while k < Manager::SLOTS {
+        let x = d.partitions[k];
+        let area = Area {
+            start: x.start,
+            length: x.length,
+        };
+        all[Manager::SLOTS + k] = area;
+        k = k + 1;
+    }
+    all
+}
+
+// Whether an area meets that of an object.
+pub fn overlaps(d: Manager, a: Area) -> bool
+    ensures { λ r. ⌜ r ≡ overlaps d a ⌝ }
+{
+    let all = areas(d);
+    let mut i: usize = 0;
+    while i < 16 {
+        let x = all[i];
+        i = i + 1;
+        if overlap(a, x) {
+            return true;
+        }
+    }
+    false
+}
+
+// Whether an area meets none of those from a place on.
+fn meets_none(a: Area, all: [Area; 16], from: usize) -> bool
+    ensures { λ r. ⌜ r ≡ every (λ b. not (overlap a b)) (drop from all) ⌝ }
+{
+    let mut i = from;
+    while i < 16 {
+        let x = all[i];
+        i = i + 1;
+        if overlap(a, x) {
+            return false;
+        }
+    }
+    true
+}
+
+// Whether no two areas of objects have a byte in common.
+pub fn apart(d: Manager) -> bool
+    ensures { λ r. ⌜ r ≡ soundAreas d ⌝ }
+{
+    let all = areas(d);
+    let mut i: usize = 0;
+    while i < 16 {
+        let x = all[i];
+        i = i + 1;
+        if !meets_none(x, all, i) {
+            return false;
+        }
+    }
+    true
+}
