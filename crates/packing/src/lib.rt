@@ -1,0 +1,60 @@
+// The manager record as words that a caller keeps, and back.
+mod put;
+mod take;
+
+use manager::Manager;
+ghost use mathlib.Core.Path.{_≡_};
+ghost use Rattle.packing.specs.Packing.{packed, unpacked};
+
+// What words say: a record, if they say one.
+pub struct Unpacked {
+    pub ok: bool,
+    pub manager: Manager,
+}
+
+// The words of a record.
+pub const RECORD_WORDS: usize = 176;
+
+// The record that the words say; not ok where their number is wrong or a choice is none.
+pub fn unpack(words: &[u32]) -> Unpacked
+    ensures { λ r. ⌜ r ≡ unpacked (now (words .entry)) ⌝ }
+{
+    if words.len() != RECORD_WORDS {
+        return Unpacked {
+            ok: false,
+            manager: Manager::new(),
+        };
+    }
+    if !take::choices(words) {
+        return Unpacked {
+            ok: false,
+            manager: Manager::new(),
+        };
+    }
+    let regions = take::regions(words);
+    let partitions = take::partitions(words);
+    let waiters = take::waiters(words);
+    Unpacked {
+        ok: true,
+        manager: Manager {
+            regions: regions,
+            partitions: partitions,
+            waiters: waiters,
+        },
+    }
+}
+
+// Puts a record into its words; nothing where their number is wrong.
+pub fn pack(d: Manager, words: &mut [u32])
+    ensures { λ _. ⌜ now (words .exit) ≡ packed d (now (words .entry)) ⌝ }
+{
+    if words.len() != RECORD_WORDS {
+        return;
+    }
+    let regions = d.regions;
+    let partitions = d.partitions;
+    let waiters = d.waiters;
+    put::regions(words, regions);
+    put::partitions(words, partitions);
+    put::waiters(words, waiters);
+}
