@@ -32,7 +32,7 @@ orderWord Priority = 1
 abbrev pub orderAt : ℕ → Order
 orderAt w = cond (eqb w 0) Fifo Priority
 
-abbrev pub regionWords : Region → List ℕ
+unfoldable pub regionWords : Region → List ℕ
 regionWords r = r .name ∷ r .start ∷ r .length ∷ r .page ∷ orderWord (r .order) ∷ []
 
 abbrev pub partitionWords : Partition → List ℕ
@@ -55,7 +55,7 @@ module _ {A : Type 0} where
 unfoldable pub pack : Manager → List ℕ
 pack d = allWords regionWords (d .regions) ++ (allWords partitionWords (d .partitions) ++ allWords waiterWords (d .waiters))
 
-abbrev pub regionAt : List ℕ → ℕ → Region
+unfoldable pub regionAt : List ℕ → ℕ → Region
 regionAt ws i =
     record { name = getD ws i 0; start = getD ws (i + 1) 0; length = getD ws (i + 2) 0; page = getD ws (i + 3) 0; order = orderAt (getD ws (i + 4) 0) }
 

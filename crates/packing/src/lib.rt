@@ -4,7 +4,24 @@ mod take;
 
 use manager::Manager;
 ghost use mathlib.Core.Path.{_≡_};
+ghost use lib.Seq.{sets};
 ghost use Rattle.packing.specs.Packing.{packed, unpacked};
+
+// Copies words to the words from a place on, as far as there are any.
+pub fn copy(words: &mut [u32], at: usize, from: &[u32])
+    ensures { λ _. ⌜ now (words .exit) ≡ sets (now (words .entry)) at (now (from .entry)) ⌝ }
+{
+    let mut i = at;
+    let mut k: usize = 0;
+    while k < from.len() {
+        if words.len() <= i {
+            return;
+        }
+        words[i] = from[k];
+        i = i + 1;
+        k = k + 1;
+    }
+}
 
 // What words say: a record, if they say one.
 pub struct Unpacked {

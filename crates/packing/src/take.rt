@@ -1,4 +1,5 @@
 // Reading the parts of a record from its words.
+use manager::Manager;
 use manager::Order;
 use manager::Partition;
 use manager::Region;
@@ -34,29 +35,61 @@ fn order(word: u32) -> Order
     Order::Priority
 }
 
+// The region whose words start at a place.
+fn region(words: &[u32], at: usize) -> Region
+    requires { ⌜ at + 5 ≤ length (now words) ⌝ }
+    ensures { λ r. ⌜ r ≡ regionAt (now (words .entry)) at ⌝ }
+{
+    let o = order(words[at + 4]);
+    Region {
+        name: words[at],
+        start: words[at + 1],
+        length: words[at + 2],
+        page: words[at + 3],
+        order: o,
+    }
+}
+
+// The partition whose words start at a place.
+fn partition(words: &[u32], at: usize) -> Partition
+    requires { ⌜ at + 7 ≤ length (now words) ⌝ }
+    ensures { λ r. ⌜ r ≡ partitionAt (now (words .entry)) at ⌝ }
+{
+    Partition {
+        name: words[at],
+        start: words[at + 1],
+        length: words[at + 2],
+        size: words[at + 3],
+        front: words[at + 4],
+        rear: words[at + 5],
+        free: words[at + 6],
+    }
+}
+
+// The waiter whose words start at a place.
+fn waiter(words: &[u32], at: usize) -> Waiter
+    requires { ⌜ at + 5 ≤ length (now words) ⌝ }
+    ensures { λ r. ⌜ r ≡ waiterAt (now (words .entry)) at ⌝ }
+{
+    Waiter {
+        task: words[at],
+        region: words[at + 1],
+        size: words[at + 2],
+        priority: words[at + 3],
+        ticks: words[at + 4],
+    }
+}
+
 pub fn regions(words: &[u32]) -> [Region; 8]
     requires { ⌜ length (now words) ≡ recordWords ⌝ }
     ensures { λ r. ⌜ r ≡ allAt regionAt 5 slots (now (words .entry)) 0 ⌝ }
 {
-    let empty = Region {
-        name: 0,
-        start: 0,
-        length: 0,
-        page: 0,
-        order: Order::Fifo,
-    };
-    let mut all = [empty; 8];
+    let d = Manager::new();
+    let mut all = d.regions;
     let mut k: usize = 0;
     while k < 8 {
-        let at = 5 * k;
-        let o = order(words[at + 4]);
-        all[k] = Region {
-            name: words[at],
-            start: words[at + 1],
-            length: words[at + 2],
-            page: words[at + 3],
-            order: o,
-        };
+        let x = region(words, 5 * k);
+        all[k] = x;
         k = k + 1;
     }
     all
@@ -66,28 +99,12 @@ pub fn partitions(words: &[u32]) -> [Partition; 8]
     requires { ⌜ length (now words) ≡ recordWords ⌝ }
     ensures { λ r. ⌜ r ≡ allAt partitionAt 7 slots (now (words .entry)) partitionsAt ⌝ }
 {
-    let empty = Partition {
-        name: 0,
-        start: 0,
-        length: 0,
-        size: 0,
-        front: 0,
-        rear: 0,
-        free: 0,
-    };
-    let mut all = [empty; 8];
+    let d = Manager::new();
+    let mut all = d.partitions;
     let mut k: usize = 0;
     while k < 8 {
-        let at = 40 + 7 * k;
-        all[k] = Partition {
-            name: words[at],
-            start: words[at + 1],
-            length: words[at + 2],
-            size: words[at + 3],
-            front: words[at + 4],
-            rear: words[at + 5],
-            free: words[at + 6],
-        };
+        let x = partition(words, 40 + 7 * k);
+        all[k] = x;
         k = k + 1;
     }
     all
@@ -97,24 +114,12 @@ pub fn waiters(words: &[u32]) -> [Waiter; 16]
     requires { ⌜ length (now words) ≡ recordWords ⌝ }
     ensures { λ r. ⌜ r ≡ allAt waiterAt 5 tasks (now (words .entry)) waitersAt ⌝ }
 {
-    let empty = Waiter {
-        task: 0,
-        region: 0,
-        size: 0,
-        priority: 0,
-        ticks: 0,
-    };
-    let mut all = [empty; 16];
+    let d = Manager::new();
+    let mut all = d.waiters;
     let mut k: usize = 0;
     while k < 16 {
-        let at = 96 + 5 * k;
-        all[k] = Waiter {
-            task: words[at],
-            region: words[at + 1],
-            size: words[at + 2],
-            priority: words[at + 3],
-            ticks: words[at + 4],
-        };
+        let x = waiter(words, 96 + 5 * k);
+        all[k] = x;
         k = k + 1;
     }
     all

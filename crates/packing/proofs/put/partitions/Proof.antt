@@ -1,53 +1,16 @@
-use native.Mathlib.Omega.{arith}
+-- The partitions before k are put, and those from k on give the whole. Assumes nothing.
 use Prim.Native.Nat.{_-_}
 use borrow.Author.Needs.{needs}
-use Rattle.manager.specs.Record.{noPartition}
-use Rattle.packing.specs.Packing.{partitionWords, recordWords, partitionsAt, waitersAt}
+use Rattle.packing.specs.Packing.{partitionWords, partitionsAt}
 use Rattle.packing.proofs.Laws.{packing, Putting}
 use Rattle.packing.proofs.put.partitions.Statement.{statement}
 use Rattle.packing.proofs.put.partitions.Tie as tie
-use Rattle.packing.proofs.put.partitions.Reads as reads
-use Rattle.packing.proofs.put.partitions.Lts as lts
-use Rattle.packing.proofs.put.partition.Reads as partition-reads
 
 abbrev Inv-loop : tie.InvT-loop
-Inv-loop words₀ all k₀ words k = Putting partitionWords noPartition 7 8 partitionsAt recordWords all words₀ words k
+Inv-loop words₀ all k₀ words k = Putting partitionWords 7 8 partitionsAt all words₀ words k
 
 abbrev μ-loop : tie.MeasureT-loop
 μ-loop words₀ all k₀ words k = 8 - k
-
-loop-holds : tie.Need-loop-holds Inv-loop μ-loop
-loop-holds c = search (needs, packing)
-
-mul-x : tie.Need-mul-x Inv-loop μ-loop
-mul-x c = search (needs, packing)
-
-array-copy-out-x : tie.Need-array-copy-out-x Inv-loop μ-loop
-array-copy-out-x c = search (needs, packing)
-
-mul-at : tie.Need-mul-at Inv-loop μ-loop
-mul-at c = search (needs, packing)
-
-add-at : tie.Need-add-at Inv-loop μ-loop
-add-at c = search (needs, packing)
-
-partition-requires : tie.Need-partition-requires Inv-loop μ-loop
-partition-requires c κs = search (needs, packing)
-
-add-k : tie.Need-add-k Inv-loop μ-loop
-add-k c = search (needs, packing)
-
-loop-less : tie.Need-loop-less Inv-loop μ-loop
-loop-less c = search (needs, packing)
-
-loop-again : tie.Need-loop-again Inv-loop μ-loop
-loop-again c = search (needs, packing)
-
-same-length : tie.Need-same-length Inv-loop μ-loop
-same-length c = search (needs, packing)
-
-returns : tie.Need-returns Inv-loop μ-loop
-returns c = search (needs, packing)
 
 pub partitions-spec : {M : Type 1} → statement M
 partitions-spec =
@@ -55,14 +18,14 @@ partitions-spec =
     (tie.spec
     Inv-loop
     μ-loop
-    loop-holds
-    mul-x
-    array-copy-out-x
-    mul-at
-    add-at
-    partition-requires
-    add-k
-    loop-less
-    loop-again
-    same-length
-    returns)
+    (λ c. search (needs, packing))
+    (λ c. search (needs, packing))
+    (λ c. search (needs, packing))
+    (λ c. search (needs, packing))
+    (λ c. search (needs, packing))
+    (λ c κs. search (needs, packing))
+    (λ c. search (needs, packing))
+    (λ c. search (needs, packing))
+    (λ c. search (needs, packing))
+    (λ c. search (needs, packing))
+    (λ c. search (needs, packing)))

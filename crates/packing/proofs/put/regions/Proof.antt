@@ -1,50 +1,16 @@
-use native.Mathlib.Omega.{arith}
+-- The regions before k are put, and those from k on give the whole. Assumes nothing.
 use Prim.Native.Nat.{_-_}
 use borrow.Author.Needs.{needs}
-use Rattle.manager.specs.Record.{noRegion}
-use Rattle.packing.specs.Packing.{regionWords, recordWords, partitionsAt, waitersAt}
 use Rattle.packing.proofs.Laws.{packing, Putting}
-use Rattle.packing.proofs.put.regions.Statement.{statement}
+use Rattle.packing.specs.Packing.{regionWords}
 use Rattle.packing.proofs.put.regions.Tie as tie
-use Rattle.packing.proofs.put.regions.Reads as reads
-use Rattle.packing.proofs.put.regions.Lts as lts
-use Rattle.packing.proofs.put.region.Reads as region-reads
+use Rattle.packing.proofs.put.regions.Statement.{statement}
 
 abbrev Inv-loop : tie.InvT-loop
-Inv-loop words₀ all k₀ words k = Putting regionWords noRegion 5 8 0 recordWords all words₀ words k
+Inv-loop words₀ all k₀ words k = Putting regionWords 5 8 0 all words₀ words k
 
 abbrev μ-loop : tie.MeasureT-loop
 μ-loop words₀ all k₀ words k = 8 - k
-
-loop-holds : tie.Need-loop-holds Inv-loop μ-loop
-loop-holds c = search (needs, packing)
-
-mul-x : tie.Need-mul-x Inv-loop μ-loop
-mul-x c = search (needs, packing)
-
-array-copy-out-x : tie.Need-array-copy-out-x Inv-loop μ-loop
-array-copy-out-x c = search (needs, packing)
-
-mul-at : tie.Need-mul-at Inv-loop μ-loop
-mul-at c = search (needs, packing)
-
-region-requires : tie.Need-region-requires Inv-loop μ-loop
-region-requires c κs = search (needs, packing)
-
-add-k : tie.Need-add-k Inv-loop μ-loop
-add-k c = search (needs, packing)
-
-loop-less : tie.Need-loop-less Inv-loop μ-loop
-loop-less c = search (needs, packing)
-
-loop-again : tie.Need-loop-again Inv-loop μ-loop
-loop-again c = search (needs, packing)
-
-same-length : tie.Need-same-length Inv-loop μ-loop
-same-length c = search (needs, packing)
-
-returns : tie.Need-returns Inv-loop μ-loop
-returns c = search (needs, packing)
 
 pub regions-spec : {M : Type 1} → statement M
 regions-spec =
@@ -52,13 +18,13 @@ regions-spec =
     (tie.spec
     Inv-loop
     μ-loop
-    loop-holds
-    mul-x
-    array-copy-out-x
-    mul-at
-    region-requires
-    add-k
-    loop-less
-    loop-again
-    same-length
-    returns)
+    (λ c. search (needs, packing))
+    (λ c. search (needs, packing))
+    (λ c. search (needs, packing))
+    (λ c. search (needs, packing))
+    (λ c κs. search (needs, packing))
+    (λ c. search (needs, packing))
+    (λ c. search (needs, packing))
+    (λ c. search (needs, packing))
+    (λ c. search (needs, packing))
+    (λ c. search (needs, packing)))
