@@ -3,9 +3,10 @@ mod put;
 mod take;
 
 use manager::Manager;
+use manager::Order;
 ghost use mathlib.Core.Path.{_≡_};
 ghost use lib.Seq.{sets};
-ghost use Rattle.packing.specs.Packing.{packed, unpacked};
+ghost use Rattle.packing.specs.Packing.{orderAt, packed, unpacked};
 
 // Copies words to the words from a place on, as far as there are any.
 pub fn copy(words: &mut [u32], at: usize, from: &[u32])
@@ -21,6 +22,16 @@ pub fn copy(words: &mut [u32], at: usize, from: &[u32])
         i = i + 1;
         k = k + 1;
     }
+}
+
+// The choice that a word says: 0 is the first.
+pub fn order_at(word: u32) -> Order
+    ensures { λ r. ⌜ r ≡ orderAt word ⌝ }
+{
+    if word == 0 {
+        return Order::Fifo;
+    }
+    Order::Priority
 }
 
 // What words say: a record, if they say one.

@@ -1,6 +1,6 @@
 // Reading the parts of a record from its words.
+use crate::order_at;
 use manager::Manager;
-use manager::Order;
 use manager::Partition;
 use manager::Region;
 use manager::Waiter;
@@ -8,7 +8,7 @@ ghost use mathlib.Core.Path.{_≡_};
 ghost use Prim.Native.Nat.{_+_, _≤_};
 ghost use lib.ListN.{length};
 ghost use Rattle.manager.specs.Record.{slots, tasks};
-ghost use Rattle.packing.specs.Packing.{recordWords, partitionsAt, waitersAt, choices, allAt, regionAt, partitionAt, waiterAt, orderAt};
+ghost use Rattle.packing.specs.Packing.{recordWords, partitionsAt, waitersAt, choices, allAt, regionAt, partitionAt, waiterAt};
 
 // Whether each region's choice is one.
 pub fn choices(words: &[u32]) -> bool
@@ -26,21 +26,12 @@ pub fn choices(words: &[u32]) -> bool
     true
 }
 
-fn order(word: u32) -> Order
-    ensures { λ r. ⌜ r ≡ orderAt word ⌝ }
-{
-    if word == 0 {
-        return Order::Fifo;
-    }
-    Order::Priority
-}
-
 // The region whose words start at a place.
 fn region(words: &[u32], at: usize) -> Region
     requires { ⌜ at + 5 ≤ length (now words) ⌝ }
     ensures { λ r. ⌜ r ≡ regionAt (now (words .entry)) at ⌝ }
 {
-    let o = order(words[at + 4]);
+    let o = order_at(words[at + 4]);
     Region {
         name: words[at],
         start: words[at + 1],
