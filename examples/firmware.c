@@ -1,6 +1,5 @@
 /* What a firmware does with the library: a region with a task that waits and one whose time runs out, and a partition. */
 #include <stdio.h>
-#include <string.h>
 
 #include "steepleclay.h"
 

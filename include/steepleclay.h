@@ -2,18 +2,21 @@
  * Steepleclay: regions and partitions over one lent memory, proved.
  *
  * Link with libfirmware.a (made by `rt staticlib firmware`). No function allocates, blocks, keeps state of its own or calls back.
- * The caller owns three buffers and lends them to each call:
+ * The caller owns three buffers and lends them to each call, each with its length in words:
  *
- *   record   the manager record, SC_RECORD_WORDS words. All zeros is a fresh one. Keep it as it was left; don't write into it.
- *   memory   the managed memory, 1 to SC_MEMORY_WORDS words. Addresses are bytes, counted from the memory's first byte: word w is at 4 * w.
- *            Address 0 is NULL. Write only into segments and buffers that you hold.
- *   answer   SC_ANSWER_WORDS words that a call fills in: see SC_ANSWER_... below.
+ *   record   the manager record, exactly SC_RECORD_WORDS words. All zeros is a fresh one. Keep it as a call left it; don't write into it.
+ *   memory   the managed memory, 1 to SC_MEMORY_WORDS words, always the same ones. Addresses are bytes, counted from the memory's first byte: word
+ *            w is at 4 * w. Address 0 is NULL. Write only into segments and buffers that you hold.
+ *   answer   at least SC_ANSWER_WORDS words, which a call fills in: see SC_ANSWER_... below. Words past these are left as they are.
  *
- * Each buffer is passed with its length in words. Wrong lengths and damaged contents are answered SC_INTERNAL_ERROR, and then nothing is
- * changed. What the functions can't tell, and the caller must see to: each pointer is valid for the length passed with it (not null, unless the
- * length is 0), aligned to 4 bytes, and no two buffers of one call overlap. Calls on one record must not run at the same time.
+ * What the functions can't tell, and the caller must see to: each pointer is valid for the length passed with it (not null, unless the length is
+ * 0) and aligned to 4 bytes, and no two buffers of one call overlap. Calls on one record must not run at the same time. Everything else is checked,
+ * each time: the functions are proved for every content and length of the buffers and for every argument.
  *
- * Every function returns a status. Any other status than SC_SUCCESSFUL and SC_WAITING changes no word of record and memory.
+ * Every function but sc_segment_read returns a status. With any other status than SC_SUCCESSFUL and SC_WAITING no word of record and memory is
+ * changed, and the answer is all zeros (but see sc_region_resize_segment). SC_INTERNAL_ERROR says that record and memory are damaged or have the
+ * wrong lengths, that the answer is too short, or that an argument is no choice. With a record that can't be one (another length, or a queue's
+ * order above 1), a short answer or no choice, the answer too is left as it was.
  */
 #ifndef STEEPLECLAY_H
 #define STEEPLECLAY_H
@@ -34,7 +37,7 @@ extern "C" {
 
 /* Where things stand in an answer. */
 #define SC_ANSWER_VALUE 0u          /* id, address or length, by the call; 0 where it has none */
-#define SC_ANSWER_FREE_COUNT 1u     /* sc_region_information: the free segments .. */
+#define SC_ANSWER_FREE_COUNT 1u     /* sc_region_get_information: the free segments .. */
 #define SC_ANSWER_FREE_LARGEST 2u
 #define SC_ANSWER_FREE_TOTAL 3u
 #define SC_ANSWER_HELD_COUNT 4u     /* .. and the held ones; sizes in bytes */
@@ -59,16 +62,16 @@ extern "C" {
 #define SC_UNSATISFIED 13u      /* RTEMS_UNSATISFIED: no room now */
 #define SC_INCORRECT_STATE 14u  /* RTEMS_INCORRECT_STATE: the task waits already */
 #define SC_INVALID_PRIORITY 19u /* RTEMS_INVALID_PRIORITY: not 1 to 255 */
-#define SC_INTERNAL_ERROR 25u   /* RTEMS_INTERNAL_ERROR: the record or the memory is damaged, or a buffer has the wrong length */
+#define SC_INTERNAL_ERROR 25u   /* RTEMS_INTERNAL_ERROR: record or memory are damaged, a buffer has the wrong length, or a choice is none */
 #define SC_WAITING 255u         /* no refusal: the task waits now, and hears by a notice of a later return or tick */
 
-/* Choices; any other number is answered SC_INTERNAL_ERROR. */
+/* Choices: the order of a region's queue, and whether a get may wait. Any other number is answered SC_INTERNAL_ERROR. */
 #define SC_FIFO 0u
 #define SC_PRIORITY 1u
 #define SC_NO_WAIT 0u
 #define SC_WAIT 1u
 
-/* The three buffers of a call, each with its length in words. */
+/* The three buffers of a call. */
 #define SC_BUFFERS                                   \
     uint32_t *record, size_t record_words,           \
     uint32_t *memory, size_t memory_words,           \
@@ -121,11 +124,13 @@ uint32_t sc_clock_tick(SC_BUFFERS);
  * The words of a held segment.
  */
 
-/* Copies the words of the held segment at `address` to `words`, as many as `words` has room for, and returns how many words the segment has; 0 where
- * record, memory, id or address are refused. (The memory is the caller's own, so a segment may also be read where it lies.) */
+/* Copies the words of the held segment at `address` to `words`, as many as `words` has room for, and returns how many words the segment has, which
+ * may be more. Returns 0, and copies nothing, where record, memory, id or address are refused. (The memory is the caller's own, so a segment may
+ * also be read where it lies.) */
 size_t sc_segment_read(const uint32_t *record, size_t record_words, const uint32_t *memory, size_t memory_words, uint32_t *words, size_t words_count,
                        uint32_t id, uint32_t address);
-/* Copies `words` into the held segment at `address`, from its word `first` on: SC_INVALID_SIZE where they don't fit. Nothing else is changed. */
+/* Copies `words` into the held segment at `address`, from its word `first` on (0 is the segment's first): SC_INVALID_SIZE where they don't fit.
+ * Nothing else is changed. */
 uint32_t sc_segment_write(const uint32_t *record, size_t record_words, uint32_t *memory, size_t memory_words, const uint32_t *words, size_t words_count,
                           uint32_t id, uint32_t address, uint32_t first);
 
