@@ -1,0 +1,32 @@
+-- The notices before k are put, and those from k on give the whole. Assumes nothing.
+use Prim.Native.Nat.{_-_}
+use borrow.Author.Needs.{needs}
+use Rattle.packing.proofs.Laws.{Putting}
+use Rattle.firmware.proofs.Laws.{answering}
+use Rattle.firmware.specs.Exported.{noticeWords, noticesAt}
+use Rattle.firmware.proofs.answer.notices.Tie as tie
+use Rattle.firmware.proofs.answer.notices.Statement.{statement}
+
+abbrev Inv-loop : tie.InvT-loop
+Inv-loop words₀ all k₀ words k = Putting noticeWords 3 16 noticesAt all words₀ words k
+
+abbrev μ-loop : tie.MeasureT-loop
+μ-loop words₀ all k₀ words k = 16 - k
+
+pub notices-spec : {M : Type 1} → statement M
+notices-spec =
+    tie.close
+    (tie.spec
+    Inv-loop
+    μ-loop
+    (λ c. search (needs, answering))
+    (λ c. search (needs, answering))
+    (λ c. search (needs, answering))
+    (λ c. search (needs, answering))
+    (λ c. search (needs, answering))
+    (λ c κs. search (needs, answering))
+    (λ c. search (needs, answering))
+    (λ c. search (needs, answering))
+    (λ c. search (needs, answering))
+    (λ c. search (needs, answering))
+    (λ c. search (needs, answering)))

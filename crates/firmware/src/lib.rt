@@ -1,0 +1,308 @@
+// The directives for C and Rust to call: include/steepleclay.h says how. The caller keeps the manager record as words (`state`), lends the
+// memory, and gets the answer in words.
+mod answer;
+mod call;
+
+use call::INTERNAL_ERROR;
+use call::run_call;
+use call::wait_at;
+use manager::Call;
+ghost use Rattle.packing.specs.Packing.{orderAt};
+ghost use Rattle.firmware.specs.Exported.{Leaves, Reads, Writes, called, chosen, waitAt, segmentWords, segmentWritten};
+
+// Makes a region.
+#[no_mangle]
+pub extern "C" fn sc_region_create(
+    state: &mut [u32],
+    memory: &mut [u32],
+    answer: &mut [u32],
+    name: u32,
+    start: u32,
+    length: u32,
+    page: u32,
+    order: u32,
+) -> u32
+    ensures { λ r. ⌜ Leaves (chosen order (now (state .entry)) (now (memory .entry)) (now (answer .entry)) (Call.CreateRegion name start length page (orderAt order)))
+        (now (state .exit)) (now (memory .exit)) (now (answer .exit)) r ⌝ }
+{
+    if 1 < order {
+        return INTERNAL_ERROR;
+    }
+    let order = packing::order_at(order);
+    run_call(
+        state,
+        memory,
+        answer,
+        Call::CreateRegion {
+            name,
+            start,
+            length,
+            page,
+            order,
+        },
+    )
+}
+
+// The id of the lowest region with a name.
+#[no_mangle]
+pub extern "C" fn sc_region_ident(
+    state: &mut [u32],
+    memory: &mut [u32],
+    answer: &mut [u32],
+    name: u32,
+) -> u32
+    ensures { λ r. ⌜ Leaves (called (now (state .entry)) (now (memory .entry)) (now (answer .entry)) (Call.IdentRegion name))
+        (now (state .exit)) (now (memory .exit)) (now (answer .exit)) r ⌝ }
+{
+    run_call(state, memory, answer, Call::IdentRegion { name })
+}
+
+// Deletes a region of which nothing is held.
+#[no_mangle]
+pub extern "C" fn sc_region_delete(
+    state: &mut [u32],
+    memory: &mut [u32],
+    answer: &mut [u32],
+    id: u32,
+) -> u32
+    ensures { λ r. ⌜ Leaves (called (now (state .entry)) (now (memory .entry)) (now (answer .entry)) (Call.DeleteRegion id))
+        (now (state .exit)) (now (memory .exit)) (now (answer .exit)) r ⌝ }
+{
+    run_call(state, memory, answer, Call::DeleteRegion { id })
+}
+
+// Gets a segment, or waits for one.
+#[no_mangle]
+pub extern "C" fn sc_region_get_segment(
+    state: &mut [u32],
+    memory: &mut [u32],
+    answer: &mut [u32],
+    id: u32,
+    size: u32,
+    wait: u32,
+    task: u32,
+    priority: u32,
+    ticks: u32,
+) -> u32
+    ensures { λ r. ⌜ Leaves (chosen wait (now (state .entry)) (now (memory .entry)) (now (answer .entry)) (Call.GetSegment id size (waitAt wait) task priority ticks))
+        (now (state .exit)) (now (memory .exit)) (now (answer .exit)) r ⌝ }
+{
+    if 1 < wait {
+        return INTERNAL_ERROR;
+    }
+    let wait = wait_at(wait);
+    run_call(
+        state,
+        memory,
+        answer,
+        Call::GetSegment {
+            id,
+            size,
+            wait,
+            task,
+            priority,
+            ticks,
+        },
+    )
+}
+
+// Takes a held segment back and serves the queue.
+#[no_mangle]
+pub extern "C" fn sc_region_return_segment(
+    state: &mut [u32],
+    memory: &mut [u32],
+    answer: &mut [u32],
+    id: u32,
+    address: u32,
+) -> u32
+    ensures { λ r. ⌜ Leaves (called (now (state .entry)) (now (memory .entry)) (now (answer .entry)) (Call.ReturnSegment id address))
+        (now (state .exit)) (now (memory .exit)) (now (answer .exit)) r ⌝ }
+{
+    run_call(state, memory, answer, Call::ReturnSegment { id, address })
+}
+
+// The length of a held segment.
+#[no_mangle]
+pub extern "C" fn sc_region_get_segment_size(
+    state: &mut [u32],
+    memory: &mut [u32],
+    answer: &mut [u32],
+    id: u32,
+    address: u32,
+) -> u32
+    ensures { λ r. ⌜ Leaves (called (now (state .entry)) (now (memory .entry)) (now (answer .entry)) (Call.SegmentSize id address))
+        (now (state .exit)) (now (memory .exit)) (now (answer .exit)) r ⌝ }
+{
+    run_call(state, memory, answer, Call::SegmentSize { id, address })
+}
+
+// Shrinks or grows a held segment in place.
+#[no_mangle]
+pub extern "C" fn sc_region_resize_segment(
+    state: &mut [u32],
+    memory: &mut [u32],
+    answer: &mut [u32],
+    id: u32,
+    address: u32,
+    size: u32,
+) -> u32
+    ensures { λ r. ⌜ Leaves (called (now (state .entry)) (now (memory .entry)) (now (answer .entry)) (Call.ResizeSegment id address size))
+        (now (state .exit)) (now (memory .exit)) (now (answer .exit)) r ⌝ }
+{
+    run_call(
+        state,
+        memory,
+        answer,
+        Call::ResizeSegment { id, address, size },
+    )
+}
+
+// Count, largest and total bytes of the free and of the held segments.
+#[no_mangle]
+pub extern "C" fn sc_region_get_information(
+    state: &mut [u32],
+    memory: &mut [u32],
+    answer: &mut [u32],
+    id: u32,
+) -> u32
+    ensures { λ r. ⌜ Leaves (called (now (state .entry)) (now (memory .entry)) (now (answer .entry)) (Call.RegionInformation id))
+        (now (state .exit)) (now (memory .exit)) (now (answer .exit)) r ⌝ }
+{
+    run_call(state, memory, answer, Call::RegionInformation { id })
+}
+
+// Makes a partition.
+#[no_mangle]
+pub extern "C" fn sc_partition_create(
+    state: &mut [u32],
+    memory: &mut [u32],
+    answer: &mut [u32],
+    name: u32,
+    start: u32,
+    length: u32,
+    size: u32,
+) -> u32
+    ensures { λ r. ⌜ Leaves (called (now (state .entry)) (now (memory .entry)) (now (answer .entry)) (Call.CreatePartition name start length size))
+        (now (state .exit)) (now (memory .exit)) (now (answer .exit)) r ⌝ }
+{
+    run_call(
+        state,
+        memory,
+        answer,
+        Call::CreatePartition {
+            name,
+            start,
+            length,
+            size,
+        },
+    )
+}
+
+// The id of the lowest partition with a name.
+#[no_mangle]
+pub extern "C" fn sc_partition_ident(
+    state: &mut [u32],
+    memory: &mut [u32],
+    answer: &mut [u32],
+    name: u32,
+) -> u32
+    ensures { λ r. ⌜ Leaves (called (now (state .entry)) (now (memory .entry)) (now (answer .entry)) (Call.IdentPartition name))
+        (now (state .exit)) (now (memory .exit)) (now (answer .exit)) r ⌝ }
+{
+    run_call(state, memory, answer, Call::IdentPartition { name })
+}
+
+// Deletes a partition of which no buffer is held.
+#[no_mangle]
+pub extern "C" fn sc_partition_delete(
+    state: &mut [u32],
+    memory: &mut [u32],
+    answer: &mut [u32],
+    id: u32,
+) -> u32
+    ensures { λ r. ⌜ Leaves (called (now (state .entry)) (now (memory .entry)) (now (answer .entry)) (Call.DeletePartition id))
+        (now (state .exit)) (now (memory .exit)) (now (answer .exit)) r ⌝ }
+{
+    run_call(state, memory, answer, Call::DeletePartition { id })
+}
+
+// Gets a buffer.
+#[no_mangle]
+pub extern "C" fn sc_partition_get_buffer(
+    state: &mut [u32],
+    memory: &mut [u32],
+    answer: &mut [u32],
+    id: u32,
+) -> u32
+    ensures { λ r. ⌜ Leaves (called (now (state .entry)) (now (memory .entry)) (now (answer .entry)) (Call.GetBuffer id))
+        (now (state .exit)) (now (memory .exit)) (now (answer .exit)) r ⌝ }
+{
+    run_call(state, memory, answer, Call::GetBuffer { id })
+}
+
+// Takes a held buffer back.
+#[no_mangle]
+pub extern "C" fn sc_partition_return_buffer(
+    state: &mut [u32],
+    memory: &mut [u32],
+    answer: &mut [u32],
+    id: u32,
+    address: u32,
+) -> u32
+    ensures { λ r. ⌜ Leaves (called (now (state .entry)) (now (memory .entry)) (now (answer .entry)) (Call.ReturnBuffer id address))
+        (now (state .exit)) (now (memory .exit)) (now (answer .exit)) r ⌝ }
+{
+    run_call(state, memory, answer, Call::ReturnBuffer { id, address })
+}
+
+// The clock goes on by one tick.
+#[no_mangle]
+pub extern "C" fn sc_clock_tick(state: &mut [u32], memory: &mut [u32], answer: &mut [u32]) -> u32
+    ensures { λ r. ⌜ Leaves (called (now (state .entry)) (now (memory .entry)) (now (answer .entry)) Call.Tick)
+        (now (state .exit)) (now (memory .exit)) (now (answer .exit)) r ⌝ }
+{
+    run_call(state, memory, answer, Call::Tick)
+}
+
+// Copies the words of a held segment, as many as there is room for; returns how many it has, 0 where it is refused.
+#[no_mangle]
+pub extern "C" fn sc_segment_read(
+    state: &[u32],
+    memory: &[u32],
+    words: &mut [u32],
+    id: u32,
+    address: u32,
+) -> usize
+    ensures { λ r. ⌜ Reads (segmentWords (now (state .entry)) (now (memory .entry)) id address) (now (words .entry)) (now (words .exit)) r ⌝ }
+{
+    let unpacked = packing::unpack(state);
+    if !unpacked.ok {
+        return 0;
+    }
+    let d = unpacked.manager;
+    let part = access::read_segment(memory, d, id, address);
+    packing::copy(words, 0, part);
+    part.len()
+}
+
+// Copies words into a held segment, from its word `first` on.
+#[no_mangle]
+pub extern "C" fn sc_segment_write(
+    state: &[u32],
+    memory: &mut [u32],
+    words: &[u32],
+    id: u32,
+    address: u32,
+    first: u32,
+) -> u32
+    ensures { λ r. ⌜ Writes (segmentWritten (now (state .entry)) (now (memory .entry)) id address first (now (words .entry))) (now (memory .exit)) r ⌝ }
+{
+    let unpacked = packing::unpack(state);
+    if !unpacked.ok {
+        return INTERNAL_ERROR;
+    }
+    let d = unpacked.manager;
+    let given = access::write_segment(memory, d, id, address, first, words);
+    let s = given.status;
+    manager::number(s)
+}

@@ -1,0 +1,31 @@
+-- The waiters before k are put, and those from k on give the whole. Assumes nothing.
+use Prim.Native.Nat.{_-_}
+use borrow.Author.Needs.{needs}
+use Rattle.packing.proofs.Laws.{packing, Putting}
+use Rattle.packing.specs.Packing.{waiterWords, waitersAt}
+use Rattle.packing.proofs.put.waiters.Statement.{statement}
+use Rattle.packing.proofs.put.waiters.Tie as tie
+
+abbrev Inv-loop : tie.InvT-loop
+Inv-loop words₀ all k₀ words k = Putting waiterWords 5 16 waitersAt all words₀ words k
+
+abbrev μ-loop : tie.MeasureT-loop
+μ-loop words₀ all k₀ words k = 16 - k
+
+pub waiters-spec : {M : Type 1} → statement M
+waiters-spec =
+    tie.close
+    (tie.spec
+    Inv-loop
+    μ-loop
+    (λ c. search (needs, packing))
+    (λ c. search (needs, packing))
+    (λ c. search (needs, packing))
+    (λ c. search (needs, packing))
+    (λ c. search (needs, packing))
+    (λ c κs. search (needs, packing))
+    (λ c. search (needs, packing))
+    (λ c. search (needs, packing))
+    (λ c. search (needs, packing))
+    (λ c. search (needs, packing))
+    (λ c. search (needs, packing)))

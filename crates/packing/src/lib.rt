@@ -1,0 +1,88 @@
+// The manager record as words that a caller keeps, and back.
+mod put;
+mod take;
+
+use manager::Manager;
+use manager::Order;
+ghost use mathlib.Core.Path.{_≡_};
+ghost use lib.Seq.{sets};
+ghost use Rattle.packing.specs.Packing.{orderAt, packed, unpacked};
+
+// Copies words to the words from a place on, as far as there are any.
+pub fn copy(words: &mut [u32], at: usize, from: &[u32])
+    ensures { λ _. ⌜ now (words .exit) ≡ sets (now (words .entry)) at (now (from .entry)) ⌝ }
+{
+    let mut i = at;
+    let mut k: usize = 0;
+    while k < from.len() {
+        if words.len() <= i {
+            return;
+        }
+        words[i] = from[k];
+        i = i + 1;
+        k = k + 1;
+    }
+}
+
+// The choice that a word says: 0 is the first.
+pub fn order_at(word: u32) -> Order
+    ensures { λ r. ⌜ r ≡ orderAt word ⌝ }
+{
+    if word == 0 {
+        return Order::Fifo;
+    }
+    Order::Priority
+}
+
+// What words say: a record, if they say one.
+pub struct Unpacked {
+    pub ok: bool,
+    pub manager: Manager,
+}
+
+// The words of a record.
+pub const RECORD_WORDS: usize = 176;
+
+// The record that the words say; not ok where their number is wrong or a choice is none.
+pub fn unpack(words: &[u32]) -> Unpacked
+    ensures { λ r. ⌜ r ≡ unpacked (now (words .entry)) ⌝ }
+{
+    if words.len() != RECORD_WORDS {
+        return Unpacked {
+            ok: false,
+            manager: Manager::new(),
+        };
+    }
+    if !take::choices(words) {
+        return Unpacked {
+            ok: false,
+            manager: Manager::new(),
+        };
+    }
+    let regions = take::regions(words);
+    let partitions = take::partitions(words);
+    let waiters = take::waiters(words);
+    Unpacked {
+        ok: true,
+        manager: Manager {
+            regions: regions,
+            partitions: partitions,
+            waiters: waiters,
+        },
+    }
+}
+
+// Puts a record into its words; nothing where their number is wrong.
+pub fn pack(d: Manager, words: &mut [u32])
+    ensures { λ _. ⌜ now (words .exit) ≡ packed d (now (words .entry)) ⌝ }
+{
+    if words.len() != RECORD_WORDS {
+        return;
+    }
+    let regions = d.regions;
+    let partitions = d.partitions;
+    let waiters = d.waiters;
+    put::regions(words, regions);
+    put::partitions(words, partitions);
+    put::waiters(words, waiters);
+}
