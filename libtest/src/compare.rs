@@ -1,0 +1,354 @@
+//! Runs made-up calls through a library and compares every word with the
+//! model.
+
+use crate::call::{Buffers, Call, Directive, Library};
+use crate::damage::{self, Effect, State};
+use crate::examples;
+use crate::generate::{self, Style};
+use crate::model::{Answer, Model};
+use crate::random::Random;
+use crate::sound;
+use crate::tally::Tally;
+use crate::words::*;
+use std::fmt::Write;
+
+/// Words before and after a buffer that the library must not touch.
+const GUARD_WORDS: usize = 16;
+const GUARD: u32 = 0xa5c3_96e1;
+
+/// A buffer between guard words.
+struct Guarded {
+    words: Vec<u32>,
+}
+
+impl Guarded {
+    fn new(inner: &[u32]) -> Guarded {
+        let mut words = vec![GUARD; GUARD_WORDS];
+        words.extend_from_slice(inner);
+        words.extend([GUARD; GUARD_WORDS]);
+        Guarded { words }
+    }
+
+    fn inner(&self) -> &[u32] {
+        &self.words[GUARD_WORDS..self.words.len() - GUARD_WORDS]
+    }
+
+    fn inner_mut(&mut self) -> &mut [u32] {
+        let end = self.words.len() - GUARD_WORDS;
+        &mut self.words[GUARD_WORDS..end]
+    }
+
+    fn is_guarded(&self) -> bool {
+        let end = self.words.len() - GUARD_WORDS;
+        let guards = self.words[..GUARD_WORDS].iter().chain(&self.words[end..]);
+        guards.copied().all(|word| word == GUARD)
+    }
+}
+
+/// What a call must return and leave behind.
+struct Expected<'a> {
+    returned: usize,
+    answer: &'a [u32],
+    record: &'a [u32],
+    memory: &'a [u32],
+}
+
+/// Compares a library with the model, and counts.
+pub struct Comparison<'a, L: Library> {
+    library: &'a mut L,
+    pub tally: Tally,
+}
+
+impl<'a, L: Library> Comparison<'a, L> {
+    pub fn new(library: &'a mut L) -> Comparison<'a, L> {
+        Comparison {
+            library,
+            tally: Tally::default(),
+        }
+    }
+
+    /// Runs the worked examples.
+    pub fn examples(&mut self) -> Result<(), String> {
+        for example in examples::all() {
+            let mut model = Model::new(vec![0; MEMORY_WORDS]);
+            let mut random = Random::for_list(0, 0);
+            let tell = |problem| format!("Example {}: {problem}", example.title);
+            for (call, status, value, notices) in &example.calls {
+                let answer = self.step(&mut random, &mut model, call).map_err(tell)?;
+                if !examples::agrees(&answer, *status, *value, notices) {
+                    return Err(tell(format!("{call:?}: the model gives {answer:?}")));
+                }
+            }
+            if let Some((at, words)) = &example.words {
+                if model.memory()[*at..at + words.len()] != *words {
+                    return Err(tell("the model has other words".to_string()));
+                }
+            }
+        }
+        Ok(())
+    }
+
+    /// Runs one list of calls with client writes between them, and every
+    /// directive on damaged copies of the states that it passes.
+    pub fn list(&mut self, seed: u64, index: u64) -> Result<(), String> {
+        let mut random = Random::for_list(seed, index);
+        let style = Style::new(&mut random);
+        let mut model = Model::new(generate::memory(&mut random));
+        self.tally.lists += 1;
+        self.tally.add_memory(model.memory().len());
+        let calls = random.between(20, 120);
+        for number in 1..=calls {
+            let place = || format!("Seed {seed}, list {index}, call {number}");
+            self.client_writes(&mut random, &mut model);
+            let call = generate::call(&mut random, &style, &model);
+            self.step(&mut random, &mut model, &call)
+                .map_err(|problem| format!("{}:\n{problem}", place()))?;
+            if random.chance(5) || number == calls {
+                self.damaged(&mut random, &style, &model)
+                    .map_err(|problem| format!("{}, then {problem}", place()))?;
+            }
+        }
+        Ok(())
+    }
+
+    fn client_writes(&mut self, random: &mut Random, model: &mut Model) {
+        for (word, value) in generate::client_writes(random, model) {
+            model.client_write(word, value);
+            self.tally.client_words += 1;
+        }
+    }
+
+    /// Makes one call on a sound state, by the library and by the model.
+    fn step(
+        &mut self,
+        random: &mut Random,
+        model: &mut Model,
+        call: &Call,
+    ) -> Result<Answer, String> {
+        let record = Guarded::new(&model.record());
+        let memory = Guarded::new(model.memory());
+        let before = answer_words(random, call, model);
+        let answer = model.call(call);
+        sound::check(&model.record(), model.memory())
+            .map_err(|clause| format!("{call:?} leaves the model unsound: {clause}"))?;
+        let after = expected_answer(call, &answer, &before);
+        self.tally.sound_calls += 1;
+        self.tally.add_objects([
+            model.region_ids().len(),
+            model.partition_ids().len(),
+            model.waiting_tasks().len(),
+        ]);
+        self.tally.add_answer(&answer);
+        let expected = Expected {
+            returned: match call {
+                Call::Read { .. } => answer.words.len(),
+                _ => answer.status as usize,
+            },
+            answer: &after,
+            record: &model.record(),
+            memory: model.memory(),
+        };
+        self.check(record, memory, Guarded::new(&before), call, expected)?;
+        Ok(answer)
+    }
+
+    /// Damages a copy of a state and makes a call of each directive on it.
+    fn damaged(&mut self, random: &mut Random, style: &Style, model: &Model) -> Result<(), String> {
+        let kind = &damage::KINDS[random.below(damage::KINDS.len())];
+        let mut state = State {
+            record: model.record().to_vec(),
+            memory: model.memory().to_vec(),
+            answer_words: ANSWER_WORDS,
+        };
+        if (kind.apply)(random, &mut state).is_none() {
+            return Ok(());
+        }
+        let tell = |problem: String| format!("damage '{}':\n{problem}", kind.title);
+        let soundness = sound::check(&state.record, &state.memory);
+        let wrong_answer = state.answer_words != ANSWER_WORDS;
+        self.tally.add_damage(kind.title, soundness, wrong_answer);
+        let as_meant = match kind.effect {
+            Effect::Unsound => soundness.is_err(),
+            Effect::Sound => soundness.is_ok() && !wrong_answer,
+            Effect::WrongAnswer => soundness.is_ok() && wrong_answer,
+            Effect::Any => true,
+        };
+        if !as_meant {
+            return Err(tell(format!(
+                "the check says {soundness:?}, but the damage is meant to be {:?}",
+                kind.effect
+            )));
+        }
+        if soundness.is_err() {
+            for directive in Directive::ALL {
+                let call = generate::call_of(directive, random, style, model);
+                self.refused(random, &state, &call).map_err(tell)?;
+            }
+            return Ok(());
+        }
+        let found = Model::from_record(&state.record, &state.memory);
+        if found.record() != state.record[..] || found.memory() != state.memory {
+            return Err(tell("the model found in the words has others".to_string()));
+        }
+        for directive in Directive::ALL {
+            let call = generate::call_of(directive, random, style, &found);
+            let uses_answer = !matches!(directive, Directive::Read | Directive::Write);
+            if wrong_answer && uses_answer {
+                self.refused(random, &state, &call).map_err(tell)?;
+            } else {
+                self.step(random, &mut found.clone(), &call).map_err(tell)?;
+            }
+        }
+        // A few calls go on from there.
+        let mut found = found;
+        for _ in 0..random.between(0, 8) {
+            let call = generate::call(random, style, &found);
+            self.step(random, &mut found, &call).map_err(tell)?;
+        }
+        Ok(())
+    }
+
+    /// Makes a call that must be answered 25 and must change nothing.
+    fn refused(&mut self, random: &mut Random, state: &State, call: &Call) -> Result<(), String> {
+        let words = match call {
+            Call::Read { .. } => random.below(60),
+            _ => state.answer_words,
+        };
+        let before: Vec<u32> = (0..words).map(|_| random.word()).collect();
+        let expected = Expected {
+            returned: match call {
+                Call::Read { .. } => 0,
+                _ => status::INTERNAL_ERROR as usize,
+            },
+            answer: &before,
+            record: &state.record,
+            memory: &state.memory,
+        };
+        self.check(
+            Guarded::new(&state.record),
+            Guarded::new(&state.memory),
+            Guarded::new(&before),
+            call,
+            expected,
+        )
+    }
+
+    /// Makes a call by the library and compares all that it leaves.
+    fn check(
+        &mut self,
+        mut record: Guarded,
+        mut memory: Guarded,
+        mut answer: Guarded,
+        call: &Call,
+        expected: Expected,
+    ) -> Result<(), String> {
+        let buffers = Buffers {
+            record: record.inner_mut(),
+            memory: memory.inner_mut(),
+            answer: answer.inner_mut(),
+        };
+        let returned = self.library.call(buffers, call);
+        self.tally.add_call(call.directive(), returned);
+
+        let mut problems = String::new();
+        if returned != expected.returned {
+            let wanted = expected.returned;
+            let _ = writeln!(problems, "  returned {returned}, expected {wanted}");
+        }
+        let plain = |word: usize| word.to_string();
+        let title = |word: usize| format!("{word} ({})", record_word_title(word));
+        differences(
+            &mut problems,
+            "answer",
+            answer.inner(),
+            expected.answer,
+            plain,
+        );
+        differences(
+            &mut problems,
+            "record",
+            record.inner(),
+            expected.record,
+            title,
+        );
+        differences(
+            &mut problems,
+            "memory",
+            memory.inner(),
+            expected.memory,
+            plain,
+        );
+        for (name, buffer) in [("record", record), ("memory", memory), ("answer", answer)] {
+            if !buffer.is_guarded() {
+                let _ = writeln!(problems, "  written outside the {name}");
+            }
+        }
+        if problems.is_empty() {
+            Ok(())
+        } else {
+            Err(format!("{call:?}\n{problems}"))
+        }
+    }
+}
+
+/// Made-up words for the answer before a call: an answer's words, or for a
+/// read some room for words.
+fn answer_words(random: &mut Random, call: &Call, model: &Model) -> Vec<u32> {
+    let count = match call {
+        Call::Read { id, address } => {
+            let segments = model.segments(*id);
+            let segment = segments.iter().find(|segment| segment.address == *address);
+            let length = segment.map_or(0, |segment| segment.length as usize / 4);
+            match random.below(4) {
+                0 => length,
+                1 => length + random.below(20),
+                2 => random.below(length + 1),
+                _ => random.below(3),
+            }
+        }
+        _ => ANSWER_WORDS,
+    };
+    (0..count).map(|_| random.word()).collect()
+}
+
+/// The words that a call must leave in the answer.
+fn expected_answer(call: &Call, answer: &Answer, before: &[u32]) -> Vec<u32> {
+    let mut after = before.to_vec();
+    match call {
+        Call::Write { .. } => {}
+        Call::Read { .. } => {
+            let count = answer.words.len().min(after.len());
+            after[..count].copy_from_slice(&answer.words[..count]);
+        }
+        _ if answer.status == status::INTERNAL_ERROR => {}
+        _ => after.copy_from_slice(&answer.to_words()),
+    }
+    after
+}
+
+/// Tells in which words two buffers differ, up to a few.
+fn differences(
+    problems: &mut String,
+    name: &str,
+    found: &[u32],
+    expected: &[u32],
+    title: impl Fn(usize) -> String,
+) {
+    if found == expected {
+        return;
+    }
+    const SHOWN: usize = 8;
+    let words = (0..found.len()).filter(|&word| found[word] != expected[word]);
+    for word in words.clone().take(SHOWN) {
+        let (is, wanted) = (found[word], expected[word]);
+        let _ = writeln!(
+            problems,
+            "  {name} word {} is {is}, expected {wanted}",
+            title(word)
+        );
+    }
+    let more = words.count().saturating_sub(SHOWN);
+    if more > 0 {
+        let _ = writeln!(problems, "  and {more} more words of the {name}");
+    }
+}
