@@ -73,9 +73,10 @@ impl<'a, L: Library> Comparison<'a, L> {
             let mut model = Model::new(vec![0; MEMORY_WORDS]);
             let mut random = Random::for_list(0, 0);
             let tell = |problem| format!("Example {}: {problem}", example.title);
-            for (call, status, value, notices) in &example.calls {
+            for expected in &example.calls {
+                let call = &expected.call;
                 let answer = self.step(&mut random, &mut model, call).map_err(tell)?;
-                if !examples::agrees(&answer, *status, *value, notices) {
+                if !expected.is(&answer) {
                     return Err(tell(format!("{call:?}: the model gives {answer:?}")));
                 }
             }

@@ -7,11 +7,24 @@ use crate::model::{Answer, Notice};
 /// and words of the memory afterwards.
 pub struct Example {
     pub title: &'static str,
-    /// Each call with the status and the value that it must answer, and its
-    /// notices (task, status, address).
-    pub calls: Vec<(Call, u32, u32, Vec<(u32, u32, u32)>)>,
+    pub calls: Vec<Expected>,
     /// Words that the memory must have at the end, from a word on.
     pub words: Option<(usize, Vec<u32>)>,
+}
+
+/// A call with what it must answer.
+pub struct Expected {
+    pub call: Call,
+    pub status: u32,
+    pub value: u32,
+    pub notices: Vec<Notice>,
+}
+
+impl Expected {
+    /// Whether an answer is the one asked for.
+    pub fn is(&self, answer: &Answer) -> bool {
+        answer.status == self.status && answer.value == self.value && answer.notices == self.notices
+    }
 }
 
 impl Example {
@@ -29,12 +42,27 @@ impl Example {
     }
 
     fn gives(mut self, call: Call, status: u32, value: u32) -> Example {
-        self.calls.push((call, status, value, Vec::new()));
+        self.calls.push(Expected {
+            call,
+            status,
+            value,
+            notices: Vec::new(),
+        });
         self
     }
 
     fn tells(mut self, call: Call, notices: &[(u32, u32, u32)]) -> Example {
-        self.calls.push((call, 0, 0, notices.to_vec()));
+        let notice = |&(task, status, address): &(u32, u32, u32)| Notice {
+            task,
+            status,
+            address,
+        };
+        self.calls.push(Expected {
+            call,
+            status: 0,
+            value: 0,
+            notices: notices.iter().map(notice).collect(),
+        });
         self
     }
 
@@ -42,14 +70,6 @@ impl Example {
         self.words = Some((word, words));
         self
     }
-}
-
-/// Whether an answer is the one asked for.
-pub fn agrees(answer: &Answer, status: u32, value: u32, notices: &[(u32, u32, u32)]) -> bool {
-    let told = |notice: &Notice| (notice.task, notice.status, notice.address);
-    answer.status == status
-        && answer.value == value
-        && answer.notices.iter().map(told).eq(notices.iter().copied())
 }
 
 fn create(start: u32, length: u32, page: u32) -> Call {

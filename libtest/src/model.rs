@@ -300,7 +300,7 @@ impl Partition {
     fn is_held(&self, address: u32) -> bool {
         let offset = address.checked_sub(self.area.start);
         let is_buffer = offset.is_some_and(|offset| {
-            offset % self.size == 0 && ((offset / self.size) as usize) < self.count()
+            offset.is_multiple_of(self.size) && ((offset / self.size) as usize) < self.count()
         });
         is_buffer && !self.chain.contains(&address)
     }
@@ -613,11 +613,14 @@ impl Model {
     fn create_partition(&mut self, name: u32, area: Area, size: u32) -> Result<Answer, Refusal> {
         refuse_if(name == 0, status::INVALID_NAME)?;
         refuse_if(area.start == 0, status::INVALID_ADDRESS)?;
-        refuse_if(area.start % 4 != 0, status::INVALID_ADDRESS)?;
+        refuse_if(!area.start.is_multiple_of(4), status::INVALID_ADDRESS)?;
         refuse_if(self.is_past_memory(&area), status::INVALID_ADDRESS)?;
         refuse_if(area.length == 0 || size == 0, status::INVALID_SIZE)?;
         refuse_if(area.length < size, status::INVALID_SIZE)?;
-        refuse_if(size % 4 != 0 || size < MIN_BUFFER, status::INVALID_SIZE)?;
+        refuse_if(
+            !size.is_multiple_of(4) || size < MIN_BUFFER,
+            status::INVALID_SIZE,
+        )?;
         refuse_if(self.is_taken(&area), status::INVALID_ADDRESS)?;
         let index = self.partitions.iter().position(Option::is_none);
         let index = index.ok_or(status::TOO_MANY)?;

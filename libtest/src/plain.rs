@@ -208,7 +208,7 @@ impl Region {
         }
         // Only the first word of a held segment is odd.
         let word = memory[self.word(page)];
-        if word % 2 == 0 {
+        if word.is_multiple_of(2) {
             return refused;
         }
         Ok((page, (word / 2) as usize))
@@ -370,7 +370,11 @@ impl State<'_> {
             let mut room = 0;
             if after < region.pages() {
                 let word = self.memory[region.word(after)];
-                room = if word % 2 == 0 { word as usize / 2 } else { 0 };
+                room = if word.is_multiple_of(2) {
+                    word as usize / 2
+                } else {
+                    0
+                };
             }
             if new - old > room {
                 self.answer[0] = value;
@@ -411,10 +415,10 @@ impl State<'_> {
         if name == 0 {
             return Err(status::INVALID_NAME);
         }
-        if start == 0 || start % 4 != 0 || !self.is_inside(start, length) {
+        if start == 0 || !start.is_multiple_of(4) || !self.is_inside(start, length) {
             return Err(status::INVALID_ADDRESS);
         }
-        if length == 0 || length < size || size % 4 != 0 || size < 8 {
+        if length == 0 || length < size || !size.is_multiple_of(4) || size < 8 {
             return Err(status::INVALID_SIZE);
         }
         if self.is_taken(start, length) {
@@ -577,7 +581,7 @@ impl State<'_> {
         let mut end = to;
         if to < region.pages() {
             let word = self.memory[region.word(to)];
-            if word % 2 == 0 {
+            if word.is_multiple_of(2) {
                 self.memory[region.word(to)] = 0;
                 end += word as usize / 2;
             }
