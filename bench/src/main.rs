@@ -17,15 +17,15 @@ const HELP: &str = "\
 Time the library beside an ordinary implementation, or the two programs.
 
 Usage: bench calls [--row TEXT] [--batches N]
-       bench count
+       bench count [ROW LOAD]
        bench scripts FOLDER
        bench programs FOLDER PROGRAM SECOND [--runs N]
 
   calls      nanoseconds for each call, for each row and load: the least of some
              batches (default 15), library and ordinary implementation taking
              turns on the same inputs. --row keeps the rows with the text
-  count      a few calls of each row and load, for callgrind; bench/callgrind
-             runs it
+  count      a few calls of each row and load, or of one, for callgrind;
+             bench/callgrind runs it
   scripts    write the long scripts and an empty one into a folder
   programs   run both programs on the scripts in the folder, taking turns, and
              print the least time of each (default of 20 runs) and the ratio
@@ -40,7 +40,11 @@ fn main() -> ExitCode {
     let result = match words.as_slice() {
         ["calls", options @ ..] => calls(options),
         ["count"] => {
-            count();
+            count(|_, _| true);
+            Ok(())
+        }
+        ["count", row, load] => {
+            count(|scene_row, scene_load| scene_row == *row && scene_load == *load);
             Ok(())
         }
         ["scripts", folder] => write_scripts(Path::new(folder)),
@@ -129,32 +133,36 @@ fn capital(text: &str) -> String {
     text[..1].to_uppercase() + &text[1..]
 }
 
-// The names of the next three functions are given to callgrind.
+// The names of the next three functions are given to callgrind. The numbers in
+// them keep the compiler from making one function of two.
 
 /// Instructions are counted in here for the library.
 #[no_mangle]
 #[inline(never)]
 pub fn bench_library_call(stage: &mut Stage, library: &mut dyn Library) -> usize {
-    std::hint::black_box(stage.call(library))
+    std::hint::black_box(1);
+    stage.call(library)
 }
 
 /// Instructions are counted in here for the ordinary implementation.
 #[no_mangle]
 #[inline(never)]
 pub fn bench_ordinary_call(stage: &mut Stage, library: &mut dyn Library) -> usize {
-    std::hint::black_box(stage.call(library)).wrapping_add(0)
+    std::hint::black_box(2);
+    stage.call(library)
 }
 
 /// The count is written out and starts again from 0 at the end of this.
 #[no_mangle]
 #[inline(never)]
 pub fn bench_row_end() {
-    std::hint::black_box(());
+    std::hint::black_box(3);
 }
 
-/// Makes a few calls of each row. For each count that callgrind writes out, a
-/// line says what it is and how many calls it is for.
-fn count() {
+/// Makes a few calls of each row and load that is asked for. For each count
+/// that callgrind writes out, a line says what it is and how many calls it is
+/// for.
+fn count(is_asked_for: impl Fn(&str, &str) -> bool) {
     type Counted = fn(&mut Stage, &mut dyn Library) -> usize;
     let counted = |scene: &Scene, side: &str, library: &mut dyn Library, call: Counted| {
         let mut stage = Stage::new(scene, library);
@@ -168,6 +176,9 @@ fn count() {
     };
     for load in Load::ALL {
         for row in ROWS {
+            if !is_asked_for(row, load.name()) {
+                continue;
+            }
             let scene = scene::scene(row, load);
             if let Some(mut linked) = linked() {
                 counted(&scene, "library", linked.as_mut(), bench_library_call);
