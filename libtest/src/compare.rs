@@ -1,5 +1,10 @@
 //! Runs made-up calls through a library and compares every word with the
 //! model.
+//!
+//! The header leaves two things open, and both ways are accepted and counted:
+//! whether an answer that goes with status 25 is left as it was or cleared,
+//! and whether an answer of more than 55 words is a wrong length. The words
+//! past the 55th must be left in any case.
 
 use crate::call::{Buffers, Call, Directive, Library};
 use crate::damage::{self, Effect, State};
@@ -45,12 +50,21 @@ impl Guarded {
     }
 }
 
-/// What a call must return and leave behind.
+/// What a call may return and leave behind.
 struct Expected<'a> {
     returned: usize,
-    answer: &'a [u32],
+    answer: Vec<u32>,
     record: &'a [u32],
     memory: &'a [u32],
+}
+
+impl Expected<'_> {
+    fn is(&self, returned: usize, record: &[u32], memory: &[u32], answer: &[u32]) -> bool {
+        self.returned == returned
+            && self.answer == answer
+            && self.record == record
+            && self.memory == memory
+    }
 }
 
 /// Compares a library with the model, and counts.
@@ -126,30 +140,58 @@ impl<'a, L: Library> Comparison<'a, L> {
         model: &mut Model,
         call: &Call,
     ) -> Result<Answer, String> {
-        let record = Guarded::new(&model.record());
-        let memory = Guarded::new(model.memory());
-        let before = answer_words(random, call, model);
+        self.step_with(random, model, call, ANSWER_WORDS)
+    }
+
+    /// The same with an answer of some length, at least the usual one.
+    fn step_with(
+        &mut self,
+        random: &mut Random,
+        model: &mut Model,
+        call: &Call,
+        words: usize,
+    ) -> Result<Answer, String> {
+        let (record, memory) = (model.record(), model.memory().to_vec());
+        let before = answer_before(random, call, model, words);
         let answer = model.call(call);
-        sound::check(&model.record(), model.memory())
+        let (record_after, memory_after) = (model.record(), model.memory());
+        sound::check(&record_after, memory_after)
             .map_err(|clause| format!("{call:?} leaves the model unsound: {clause}"))?;
-        let after = expected_answer(call, &answer, &before);
         self.tally.sound_calls += 1;
+        self.tally.add_answer(&answer);
         self.tally.add_objects([
             model.region_ids().len(),
             model.partition_ids().len(),
             model.waiting_tasks().len(),
         ]);
-        self.tally.add_answer(&answer);
-        let expected = Expected {
+
+        let buffers = [&record[..], &memory, &before];
+        let is_long = uses_answer(call) && before.len() > ANSWER_WORDS;
+        if is_internal_error(call, &answer) {
+            self.check_refused(buffers, call)?;
+            return Ok(answer);
+        }
+        let done = Expected {
             returned: match call {
                 Call::Read { .. } => answer.words.len(),
                 _ => answer.status as usize,
             },
-            answer: &after,
-            record: &model.record(),
-            memory: model.memory(),
+            answer: answer_after(call, &answer, &before),
+            record: &record_after,
+            memory: memory_after,
         };
-        self.check(record, memory, Guarded::new(&before), call, expected)?;
+        if !is_long {
+            self.check(buffers, call, &[done])?;
+            return Ok(answer);
+        }
+        let refused = Expected {
+            returned: status::INTERNAL_ERROR as usize,
+            answer: before.clone(),
+            record: &record,
+            memory: &memory,
+        };
+        let which = self.check(buffers, call, &[done, refused])?;
+        self.tally.add_long_answer(which == 0);
         Ok(answer)
     }
 
@@ -193,11 +235,12 @@ impl<'a, L: Library> Comparison<'a, L> {
         }
         for directive in Directive::ALL {
             let call = generate::call_of(directive, random, style, &found);
-            let uses_answer = !matches!(directive, Directive::Read | Directive::Write);
-            if wrong_answer && uses_answer {
+            if uses_answer(&call) && state.answer_words < ANSWER_WORDS {
                 self.refused(random, &state, &call).map_err(tell)?;
             } else {
-                self.step(random, &mut found.clone(), &call).map_err(tell)?;
+                let words = state.answer_words.max(ANSWER_WORDS);
+                self.step_with(random, &mut found.clone(), &call, words)
+                    .map_err(tell)?;
             }
         }
         // A few calls go on from there.
@@ -216,33 +259,45 @@ impl<'a, L: Library> Comparison<'a, L> {
             _ => state.answer_words,
         };
         let before: Vec<u32> = (0..words).map(|_| random.word()).collect();
-        let expected = Expected {
-            returned: match call {
-                Call::Read { .. } => 0,
-                _ => status::INTERNAL_ERROR as usize,
-            },
-            answer: &before,
-            record: &state.record,
-            memory: &state.memory,
-        };
-        self.check(
-            Guarded::new(&state.record),
-            Guarded::new(&state.memory),
-            Guarded::new(&before),
-            call,
-            expected,
-        )
+        self.check_refused([&state.record, &state.memory, &before], call)
     }
 
-    /// Makes a call by the library and compares all that it leaves.
+    /// The same with an answer: record, memory and answer before the call.
+    fn check_refused(&mut self, buffers: [&[u32]; 3], call: &Call) -> Result<(), String> {
+        let [record, memory, before] = buffers;
+        let returned = match call {
+            Call::Read { .. } => 0,
+            _ => status::INTERNAL_ERROR as usize,
+        };
+        let with = |answer: Vec<u32>| Expected {
+            returned,
+            answer,
+            record,
+            memory,
+        };
+        let mut either = vec![with(before.to_vec())];
+        if uses_answer(call) && before.len() >= ANSWER_WORDS {
+            let mut cleared = before.to_vec();
+            cleared[..ANSWER_WORDS].fill(0);
+            either.push(with(cleared));
+        }
+        let which = self.check(buffers, call, &either)?;
+        if uses_answer(call) {
+            self.tally.add_internal_error(which == 0);
+        }
+        Ok(())
+    }
+
+    /// Makes a call by the library and compares all that it leaves. Gives
+    /// which of the outcomes it is; one that is not expected is set beside
+    /// the first.
     fn check(
         &mut self,
-        mut record: Guarded,
-        mut memory: Guarded,
-        mut answer: Guarded,
+        buffers: [&[u32]; 3],
         call: &Call,
-        expected: Expected,
-    ) -> Result<(), String> {
+        either: &[Expected],
+    ) -> Result<usize, String> {
+        let [mut record, mut memory, mut answer] = buffers.map(Guarded::new);
         let buffers = Buffers {
             record: record.inner_mut(),
             memory: memory.inner_mut(),
@@ -252,49 +307,48 @@ impl<'a, L: Library> Comparison<'a, L> {
         self.tally.add_call(call.directive(), returned);
 
         let mut problems = String::new();
+        for (name, buffer) in [
+            ("record", &record),
+            ("memory", &memory),
+            ("answer", &answer),
+        ] {
+            if !buffer.is_guarded() {
+                let _ = writeln!(problems, "  written outside the {name}");
+            }
+        }
+        let (record, memory, answer) = (record.inner(), memory.inner(), answer.inner());
+        let found = either
+            .iter()
+            .position(|expected| expected.is(returned, record, memory, answer));
+        if let (Some(which), true) = (found, problems.is_empty()) {
+            return Ok(which);
+        }
+        let expected = &either[0];
         if returned != expected.returned {
             let wanted = expected.returned;
             let _ = writeln!(problems, "  returned {returned}, expected {wanted}");
         }
         let plain = |word: usize| word.to_string();
         let title = |word: usize| format!("{word} ({})", record_word_title(word));
-        differences(
-            &mut problems,
-            "answer",
-            answer.inner(),
-            expected.answer,
-            plain,
-        );
-        differences(
-            &mut problems,
-            "record",
-            record.inner(),
-            expected.record,
-            title,
-        );
-        differences(
-            &mut problems,
-            "memory",
-            memory.inner(),
-            expected.memory,
-            plain,
-        );
-        for (name, buffer) in [("record", record), ("memory", memory), ("answer", answer)] {
-            if !buffer.is_guarded() {
-                let _ = writeln!(problems, "  written outside the {name}");
-            }
-        }
-        if problems.is_empty() {
-            Ok(())
-        } else {
-            Err(format!("{call:?}\n{problems}"))
-        }
+        differences(&mut problems, "answer", answer, &expected.answer, plain);
+        differences(&mut problems, "record", record, expected.record, title);
+        differences(&mut problems, "memory", memory, expected.memory, plain);
+        Err(format!("{call:?}\n{problems}"))
     }
 }
 
-/// Made-up words for the answer before a call: an answer's words, or for a
+/// Whether a call fills in an answer.
+fn uses_answer(call: &Call) -> bool {
+    !matches!(call, Call::Read { .. } | Call::Write { .. })
+}
+
+fn is_internal_error(call: &Call, answer: &Answer) -> bool {
+    !matches!(call, Call::Read { .. }) && answer.status == status::INTERNAL_ERROR
+}
+
+/// Made-up words for the answer before a call: as many as asked for, or for a
 /// read some room for words.
-fn answer_words(random: &mut Random, call: &Call, model: &Model) -> Vec<u32> {
+fn answer_before(random: &mut Random, call: &Call, model: &Model, words: usize) -> Vec<u32> {
     let count = match call {
         Call::Read { id, address } => {
             let segments = model.segments(*id);
@@ -307,13 +361,13 @@ fn answer_words(random: &mut Random, call: &Call, model: &Model) -> Vec<u32> {
                 _ => random.below(3),
             }
         }
-        _ => ANSWER_WORDS,
+        _ => words,
     };
     (0..count).map(|_| random.word()).collect()
 }
 
-/// The words that a call must leave in the answer.
-fn expected_answer(call: &Call, answer: &Answer, before: &[u32]) -> Vec<u32> {
+/// The words that a call leaves in the answer.
+fn answer_after(call: &Call, answer: &Answer, before: &[u32]) -> Vec<u32> {
     let mut after = before.to_vec();
     match call {
         Call::Write { .. } => {}
@@ -321,8 +375,7 @@ fn expected_answer(call: &Call, answer: &Answer, before: &[u32]) -> Vec<u32> {
             let count = answer.words.len().min(after.len());
             after[..count].copy_from_slice(&answer.words[..count]);
         }
-        _ if answer.status == status::INTERNAL_ERROR => {}
-        _ => after.copy_from_slice(&answer.to_words()),
+        _ => after[..ANSWER_WORDS].copy_from_slice(&answer.to_words()),
     }
     after
 }

@@ -22,7 +22,8 @@ pub enum Effect {
     Sound,
     /// Either.
     Any,
-    /// The answer has a wrong length; the record and the memory are sound.
+    /// The answer is too short or too long; the record and the memory are
+    /// sound.
     WrongAnswer,
 }
 

@@ -25,8 +25,12 @@ pub struct Tally {
     /// For each kind of damage: how often, and how often still sound.
     damages: BTreeMap<&'static str, (u64, u64)>,
     clauses: BTreeMap<Clause, u64>,
-    /// Answers of wrong length.
+    /// Answers that are too short or too long.
     answer_lengths: u64,
+    /// Answers with status 25 that were left as they were, and cleared ones.
+    internal_errors: [u64; 2],
+    /// Calls with an answer that is too long: done, and refused.
+    long_answers: [u64; 2],
     /// The smallest and the largest memory.
     memories: Option<(usize, usize)>,
     /// The most live regions, live partitions and waiters at a time.
@@ -68,6 +72,16 @@ impl Tally {
         for notice in &answer.notices {
             *self.notices.entry(notice.status).or_default() += 1;
         }
+    }
+
+    /// A call that was answered 25, and whether its answer was left.
+    pub fn add_internal_error(&mut self, is_left: bool) {
+        self.internal_errors[usize::from(!is_left)] += 1;
+    }
+
+    /// A call with an answer that is too long, and whether it was done.
+    pub fn add_long_answer(&mut self, is_done: bool) {
+        self.long_answers[usize::from(!is_done)] += 1;
     }
 
     /// Damage that was done: its kind, which clause is broken, and whether
@@ -193,6 +207,13 @@ impl fmt::Display for Tally {
         for (status, count) in &self.notices {
             writeln!(f, "  {:<28}{count:>9}", format!("{status} in a notice"))?;
         }
+        let [left, cleared] = self.internal_errors;
+        writeln!(
+            f,
+            "With status 25 the answer was left {left} times and cleared {cleared} times"
+        )?;
+        let [done, refused] = self.long_answers;
+        writeln!(f, "With an answer that is too long, calls were done {done} times and refused {refused} times")?;
 
         writeln!(
             f,
