@@ -1,0 +1,236 @@
+//! Counts what occurred, and tells what never did.
+
+use crate::call::Directive;
+use crate::damage;
+use crate::model::Answer;
+use crate::sound::Clause;
+use crate::words::{status, SLOTS, TASKS};
+use std::collections::BTreeMap;
+use std::fmt;
+
+#[derive(Clone, Debug, Default)]
+pub struct Tally {
+    /// All calls.
+    pub calls: u64,
+    /// Calls on a record and memory that are sound, with right lengths.
+    pub sound_calls: u64,
+    /// Client writes between calls, in words.
+    pub client_words: u64,
+    /// Lists of calls.
+    pub lists: u64,
+    statuses: BTreeMap<(Directive, u32), u64>,
+    notices: BTreeMap<u32, u64>,
+    full_reads: u64,
+    empty_reads: u64,
+    /// For each kind of damage: how often, and how often still sound.
+    damages: BTreeMap<&'static str, (u64, u64)>,
+    clauses: BTreeMap<Clause, u64>,
+    /// Answers that are too short or too long.
+    answer_lengths: u64,
+    /// Answers with status 25 that were left as they were, and cleared ones.
+    internal_errors: [u64; 2],
+    /// Calls with an answer that is too long: done, and refused.
+    long_answers: [u64; 2],
+    /// The smallest and the largest memory.
+    memories: Option<(usize, usize)>,
+    /// The most live regions, live partitions and waiters at a time.
+    fullest: [usize; 3],
+}
+
+impl Tally {
+    pub fn add_memory(&mut self, words: usize) {
+        let (least, most) = self.memories.unwrap_or((words, words));
+        self.memories = Some((least.min(words), most.max(words)));
+    }
+
+    /// How many regions, partitions and waiters there are in a state.
+    pub fn add_objects(&mut self, counts: [usize; 3]) {
+        for (most, count) in self.fullest.iter_mut().zip(counts) {
+            *most = count.max(*most);
+        }
+    }
+
+    /// A call and what the library returned.
+    pub fn add_call(&mut self, directive: Directive, returned: usize) {
+        self.calls += 1;
+        if directive == Directive::Read {
+            let count = if returned == 0 {
+                &mut self.empty_reads
+            } else {
+                &mut self.full_reads
+            };
+            *count += 1;
+        } else {
+            *self
+                .statuses
+                .entry((directive, returned as u32))
+                .or_default() += 1;
+        }
+    }
+
+    pub fn add_answer(&mut self, answer: &Answer) {
+        for notice in &answer.notices {
+            *self.notices.entry(notice.status).or_default() += 1;
+        }
+    }
+
+    /// A call that was answered 25, and whether its answer was left.
+    pub fn add_internal_error(&mut self, is_left: bool) {
+        self.internal_errors[usize::from(!is_left)] += 1;
+    }
+
+    /// A call with an answer that is too long, and whether it was done.
+    pub fn add_long_answer(&mut self, is_done: bool) {
+        self.long_answers[usize::from(!is_done)] += 1;
+    }
+
+    /// Damage that was done: its kind, which clause is broken, and whether
+    /// the answer's length is wrong.
+    pub fn add_damage(
+        &mut self,
+        title: &'static str,
+        broken: Result<(), Clause>,
+        wrong_answer: bool,
+    ) {
+        let (count, sound) = self.damages.entry(title).or_default();
+        *count += 1;
+        match broken {
+            Err(clause) => *self.clauses.entry(clause).or_default() += 1,
+            Ok(()) if wrong_answer => self.answer_lengths += 1,
+            Ok(()) => *sound += 1,
+        }
+    }
+
+    fn calls_of(&self, directive: Directive) -> u64 {
+        if directive == Directive::Read {
+            return self.full_reads + self.empty_reads;
+        }
+        let counts = self.statuses.iter();
+        let own = counts.filter(|((of, _), _)| *of == directive);
+        own.map(|(_, count)| count).sum()
+    }
+
+    /// What should have occurred at least once and did not.
+    pub fn missing(&self) -> Vec<String> {
+        let mut missing = Vec::new();
+        for directive in Directive::ALL {
+            for &status in directive.statuses() {
+                if !self.statuses.contains_key(&(directive, status)) {
+                    missing.push(format!("{} with status {status}", directive.function()));
+                }
+            }
+        }
+        for (count, what) in [
+            (self.full_reads, "a read that is not empty"),
+            (self.empty_reads, "a read that is empty"),
+            (self.answer_lengths, "an answer of wrong length"),
+            (self.client_words, "a client write"),
+        ] {
+            if count == 0 {
+                missing.push(what.to_string());
+            }
+        }
+        if self.fullest != [SLOTS, SLOTS, TASKS] {
+            missing.push("full tables of regions, partitions and waiters".to_string());
+        }
+        for status in [status::SUCCESSFUL, status::TIMEOUT] {
+            if !self.notices.contains_key(&status) {
+                missing.push(format!("a notice with status {status}"));
+            }
+        }
+        for kind in damage::KINDS {
+            if !self.damages.contains_key(kind.title) {
+                missing.push(format!("damage: {}", kind.title));
+            }
+        }
+        for clause in Clause::ALL {
+            if !self.clauses.contains_key(&clause) {
+                missing.push(format!("broken clause: {clause}"));
+            }
+        }
+        missing
+    }
+}
+
+impl fmt::Display for Tally {
+    fn fmt(&self, f: &mut fmt::Formatter) -> fmt::Result {
+        let (least, most) = self.memories.unwrap_or_default();
+        writeln!(
+            f,
+            "{} calls: {} on sound records, {} on damaged ones or with wrong lengths",
+            self.calls,
+            self.sound_calls,
+            self.calls - self.sound_calls
+        )?;
+        writeln!(
+            f,
+            "{} lists of calls over memories of {least} to {most} words, {} words written by clients between calls",
+            self.lists, self.client_words
+        )?;
+        let [regions, partitions, waiters] = self.fullest;
+        writeln!(
+            f,
+            "At most {regions} regions, {partitions} partitions and {waiters} waiters at a time"
+        )?;
+
+        writeln!(f, "\nCalls by function and status:")?;
+        for directive in Directive::ALL {
+            write!(
+                f,
+                "  {:<28}{:>9}",
+                directive.function(),
+                self.calls_of(directive)
+            )?;
+            if directive == Directive::Read {
+                write!(
+                    f,
+                    "  words: {}  none: {}",
+                    self.full_reads, self.empty_reads
+                )?;
+            }
+            for (&(of, status), count) in &self.statuses {
+                if of == directive {
+                    write!(f, "  {status}: {count}")?;
+                }
+            }
+            writeln!(f)?;
+        }
+
+        writeln!(f, "\nCalls by status:")?;
+        let mut totals: BTreeMap<u32, u64> = BTreeMap::new();
+        for (&(_, status), count) in &self.statuses {
+            *totals.entry(status).or_default() += count;
+        }
+        for (status, count) in &totals {
+            writeln!(f, "  {status:<28}{count:>9}")?;
+        }
+        for (status, count) in &self.notices {
+            writeln!(f, "  {:<28}{count:>9}", format!("{status} in a notice"))?;
+        }
+        let [left, cleared] = self.internal_errors;
+        writeln!(
+            f,
+            "With status 25 the answer was left {left} times and cleared {cleared} times"
+        )?;
+        let [done, refused] = self.long_answers;
+        writeln!(f, "With an answer that is too long, calls were done {done} times and refused {refused} times")?;
+
+        writeln!(
+            f,
+            "\nDamage by kind:                                          times  still sound"
+        )?;
+        for (title, (count, sound)) in &self.damages {
+            writeln!(f, "  {title:<52}{count:>9}{sound:>13}")?;
+        }
+
+        writeln!(f, "\nFirst broken clause:")?;
+        for (clause, count) in &self.clauses {
+            writeln!(f, "  {:<52}{count:>9}", clause.title())?;
+        }
+        writeln!(
+            f,
+            "  {:<52}{:>9}",
+            "answer not of 55 words", self.answer_lengths
+        )
+    }
+}
