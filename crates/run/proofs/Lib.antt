@@ -1,3 +1,4 @@
 pub mod Stores
 pub mod Laws
 pub mod Running
+pub mod EndToEnd

@@ -82,6 +82,7 @@ fn run_calls(src: &[u8], mem: &mut [u32], out: &mut [u8]) -> usize
 pub fn run(src: &[u8], mem: &mut [u32], out: &mut [u8; OUTPUT]) -> usize
     ensures { λ r. ⌜ Puts mostOutput (now (out .entry)) 0 (runAll (now (src .entry)) (now (mem .entry))) (now (out .exit)) r ⌝ }
     ensures { λ r. ⌜ now (mem .exit) ≡ memoryAll (now (src .entry)) (now (mem .entry)) ⌝ }
+    ensures { λ r. ⌜ r ≤ length (now (out .exit)) ⌝ }
 {
     if 32768 < src.len() {
         return put_bad(out, 0, 0);

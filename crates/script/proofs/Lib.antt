@@ -3,3 +3,4 @@ pub mod Laws
 pub mod Rows
 pub mod WrittenCalls
 pub mod WrittenScript
+pub mod Examples

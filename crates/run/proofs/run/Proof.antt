@@ -17,7 +17,11 @@ put-bad-requires c κs = search needs
 
 returns : tie.Need-returns
 unfolding runAll memoryAll
-returns c = (rw (lt-ltb _ _ (c .before .before .if1 .taken)) (puts-most (omega arith) (c .put-bad .ensures)), rw (lt-ltb _ _ (c .before .before .if1 .taken)))
+returns c =
+    let w = c .put-bad .ensures .within in (
+      rw (lt-ltb _ _ (c .before .before .if1 .taken)) (puts-most (omega arith) (c .put-bad .ensures)),
+      (rw (lt-ltb _ _ (c .before .before .if1 .taken)), omega (arith, c .put-bad .kept .0)),
+    )
 
 run-calls-requires : tie.Need-run-calls-requires
 run-calls-requires c κs = search needs
@@ -27,7 +31,11 @@ same-length c = search needs
 
 returns-2 : tie.Need-returns-2
 unfolding runAll memoryAll
-returns-2 c = (rw (le-ltb _ _ (c .before .before .before .before .before .if1 .left)) (c .before .before .run-calls .ensures .0), rw (le-ltb _ _ (c .before .before .before .before .before .if1 .left)) (c .before .before .run-calls .ensures .1))
+returns-2 c =
+    let w = c .before .before .run-calls .ensures .0 .within in (
+      rw (le-ltb _ _ (c .before .before .before .before .before .if1 .left)) (c .before .before .run-calls .ensures .0),
+      (rw (le-ltb _ _ (c .before .before .before .before .before .if1 .left)) (c .before .before .run-calls .ensures .1), omega (arith, c .before .before .run-calls .kept .1 .1 .0)),
+    )
 
 pub run-spec : {M : Type 1} → statement M
 run-spec = tie.close (tie.spec put-bad-requires returns run-calls-requires same-length returns-2)
