@@ -92,6 +92,10 @@ module _ (r : Region) (at n : ℕ) (ea : at ≡ mapAt r) (en : n ≡ pagesOf r) 
       draws l (free+ (pagesOf r) []) (total-free (pagesOf r) [] ∙ add-zero (pagesOf r)) (well-free (pagesOf r) [] tt) ws
       (ew ∙ ap (λ (k : ℕ). draw (free+ k [])) (part-long l))
 
+-- the reach, in the words of the map
+pub reach-words : (m : List ℕ) (r : Region) (ws : List ℕ) (p n : ℕ) → ws ≡ mapWords m r → n ≡ reachFrom p 0 (decode ws) → n ≡ reachFrom p 0 (segments m r)
+reach-words m r ws p n ew en = en ∙ ap (λ (w : List ℕ). reachFrom p 0 (decode w)) ew
+
 pub ruleset lending = (part-in, part-few, part-some, part-sound, part-held, part-reach, takes, changes, releases, clears)
 
 -- ---- one free segment

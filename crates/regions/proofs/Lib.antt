@@ -4,3 +4,5 @@ pub mod Take
 pub mod Change
 pub mod Lend
 pub mod Serving
+pub mod Verdicts
+pub mod Answers

@@ -1,3 +1,4 @@
 pub mod Leaf
 pub mod Pages
 pub mod Serving
+pub mod Verdicts

@@ -57,3 +57,11 @@ pub fn clear_pages(mem: &mut [u32], r: Region)
     let end = at + n as usize;
     leaf::clear(&mut mem[at..end]);
 }
+
+// The most that the held segment at page p of the region can have.
+pub fn reach_of(mem: &[u32], r: Region, p: u32) -> u32
+    ensures { λ n. ⌜ n ≡ reachFrom p 0 (segments (now (mem .entry)) r) ⌝ }
+{
+    let words = map::map_words(mem, r);
+    map::reach(words, p)
+}

@@ -1,0 +1,17 @@
+-- `return_segment` meets its contract: 25 where the records are not sound, and else what the directive does. Assumes nothing.
+use Rattle.regions.proofs.Answers.{entering}
+use borrow.Author.Needs.{needs}
+use Rattle.regions.proofs.return_segment.Statement.{statement}
+use Rattle.regions.proofs.return_segment.Tie as tie
+
+pub return-segment-spec : {M : Type 1} → statement M
+return-segment-spec =
+    tie.close
+    (tie.spec
+    (λ c κs. search (needs, entering))
+    (λ c κs. search (needs, entering))
+    (λ c. search (needs, entering))
+    (λ c. search (needs, entering))
+    (λ c κs. search (needs, entering))
+    (λ c. search (needs, entering))
+    (λ c. search (needs, entering)))

@@ -1,0 +1,22 @@
+-- `ident_region` meets its contract: each exit is one of the definition. Assumes nothing.
+use Rattle.regions_read.proofs.Answers.{answers}
+use borrow.Author.Needs.{needs}
+use Rattle.regions_read.proofs.ident_region.Statement.{statement}
+use Rattle.regions_read.proofs.ident_region.Tie as tie
+
+pub ident-region-spec : {M : Type 1} → statement M
+ident-region-spec =
+    tie.close
+    (tie.spec
+    (λ c κs. search (needs, answers))
+    (λ c κs. search (needs, answers))
+    (λ c. search (needs, answers))
+    (λ c κs. search (needs, answers))
+    (λ c. search (needs, answers))
+    (λ c κs. search (needs, answers))
+    (λ c κs. search (needs, answers))
+    (λ c. search (needs, answers))
+    (λ c. search (needs, answers))
+    (λ c. search (needs, answers))
+    (λ c κs. search (needs, answers))
+    (λ c. search (needs, answers)))

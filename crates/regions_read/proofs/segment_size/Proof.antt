@@ -1,0 +1,22 @@
+-- `segment_size` meets its contract: each exit is one of the definition. Assumes nothing.
+use Rattle.regions_read.proofs.Answers.{answers}
+use borrow.Author.Needs.{needs}
+use Rattle.regions_read.proofs.segment_size.Statement.{statement}
+use Rattle.regions_read.proofs.segment_size.Tie as tie
+
+pub segment-size-spec : {M : Type 1} → statement M
+segment-size-spec =
+    tie.close
+    (tie.spec
+    (λ c κs. search (needs, answers))
+    (λ c κs. search (needs, answers))
+    (λ c. search (needs, answers))
+    (λ c κs. search (needs, answers))
+    (λ c κs. search (needs, answers))
+    (λ c. search (needs, answers))
+    (λ c κs. search (needs, answers))
+    (λ c κs. search (needs, answers))
+    (λ c. search (needs, answers))
+    (λ c. search (needs, answers))
+    (λ c κs. search (needs, answers))
+    (λ c. search (needs, answers)))
