@@ -1,6 +1,6 @@
 -- `write_segment` meets its contract: each exit is one of the definition, and the part that is lent to the copier is the memory from the
 -- given word on, which has room for the words, since the segment lies in the memory. Assumes nothing.
-use Prim.Native.Nat.{_+_, _/_, _≤_}
+use Prim.Native.Nat.{_+_, _/_, _≤_, _<_}
 use native.Mathlib.Omega.{arith}
 use borrow.Author.Needs.{needs}
 use borrow.Author.Tests.{not-false}
@@ -80,7 +80,11 @@ same-length-4 : tie.Need-same-length-4
 same-length-4 c = search needs
 
 returns-4 : tie.Need-returns-4
-returns-4 c = search (needs, writing)
+returns-4 c =
+    let w = c .before .before in
+    let a = w .before .before .before .before .before .before .before .before .before .before .before .before .args in
+    let h : w .words-of .result < a .first + length (now (a .words)) = omega arith in
+    search (needs, writing)
 
 cast-from : tie.Need-cast-from
 cast-from c = search needs
