@@ -82,7 +82,7 @@ module _ (m : List ℕ) (d : Manager) (t : Receipts) (v : Inv m d t) where
     writes id a first words =
         by-answer m d _ _ ok (Writes m d t) refl (writes-refused m d t)
         (λ c. record {
-          clients = passed id a first words (regionOf d id) (t .regions id) refl (v .regions id) (c .0) (c .1 .0) (c .1 .1 .0);
+          clients = passed id a first words (regionOf d id) (t .regions id) refl (v .picture .regions id) (c .0) (c .1 .0) (c .1 .1 .0);
           manager = refl;
           answered = sound-status Successful refl;
         })
@@ -101,7 +101,7 @@ module _ (m : List ℕ) (d : Manager) (t : Receipts) (v : Inv m d t) where
         → readSegment m d id (addressIn e p) ≡ take (k * unit e / 4) (drop (addressIn e p / 4) m)
     unfolding readSegment
     read-is id e f p k l =
-        let r = region-at m (regionOf d id) (t .regions id) e (v .regions id) f in
+        let r = region-at m (regionOf d id) (t .regions id) e (v .picture .regions id) f in
         let s : SegmentLoan e (addressIn e p) (k * unit e) = record { p = p; k = k; lent = l; at = refl; bytes = refl } in
         let some = segment-some m e (r .is) (addressIn e p) (k * unit e) s in
         rw (ok, r .region, ne-eqb (e .name) 0 (r .is .named), loan-held m e (r .is) p k l, ne-eqb k 0 (λ (z : k ≡ 0). omega arith))
@@ -109,7 +109,7 @@ module _ (m : List ℕ) (d : Manager) (t : Receipts) (v : Inv m d t) where
     pub read-some : (id : ℕ) (e : RegionEntry) → t .regions id ≡ some e → (p k : ℕ) → Lent (e .loans) p k
         → ¬ (readSegment m d id (addressIn e p) ≡ [])
     read-some id e f p k l h =
-        let r = region-at m (regionOf d id) (t .regions id) e (v .regions id) f in
+        let r = region-at m (regionOf d id) (t .regions id) e (v .picture .regions id) f in
         let s : SegmentLoan e (addressIn e p) (k * unit e) = record { p = p; k = k; lent = l; at = refl; bytes = refl } in
         let i = segment-in m e (r .is) (addressIn e p) (k * unit e) s in
         let u : 1 * 8 ≤ k * unit e = mul-le-mul (segment-some m e (r .is) (addressIn e p) (k * unit e) s) (unit-least e (r .is .page-some)) in

@@ -43,11 +43,11 @@ module _ (m : List ℕ) (d : Manager) (t : Receipts) (v : Inv m d t) where
   -- two of one object
   alike : (o : Object) (a n b k : ℕ) → Loaned t o a n → Loaned t o b k → Alike a n b k
   alike (region id) a n b k (segment e f p j l) y =
-      let r = region-at m (regionOf d id) (t .regions id) e (v .regions id) f in
+      let r = region-at m (regionOf d id) (t .regions id) e (v .picture .regions id) f in
       segments-apart m e (r .is) (addressIn e p) (j * unit e) b k
       (record { p = p; k = j; lent = l; at = refl; bytes = refl }) (segment-loan t id b k e f y)
   alike (partition id) a n b k (buffer e f l) y =
-      lent-apart m d id e (partition-at m (partitionOf d id) (t .partitions id) e (v .partitions id) f) a (e .size) b k
+      lent-apart m d id e (partition-at m (partitionOf d id) (t .partitions id) e (v .picture .partitions id) f) a (e .size) b k
       (record { lent = l; bytes = refl }) (buffer-loan t id b k e f y)
 
   -- NO TWO LOANS SHARE A BYTE
@@ -64,4 +64,4 @@ module _ (m : List ℕ) (d : Manager) (t : Receipts) (v : Inv m d t) where
           let i = loan-in m d t v o a n x in
           let j = loan-in m d t v q b k y in
           inr (clear-parts (areaIn d o) (areaIn d q) a n b k
-          (sound-clear d (v .region-slots) (v .partition-slots) (v .areas) o q f) (i .from) (i .upto) (j .from) (j .upto))
+          (sound-clear d (v .picture .region-slots) (v .picture .partition-slots) (v .picture .areas) o q f) (i .from) (i .upto) (j .from) (j .upto))

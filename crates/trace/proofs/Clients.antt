@@ -114,10 +114,10 @@ module _ (m : List ℕ) (p : Partition) (e : PartitionEntry) (is : PartitionIs m
 module _ (m : List ℕ) (d : Manager) (t : Receipts) (v : Inv m d t) where
   pub loan-in : (o : Object) (a n : ℕ) → Loaned t o a n → LoanIn (areaIn d o) a n
   loan-in (region id) a n (segment e g p k h) =
-      let r = region-at m (regionOf d id) (t .regions id) e (v .regions id) g in
+      let r = region-at m (regionOf d id) (t .regions id) e (v .picture .regions id) g in
       rw (r .region) (segment-in m e (r .is) (addressIn e p) (k * unit e) (record { p = p; k = k; lent = h; at = refl; bytes = refl }))
   loan-in (partition id) a n (buffer e g h) =
-      let s = partition-at m (partitionOf d id) (t .partitions id) e (v .partitions id) g in
+      let s = partition-at m (partitionOf d id) (t .partitions id) e (v .picture .partitions id) g in
       buffer-in m (partitionOf d id) e s a (e .size) (record { lent = h; bytes = refl })
 
   -- a word that clients hold lies in the area of the object that lent it
@@ -131,20 +131,20 @@ module _ (m : List ℕ) (d : Manager) (t : Receipts) (v : Inv m d t) where
   owned-of o w i h =
       ⊎-elim (λ (q : h .0 ≡ o). subst (λ (x : Object). Loaned t x (h .1) (h .2)) q (h .3))
       (λ (n : ¬ (h .0 ≡ o)). absurd (clear-words (areaIn d (h .0)) (areaIn d o) w
-      (sound-clear d (v .region-slots) (v .partition-slots) (v .areas) (h .0) o n) (owned-inside w h) i))
+      (sound-clear d (v .picture .region-slots) (v .picture .partition-slots) (v .picture .areas) (h .0) o n) (owned-inside w h) i))
       (same-object (h .0) o)
 
   -- A WORD OF A MAP IS NOT HELD BY CLIENTS
   pub map-not-owned : (id : ℕ) (e : RegionEntry) → t .regions id ≡ some e → (w : ℕ) → mapAt (regionFor e) ≤ w → w < mapAt (regionFor e) + pagesIn e → ¬ Owned t w
   map-not-owned id e f w lo hi h =
-      let r = region-at m (regionOf d id) (t .regions id) e (v .regions id) f in
+      let r = region-at m (regionOf d id) (t .regions id) e (v .picture .regions id) f in
       let l = segment-loan t id (h .1) (h .2) e f (owned-of (region id) w (rw (r .region) (region-inside m e (r .is) w lo hi)) h) in
       omega (arith, segment-behind m e (r .is) (h .1) (h .2) l, region-before m e (r .is) w hi, h .4)
 
   -- NOR IS A WORD OF A BUFFER THAT IS NOT LENT
   pub buffer-not-owned : (id : ℕ) (e : PartitionEntry) → t .partitions id ≡ some e → (a w : ℕ) → Within a (e .unlent) → Inside a (partitionOf d id .size) w → ¬ Owned t w
   buffer-not-owned id e f a w u i h =
-      let s = partition-at m (partitionOf d id) (t .partitions id) e (v .partitions id) f in
+      let s = partition-at m (partitionOf d id) (t .partitions id) e (v .picture .partitions id) f in
       let c = chained-buffer m (partitionOf d id) e s a u in
       let l = buffer-loan t id (h .1) (h .2) e f (owned-of (partition id) w (buffer-inside m (partitionOf d id) e s a w c i) h) in
       ⊎-elim (λ (g : h .1 ≡ a). s .apart (h .1) (l .lent) (subst (λ (b : ℕ). Within b (e .unlent)) (sym g) u))
@@ -156,12 +156,14 @@ module _ (m : List ℕ) (d : Manager) (t : Receipts) (v : Inv m d t) where
   pub clients-keep : (m′ : List ℕ) → ClientsWrite t m m′ → Inv m′ d t
   clients-keep m′ c =
       record {
-        words = rw (c .size) (v .words);
-        region-slots = v .region-slots;
-        partition-slots = v .partition-slots;
-        regions = λ id. keep-region id (regionOf d id) (t .regions id) refl (v .regions id);
-        partitions = λ id. keep-partition id (partitionOf d id) (t .partitions id) refl refl (v .partitions id);
-        areas = v .areas;
+        picture = record {
+          words = rw (c .size) (v .picture .words);
+          region-slots = v .picture .region-slots;
+          partition-slots = v .picture .partition-slots;
+          regions = λ id. keep-region id (regionOf d id) (t .regions id) refl (v .picture .regions id);
+          partitions = λ id. keep-partition id (partitionOf d id) (t .partitions id) refl refl (v .picture .partitions id);
+          areas = v .picture .areas;
+        };
         waits = v .waits;
       }
     where

@@ -103,11 +103,19 @@ pub record Waits (d : Manager) (t : Receipts) : Type 0 where
   pub once : Distinct (tasksOf (t .waits))
   pub queue : d .waiters ≡ pad tasks noWaiter (waitersOf (queuesFrom slots 0 t))
 
-pub record Inv (m : List ℕ) (d : Manager) (t : Receipts) : Type 0 where
+-- the picture of the objects: the memory and the record as the receipts say
+pub record Picture (m : List ℕ) (d : Manager) (t : Receipts) : Type 0 where
   pub words : soundLength m ≡ true
   pub region-slots : length (d .regions) ≡ slots
   pub partition-slots : length (d .partitions) ≡ slots
   pub regions : (id : ℕ) → RegionSlot m (regionOf d id) (t .regions id)
   pub partitions : (id : ℕ) → PartitionSlot m (partitionOf d id) (t .partitions id)
   pub areas : soundAreas d ≡ true
+
+-- THE INVARIANT
+pub record Inv (m : List ℕ) (d : Manager) (t : Receipts) : Type 0 where
+  pub picture : Picture m d t
   pub waits : Waits d t
+
+pub with-waits : {m : List ℕ} {d : Manager} {t : Receipts} → Picture m d t → Waits d t → Inv m d t
+with-waits p w = record { picture = p; waits = w }

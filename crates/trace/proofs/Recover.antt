@@ -60,11 +60,13 @@ module _ (m : List ℕ) (d : Manager) (nr : length (d .regions) ≡ slots) (np :
       let r : (id : ℕ) → soundRegion m (regionOf d id) ≡ true = region-clause (and-first rs (ps && q) e₁) in
       let p : (id : ℕ) → soundPartition m (partitionOf d id) ≡ true = partition-clause (and-first ps q e₂) in
       record {
-        words = and-first (soundLength m) (rs && (ps && q)) e;
-        region-slots = nr;
-        partition-slots = np;
-        regions = λ id. region-read m (regionOf d id) (r id);
-        partitions = λ id. partition-read m (partitionOf d id) (p id);
-        areas = and-first (soundAreas d) (soundQueue m d) e₃;
+        picture = record {
+          words = and-first (soundLength m) (rs && (ps && q)) e;
+          region-slots = nr;
+          partition-slots = np;
+          regions = λ id. region-read m (regionOf d id) (r id);
+          partitions = λ id. partition-read m (partitionOf d id) (p id);
+          areas = and-first (soundAreas d) (soundQueue m d) e₃;
+        };
         waits = waits-read m d (receiptsOf m d) (λ id. refl) r nr np nw refl (and-second (soundAreas d) (soundQueue m d) e₃);
       }

@@ -45,8 +45,8 @@ pub inv-sound : (m : List ℕ) (d : Manager) (t : Receipts) → Inv m d t → so
 unfolding sound
 inv-sound m d t v q =
     rw (
-      v .words,
-      at-every noRegion (soundRegion m) (d .regions) (λ i h. region-sound m (regionOf d (idOf i)) (t .regions (idOf i)) (v .regions (idOf i))),
-      at-every noPartition (soundPartition m) (d .partitions) (λ i h. partition-sound m (partitionOf d (idOf i)) (t .partitions (idOf i)) (v .partitions (idOf i))),
-      v .areas,
+      v .picture .words,
+      at-every noRegion (soundRegion m) (d .regions) (λ i h. region-sound m (regionOf d (idOf i)) (t .regions (idOf i)) (v .picture .regions (idOf i))),
+      at-every noPartition (soundPartition m) (d .partitions) (λ i h. partition-sound m (partitionOf d (idOf i)) (t .partitions (idOf i)) (v .picture .partitions (idOf i))),
+      v .picture .areas,
     ) q

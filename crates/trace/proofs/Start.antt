@@ -34,11 +34,13 @@ fresh-waits = record { all = tt; once = tt; queue = refl }
 pub start-inv : (m : List ℕ) → 1 ≤ length m → length m ≤ mostWords → Inv m fresh blank
 start-inv m l h =
     record {
-      words = rw (le-leb 1 (length m) l, le-leb (length m) mostWords h);
-      region-slots = refl;
-      partition-slots = refl;
-      regions = λ id. subst (λ (r : Region). RegionSlot m r none) (sym (getD-same slots (slotOf id) noRegion)) empty;
-      partitions = λ id. subst (λ (p : Partition). PartitionSlot m p none) (sym (getD-same slots (slotOf id) noPartition)) empty;
-      areas = fresh-areas;
+      picture = record {
+        words = rw (le-leb 1 (length m) l, le-leb (length m) mostWords h);
+        region-slots = refl;
+        partition-slots = refl;
+        regions = λ id. subst (λ (r : Region). RegionSlot m r none) (sym (getD-same slots (slotOf id) noRegion)) empty;
+        partitions = λ id. subst (λ (p : Partition). PartitionSlot m p none) (sym (getD-same slots (slotOf id) noPartition)) empty;
+        areas = fresh-areas;
+      };
       waits = fresh-waits;
     }

@@ -48,7 +48,7 @@ module _ (m : List ℕ) (d : Manager) (t : Receipts) (v : Inv m d t) (ok : sound
   -- THE CLAIMS OF A PARTITION
   module _ (id : ℕ) (e : PartitionEntry) (q : t .partitions id ≡ some e) where
     partition-is : PartitionIs m (partitionOf d id) e
-    partition-is = partition-at m (partitionOf d id) (t .partitions id) e (v .partitions id) q
+    partition-is = partition-at m (partitionOf d id) (t .partitions id) e (v .picture .partitions id) q
 
     -- every buffer that its entry asks for is one
     all-buffers : (a : ℕ) → Within a (buffersFrom (buffersIn e) (e .size) (e .start)) → isBuffer (partitionOf d id) a ≡ true

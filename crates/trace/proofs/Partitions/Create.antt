@@ -88,7 +88,7 @@ module _ (m : List ℕ) (d : Manager) (t : Receipts) (v : Inv m d t) (name start
         let p = newPartition name start bytes size in
         kept-done (CreatePartition name start bytes size) t (keeping (idOf slot) _ t) _ (withPartition d slot p) (idOf slot) refl
         (put-keeps m d t v (idOf slot) (record { within = within; is = refl }) p _ _ only
-        (λ x n. overlaps-clear d (v .region-slots) (v .partition-slots) (areaOf p) clear x) (live p _ is))
+        (λ x n. overlaps-clear d (v .picture .region-slots) (v .picture .partition-slots) (areaOf p) clear x) (live p _ is))
 
   -- A CREATE KEEPS THE PICTURE
   pub keeps-create : sound m d ≡ true → Kept (CreatePartition name start bytes size) t (createPartition m d name start bytes size)

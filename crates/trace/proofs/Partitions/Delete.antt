@@ -45,7 +45,7 @@ module _ (m : List ℕ) (d : Manager) (t : Receipts) (v : Inv m d t) where
   unfolding deletePartition lists.every Passed
   keeps-delete ok id =
       kept-checked (DeletePartition id) m d t v _ _ ok refl
-      (λ c. let s = partition-entry m (partitionOf d id) (t .partitions id) (v .partitions id) (c .0) in
+      (λ c. let s = partition-entry m (partitionOf d id) (t .partitions id) (v .picture .partitions id) (c .0) in
       kept-done (DeletePartition id) t (keeping id none t) m (withPartition d (slotOf id) noPartition) 0 refl
       (put-keeps m d t v id (live-slot m d t v id (s .0) (s .2)) noPartition m none (only-refl 0 0 m) (λ x n. no-area (areaIn d x)) empty))
 
@@ -57,7 +57,7 @@ module _ (m : List ℕ) (d : Manager) (t : Receipts) (v : Inv m d t) where
 -- WHAT A DELETE ANSWERS: 0 exactly when nothing is lent, so that no loan is struck by it
 module _ (m : List ℕ) (d : Manager) (t : Receipts) (v : Inv m d t) (ok : sound m d ≡ true) (id : ℕ) (e : PartitionEntry) (q : t .partitions id ≡ some e) where
   partition-is : PartitionIs m (partitionOf d id) e
-  partition-is = partition-at m (partitionOf d id) (t .partitions id) e (v .partitions id) q
+  partition-is = partition-at m (partitionOf d id) (t .partitions id) e (v .picture .partitions id) q
 
   refuses-delete : ¬ (partitionOf d id .free ≡ buffers (partitionOf d id)) → deletePartition m d id ≡ refused m d ResourceInUse
   unfolding deletePartition

@@ -104,14 +104,14 @@ module _ (m : List ℕ) (d : Manager) (t : Receipts) (v : Inv m d t) (id : ℕ) 
   unfolding getBuffer lists.every Passed
   keeps-get ok =
       kept-checked (GetBuffer id) m d t v _ _ ok refl
-      (λ c. let s = partition-entry m (partitionOf d id) (t .partitions id) (v .partitions id) (c .0) in
+      (λ c. let s = partition-entry m (partitionOf d id) (t .partitions id) (v .picture .partitions id) (c .0) in
       let n = eqb-false (partitionOf d id .free) 0 (c .1 .0) in
       act-kept (s .0) (s .1) (s .2) (omega arith))
 
 -- WHAT IT ANSWERS
 module _ (m : List ℕ) (d : Manager) (t : Receipts) (v : Inv m d t) (ok : sound m d ≡ true) (id : ℕ) (e : PartitionEntry) (q : t .partitions id ≡ some e) where
   partition-is : PartitionIs m (partitionOf d id) e
-  partition-is = partition-at m (partitionOf d id) (t .partitions id) e (v .partitions id) q
+  partition-is = partition-at m (partitionOf d id) (t .partitions id) e (v .picture .partitions id) q
 
   -- by the number of free buffers
   refuses-get : partitionOf d id .free ≡ 0 → getBuffer m d id ≡ refused m d Unsatisfied

@@ -103,5 +103,5 @@ module _ (m : List ℕ) (d : Manager) (t : Receipts) (v : Inv m d t) (id a : ℕ
   unfolding returnBuffer lists.every Passed
   keeps-return ok =
       kept-checked (ReturnBuffer id a) m d t v _ _ ok refl
-      (λ c. let s = partition-entry m (partitionOf d id) (t .partitions id) (v .partitions id) (c .0) in
+      (λ c. let s = partition-entry m (partitionOf d id) (t .partitions id) (v .picture .partitions id) (c .0) in
       act-kept (s .0) (s .1) (s .2) (not-false (isBuffer (partitionOf d id) a) (c .1 .0)) (c .1 .1 .0))

@@ -88,11 +88,11 @@ module _ (m : List ℕ) (d : Manager) (t : Receipts) (v : Inv m d t) (id : ℕ) 
   pub there : partitionOf (withPartition d (slotOf id) p) id ≡ p
   there =
       ap (partitionOf putting) (sym (slot .is))
-      ∙ partition-there d (v .region-slots) (v .partition-slots) (slotOf id) (slot .within) p
+      ∙ partition-there d (v .picture .region-slots) (v .picture .partition-slots) (slotOf id) (slot .within) p
 
   pub elsewhere : (j : ℕ) → ¬ (j ≡ id) → partitionOf (withPartition d (slotOf id) p) j ≡ partitionOf d j
   elsewhere j n =
-      partition-elsewhere d (v .region-slots) (v .partition-slots) (slotOf id) (slot .within) p j
+      partition-elsewhere d (v .picture .region-slots) (v .picture .partition-slots) (slotOf id) (slot .within) p j
       (λ (e : j ≡ idOf (slotOf id)). n (e ∙ slot .is))
 
   -- THE INVARIANT, where the partition is as its entry says
@@ -104,29 +104,31 @@ module _ (m : List ℕ) (d : Manager) (t : Receipts) (v : Inv m d t) (id : ℕ) 
         (λ e. subst (λ (x : Partition). PartitionSlot m′ x o) (sym (ap (partitionOf putting) e ∙ there)) is)
         (λ n. subst (λ (x : Partition). PartitionSlot m′ x (t .partitions j)) (sym (elsewhere j n))
         (partition-kept m m′ (areaOf p) (partitionOf d j) (t .partitions j) only
-        (clear (partition j) (λ (e : partition j ≡ partition id). n (cc))) (v .partitions j)))
+        (clear (partition j) (λ (e : partition j ≡ partition id). n (cc))) (v .picture .partitions j)))
 
     pub put-keeps : Inv m′ (withPartition d (slotOf id) p) (keeping id o t)
     put-keeps =
         record {
-          words = words-same m m′ (only .size) (v .words);
-          region-slots = v .region-slots;
-          partition-slots = length-set (d .partitions) (slotOf id) p ∙ v .partition-slots;
-          regions = λ j. region-kept m m′ (areaOf p) (regionOf d j) (t .regions j) only
-              (clear (region j) (λ (e : region j ≡ partition id). let z : _≡_ {A = ℕ} 0 1 = cc in omega arith)) (v .regions j);
-          partitions = slot-at;
-          areas = areas-partition d (v .region-slots) (v .partition-slots) (slotOf id) (slot .within) (v .areas) p
-              (λ x n. clear x (λ (e : x ≡ partition id). n (e ∙ ap partition (sym (slot .is)))));
+          picture = record {
+            words = words-same m m′ (only .size) (v .picture .words);
+            region-slots = v .picture .region-slots;
+            partition-slots = length-set (d .partitions) (slotOf id) p ∙ v .picture .partition-slots;
+            regions = λ j. region-kept m m′ (areaOf p) (regionOf d j) (t .regions j) only
+                (clear (region j) (λ (e : region j ≡ partition id). let z : _≡_ {A = ℕ} 0 1 = cc in omega arith)) (v .picture .regions j);
+            partitions = slot-at;
+            areas = areas-partition d (v .picture .region-slots) (v .picture .partition-slots) (slotOf id) (slot .within) (v .picture .areas) p
+                (λ x n. clear x (λ (e : x ≡ partition id). n (e ∙ ap partition (sym (slot .is)))));
+          };
           waits = waits-kept id o t d putting refl (v .waits);
         }
 
 -- what is live has a slot, and an area that meets no other object's
 module _ (m : List ℕ) (d : Manager) (t : Receipts) (v : Inv m d t) (id : ℕ) (e : PartitionEntry) (is : PartitionIs m (partitionOf d id) e) where
   pub live-slot : OfSlot id
-  live-slot = partition-slot d (v .region-slots) (v .partition-slots) id (is .named)
+  live-slot = partition-slot d (v .picture .region-slots) (v .picture .partition-slots) id (is .named)
 
   pub live-clear : (x : Object) → ¬ (x ≡ partition id) → Clear (areaOf (partitionOf d id)) (areaIn d x)
-  live-clear x n = sound-clear d (v .region-slots) (v .partition-slots) (v .areas) (partition id) x (λ (f : partition id ≡ x). n (sym f))
+  live-clear x n = sound-clear d (v .picture .region-slots) (v .picture .partition-slots) (v .picture .areas) (partition id) x (λ (f : partition id ≡ x). n (sym f))
 
 -- ---- words outside the area
 

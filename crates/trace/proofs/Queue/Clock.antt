@@ -13,9 +13,9 @@ use Rattle.manager.specs.declared.Call.the-variants.{Tick}
 use Rattle.manager.specs.declared.Status.the-variants.{Successful}
 use Rattle.trace.specs.Receipts.{Receipts, withWaits, allLater, allNoticed, note}
 use Rattle.trace.specs.Claims.{dueFrom}
-use Rattle.trace.proofs.Invariant.{Inv}
+use Rattle.trace.proofs.Invariant.{Inv, with-waits}
 use Rattle.trace.proofs.Regions.Checks.{Passed, Kept, kept-checked, acts, sound-status}
-use Rattle.trace.proofs.Regions.Picture.{pictured, with-waits, any-queue}
+use Rattle.trace.proofs.Regions.Picture.{any-queue}
 use Rattle.trace.proofs.Regions.Queue.{region-ids, sound-inv}
 use Rattle.trace.proofs.Queue.Line.{keep}
 use Rattle.trace.proofs.Queue.Shown.{Ids, queued}
@@ -23,7 +23,7 @@ use Rattle.trace.proofs.Queue.Ticks.{notDue, tick-notices, tick-receipt
 
 module _ (m : List ℕ) (d : Manager) (t : Receipts) (v : Inv m d t) where
   ids : Ids slots t
-  ids = region-ids m d t (pictured v)
+  ids = region-ids m d t (v .picture)
 
   -- what the tick and its notices enter: the waits that were not due, a tick later
   noted : allNoticed (leaving (d .waiters)) (withWaits (allLater (t .waits)) t) ≡ withWaits (allLater (keep notDue (t .waits))) t
@@ -37,7 +37,7 @@ module _ (m : List ℕ) (d : Manager) (t : Receipts) (v : Inv m d t) where
   keeps-tick =
       kept-checked Tick m d t v [] _ (sound-inv m d t v) refl (λ c.
       record {
-        inv = rw noted (with-waits (any-queue m d t (afterTick d .waiters) (allLater (keep notDue (t .waits))) (pictured v)) (waits-tick d t (v .waits) ids));
+        inv = rw noted (with-waits (any-queue m d t (afterTick d .waiters) (allLater (keep notDue (t .waits))) (v .picture)) (waits-tick d t (v .waits) ids));
         sound = sound-status Successful refl;
       })
 

@@ -75,7 +75,7 @@ sum-is (n ∷ l) = ap (_+_ n) (sum-is l)
 -- WHAT THEY ANSWER
 module _ (m : List ℕ) (d : Manager) (t : Receipts) (v : Inv m d t) (ok : sound m d ≡ true) (id : ℕ) (e : RegionEntry) (q : t .regions id ≡ some e) where
   region-is : RegionAt m (regionOf d id) e
-  region-is = region-at m (regionOf d id) (t .regions id) e (v .regions id) q
+  region-is = region-at m (regionOf d id) (t .regions id) e (v .picture .regions id) q
 
   -- a loan's length
   pub size-answers : (p k : ℕ) → Lent (e .loans) p k → perform m d (SegmentSize id (addressIn e p)) .value ≡ k * unit e

@@ -19,7 +19,7 @@ use Rattle.trace.proofs.Regions.Ask.{size-answers, information-answers}
 
 module _ (m : List ℕ) (d : Manager) (t : Receipts) (v : Inv m d t) (id : ℕ) (e : RegionEntry) (q : t .regions id ≡ some e) where
   region-is : RegionAt m (regionOf d id) e
-  region-is = region-at m (regionOf d id) (t .regions id) e (v .regions id) q
+  region-is = region-at m (regionOf d id) (t .regions id) e (v .picture .regions id) q
 
   pub region-claims : RegionClaims (record { memory = m; manager = d; receipts = t }) id e
   region-claims =

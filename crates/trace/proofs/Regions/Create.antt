@@ -26,14 +26,14 @@ use Rattle.manager.specs.declared.Call.the-variants.{CreateRegion}
 use Rattle.manager.specs.declared.Status.the-variants.{Successful}
 use Rattle.trace.specs.Receipts.{Receipts, RegionEntry, unit, pagesIn, put}
 use Rattle.trace.specs.Trace.{region, partition}
-use Rattle.trace.proofs.Invariant.{Only, regionFor, RegionIs, RegionSlot, live, Inv}
+use Rattle.trace.proofs.Invariant.{Only, regionFor, RegionIs, RegionSlot, live, Inv, Picture, with-waits}
 use Rattle.trace.proofs.Frame.{unit-least, map-fits, map-stored, map-only, parts-inside}
 use Rattle.trace.proofs.Areas.{areaFor, overlaps-clear, region-there, region-elsewhere, areas-new-region, region-kept, partition-kept}
 use Rattle.trace.proofs.Loans.Tests.{by-eqb}
 use Rattle.trace.proofs.Loans.Words.{drawn-new, ordered-new}
 use Rattle.trace.proofs.Regions.Checks.{Passed, note-done, Kept, kept-checked, sound-status}
 use Rattle.trace.proofs.Regions.Live.{law, slot-none}
-use Rattle.trace.proofs.Regions.Picture.{Picture, with-waits, words-same}
+use Rattle.trace.proofs.Regions.Picture.{words-same}
 use Rattle.trace.proofs.Regions.Lending.{none-there, registering, waits-put}
 use Rattle.trace.proofs.Regions.Queue.{sound-inv}
 
@@ -98,30 +98,30 @@ module _ (m : List ℕ) (d : Manager) (t : Receipts) (v : Inv m d t) (name start
   module _ (within : slot < slots) (only : Only start bytes m memory) (is : RegionIs memory asked) (clear : overlaps d (areaFor (regionFor asked)) ≡ false) where
     not-there : t .regions (idOf slot) ≡ none
     not-there =
-        slot-none m (regionOf d (idOf slot)) (t .regions (idOf slot)) (v .regions (idOf slot))
-        (eqb-true (regionOf d (idOf slot) .name) 0 (index-passes noRegion (λ r. eqb (r .name) 0) (d .regions) (omega (arith, v .region-slots))))
+        slot-none m (regionOf d (idOf slot)) (t .regions (idOf slot)) (v .picture .regions (idOf slot))
+        (eqb-true (regionOf d (idOf slot) .name) 0 (index-passes noRegion (λ r. eqb (r .name) 0) (d .regions) (omega (arith, v .picture .region-slots))))
 
     slot-at : (j : ℕ) → RegionSlot memory (regionOf manager j) (put (idOf slot) (some asked) (t .regions) j)
     slot-at j =
         by-eqb j (idOf slot) (λ (b : Bool). RegionSlot memory (regionOf manager j) (cond b (some asked) (t .regions j)))
         (λ p. subst (λ (r : Region). RegionSlot memory r (some asked))
-        (sym (ap (regionOf manager) p ∙ region-there d (v .region-slots) (v .partition-slots) slot within (regionFor asked)))
+        (sym (ap (regionOf manager) p ∙ region-there d (v .picture .region-slots) (v .picture .partition-slots) slot within (regionFor asked)))
         (live asked is))
         (λ p. subst (λ (r : Region). RegionSlot memory r (t .regions j))
-        (sym (region-elsewhere d (v .region-slots) (v .partition-slots) slot within (regionFor asked) j p))
+        (sym (region-elsewhere d (v .picture .region-slots) (v .picture .partition-slots) slot within (regionFor asked) j p))
         (region-kept m memory (areaFor (regionFor asked)) (regionOf d j) (t .regions j) only
-        (overlaps-clear d (v .region-slots) (v .partition-slots) (areaFor (regionFor asked)) clear (region j)) (v .regions j)))
+        (overlaps-clear d (v .picture .region-slots) (v .picture .partition-slots) (areaFor (regionFor asked)) clear (region j)) (v .picture .regions j)))
 
     picture : Picture memory manager (registering (idOf slot) (some asked) t)
     picture =
         record {
-          words = words-same m memory (only .size) (v .words);
-          region-slots = length-set (d .regions) slot (regionFor asked) ∙ v .region-slots;
-          partition-slots = v .partition-slots;
+          words = words-same m memory (only .size) (v .picture .words);
+          region-slots = length-set (d .regions) slot (regionFor asked) ∙ v .picture .region-slots;
+          partition-slots = v .picture .partition-slots;
           regions = slot-at;
           partitions = λ j. partition-kept m memory (areaFor (regionFor asked)) (partitionOf d j) (t .partitions j) only
-              (overlaps-clear d (v .region-slots) (v .partition-slots) (areaFor (regionFor asked)) clear (partition j)) (v .partitions j);
-          areas = areas-new-region d (v .region-slots) (v .partition-slots) slot within (v .areas) (regionFor asked) clear;
+              (overlaps-clear d (v .picture .region-slots) (v .picture .partition-slots) (areaFor (regionFor asked)) clear (partition j)) (v .picture .partitions j);
+          areas = areas-new-region d (v .picture .region-slots) (v .picture .partition-slots) slot within (v .picture .areas) (regionFor asked) clear;
         }
 
     act-kept : Kept asks t (done memory manager (idOf slot))

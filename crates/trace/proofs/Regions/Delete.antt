@@ -16,7 +16,7 @@ use Rattle.manager.specs.declared.Call.the-variants.{DeleteRegion}
 use Rattle.manager.specs.declared.Status.the-variants.{Successful}
 use Rattle.trace.specs.Receipts.{Receipts, RegionEntry, put}
 use Rattle.trace.specs.Claims.{waitsIn}
-use Rattle.trace.proofs.Invariant.{regionFor, RegionSlot, empty, Inv}
+use Rattle.trace.proofs.Invariant.{regionFor, RegionSlot, empty, Inv, Picture, with-waits}
 use Rattle.trace.proofs.Areas.{OfSlot, region-slot, region-there, region-elsewhere, areas-no-region}
 use Rattle.trace.proofs.Clients.{RegionAt}
 use Rattle.trace.proofs.Loans.Tests.{by-eqb}
@@ -24,7 +24,6 @@ use Rattle.trace.proofs.Loans.Lawful.{none-held}
 use Rattle.trace.proofs.Loans.Pages.{pages}
 use Rattle.trace.proofs.Regions.Checks.{Passed, note-done, Kept, kept-checked, sound-status}
 use Rattle.trace.proofs.Regions.Live.{law, slot-entry, map-drawing}
-use Rattle.trace.proofs.Regions.Picture.{Picture, with-waits}
 use Rattle.trace.proofs.Regions.Lending.{none-lent, registering, waits-put}
 use Rattle.trace.proofs.Regions.Queue.{sound-inv}
 
@@ -32,7 +31,7 @@ module _ (m : List ℕ) (d : Manager) (t : Receipts) (v : Inv m d t) (id : ℕ) 
   module _ (e : RegionEntry) (q : t .regions id ≡ some e) (at : RegionAt m (regionOf d id) e) (h : anyHeld m (regionFor e) ≡ false) where
     slot : OfSlot id
     slot =
-        region-slot d (v .region-slots) (v .partition-slots) id
+        region-slot d (v .picture .region-slots) (v .picture .partition-slots) id
         (subst (λ (r : Region). ¬ (r .name ≡ 0)) (sym (at .region)) (at .is .named))
 
     nobody : waitsIn id (t .waits) ≡ []
@@ -42,21 +41,21 @@ module _ (m : List ℕ) (d : Manager) (t : Receipts) (v : Inv m d t) (id : ℕ) 
     slot-at j =
         by-eqb j id (λ (b : Bool). RegionSlot m (regionOf (withRegion d (slotOf id) noRegion) j) (cond b none (t .regions j)))
         (λ p. subst (λ (r : Region). RegionSlot m r none)
-        (sym (ap (regionOf (withRegion d (slotOf id) noRegion)) (p ∙ sym (slot .is)) ∙ region-there d (v .region-slots) (v .partition-slots) (slotOf id) (slot .within) noRegion))
+        (sym (ap (regionOf (withRegion d (slotOf id) noRegion)) (p ∙ sym (slot .is)) ∙ region-there d (v .picture .region-slots) (v .picture .partition-slots) (slotOf id) (slot .within) noRegion))
         empty)
         (λ p. subst (λ (r : Region). RegionSlot m r (t .regions j))
-        (sym (region-elsewhere d (v .region-slots) (v .partition-slots) (slotOf id) (slot .within) noRegion j (λ (x : j ≡ idOf (slotOf id)). p (x ∙ slot .is))))
-        (v .regions j))
+        (sym (region-elsewhere d (v .picture .region-slots) (v .picture .partition-slots) (slotOf id) (slot .within) noRegion j (λ (x : j ≡ idOf (slotOf id)). p (x ∙ slot .is))))
+        (v .picture .regions j))
 
     picture : Picture m (withRegion d (slotOf id) noRegion) (registering id none t)
     picture =
         record {
-          words = v .words;
-          region-slots = length-set (d .regions) (slotOf id) noRegion ∙ v .region-slots;
-          partition-slots = v .partition-slots;
+          words = v .picture .words;
+          region-slots = length-set (d .regions) (slotOf id) noRegion ∙ v .picture .region-slots;
+          partition-slots = v .picture .partition-slots;
           regions = slot-at;
-          partitions = v .partitions;
-          areas = areas-no-region d (v .region-slots) (v .partition-slots) (slotOf id) (slot .within) (v .areas);
+          partitions = v .picture .partitions;
+          areas = areas-no-region d (v .picture .region-slots) (v .picture .partition-slots) (slotOf id) (slot .within) (v .picture .areas);
         }
 
     act-kept : Kept (DeleteRegion id) t (done m (withRegion d (slotOf id) noRegion) 0)
@@ -72,5 +71,5 @@ module _ (m : List ℕ) (d : Manager) (t : Receipts) (v : Inv m d t) (id : ℕ) 
   unfolding deleteRegion lists.every Passed
   keeps-delete =
       kept-checked (DeleteRegion id) m d t v _ _ (sound-inv m d t v) refl
-      (λ c. let s = slot-entry m (regionOf d id) (t .regions id) (v .regions id) (c .0) in
+      (λ c. let s = slot-entry m (regionOf d id) (t .regions id) (v .picture .regions id) (c .0) in
       act-kept (s .0) (s .1) (s .2) (subst (λ (r : Region). anyHeld m r ≡ false) (s .2 .region) (c .1 .0)))

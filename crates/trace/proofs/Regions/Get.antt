@@ -30,7 +30,7 @@ use Rattle.manager.specs.declared.Call.the-variants.{GetSegment}
 use Rattle.manager.specs.declared.Status.the-variants.{Successful, Unsatisfied, Waiting}
 use Rattle.trace.specs.Loans.{Loan, enter, Held, Run, Lowest}
 use Rattle.trace.specs.Receipts.{Receipts, RegionEntry, Wait, unit, pagesIn, addressIn, lend, withLoans}
-use Rattle.trace.proofs.Invariant.{regionFor, RegionIs, WaitIs, Inv}
+use Rattle.trace.proofs.Invariant.{regionFor, RegionIs, WaitIs, Inv, with-waits}
 use Rattle.trace.proofs.Frame.{region-unit}
 use Rattle.trace.proofs.Clients.{RegionAt, region-at}
 use Rattle.trace.proofs.Held.{page-address}
@@ -39,7 +39,7 @@ use Rattle.trace.proofs.Loans.Pages.{pages}
 use Rattle.trace.proofs.Queue.Enter.{new-waiter, new-time}
 use Rattle.trace.proofs.Regions.Checks.{Passed, refuses, acts, note-done, note-waiting, Kept, kept-refused, kept-checked, sound-status}
 use Rattle.trace.proofs.Regions.Live.{law, slot-entry, not-dead, map-drawing}
-use Rattle.trace.proofs.Regions.Picture.{lending, on-region, pictured, with-waits, any-queue, changed-map}
+use Rattle.trace.proofs.Regions.Picture.{lending, on-region, any-queue, changed-map}
 use Rattle.trace.proofs.Regions.Lending.{waits-lent, enter-some}
 use Rattle.trace.proofs.Regions.Queue.{sound-inv, wait-inv}
 
@@ -104,7 +104,7 @@ module _ (m : List ℕ) (d : Manager) (t : Receipts) (v : Inv m d t) (id size : 
       waits-kept c =
           record {
             inv = rw (note-waiting asks m (enqueue d waiter) t 0 Waiting refl refl)
-                (with-waits (any-queue m d t (enqueue d waiter .waiters) (t .waits ++ (entry ∷ [])) (pictured v))
+                (with-waits (any-queue m d t (enqueue d waiter .waiters) (t .waits ++ (entry ∷ [])) (v .picture))
                 (rw (new-waiter task id size priority ticks) at (wait-inv m d t v entry (entry-is c) (c .1 .1 .1 .1 .0))));
             sound = sound-status Waiting refl;
           }
@@ -122,7 +122,7 @@ module _ (m : List ℕ) (d : Manager) (t : Receipts) (v : Inv m d t) (id size : 
             note-done asks (withSegments m (regionFor e) s) d t (addressIn e p) Successful refl,
             on-region id e t (lend (addressIn e p) size) (enter p wants (e .loans)) q (lend-page m e is p size),
           )
-              (with-waits (changed-map m d t (pictured v) id e q (enter p wants (e .loans)) s w)
+              (with-waits (changed-map m d t (v .picture) id e q (enter p wants (e .loans)) s w)
               (waits-lent t id e q (enter p wants (e .loans)) d (v .waits) (inl (enter-some p wants (e .loans)))));
           sound = sound-status Successful refl;
         }
@@ -140,7 +140,7 @@ module _ (m : List ℕ) (d : Manager) (t : Receipts) (v : Inv m d t) (id size : 
   unfolding getSegment every Passed
   keeps-get =
       kept-checked asks m d t v _ _ (sound-inv m d t v) (wait-refuses d wait task priority)
-      (λ c. let s = slot-entry m (regionOf d id) (t .regions id) (v .regions id) (c .1 .0) in
+      (λ c. let s = slot-entry m (regionOf d id) (t .regions id) (v .picture .regions id) (c .1 .0) in
       subst (λ (r : Region). Kept asks t (getting m d wait waiter r (pagesAsked r size))) (sym (s .2 .region))
       (act-kept (s .0) (s .1) (s .2 .is) (let y = eqb-false size 0 (c .0) in omega arith)
       (subst (λ (r : Region). pagesAsked r size ≤ pagesOf r) (s .2 .region) (ltb-false (pagesOf (regionOf d id)) (pagesAsked (regionOf d id) size) (c .1 .1 .0)))
@@ -154,7 +154,7 @@ module _ (m : List ℕ) (d : Manager) (t : Receipts) (v : Inv m d t) (ok : sound
   at-once = perform m d (GetSegment id size No task priority ticks)
 
   region-is : RegionAt m (regionOf d id) e
-  region-is = region-at m (regionOf d id) (t .regions id) e (v .regions id) q
+  region-is = region-at m (regionOf d id) (t .regions id) e (v .picture .regions id) q
 
   gets : Gets pages (pagesIn e) (e .loans) (pagesFor size (unit e)) (placed m (regionFor e) (pagesFor size (unit e)))
       (kind (regionFor e) .take (pagesFor size (unit e)) (segments m (regionFor e)))

@@ -8,17 +8,17 @@ use Prim.Native.Nat.{ℕ}
 use native.Mathlib.Omega.{arith}
 use lib.ListN.{length}
 use borrow.Author.Tests.{eq-eqb, ne-eqb}
-use Rattle.manager.specs.Record.{slots, regionOf, partitionOf, withQueue}
+use Rattle.manager.specs.Record.{regionOf, partitionOf, withQueue}
 use Rattle.manager.specs.Map.{Segment, draw}
 use Rattle.manager.specs.Region.{withSegments}
-use Rattle.manager.specs.Sound.{soundLength, soundAreas}
+use Rattle.manager.specs.Sound.{soundLength}
 use Rattle.manager.specs.declared.Manager.{Manager}
 use Rattle.manager.specs.declared.Region.{Region}
 use Rattle.manager.specs.declared.Waiter.{Waiter}
 use Rattle.trace.specs.Loans.{Loan, Ordered, drawn}
 use Rattle.trace.specs.Receipts.{Receipts, RegionEntry, Wait, pagesIn, put, mapOption, onRegion, withLoans, withWaits}
 use Rattle.trace.specs.Trace.{Object, region, partition}
-use Rattle.trace.proofs.Invariant.{Only, regionFor, RegionSlot, live, PartitionSlot, Waits, Inv}
+use Rattle.trace.proofs.Invariant.{Only, regionFor, RegionSlot, live, Picture}
 use Rattle.trace.proofs.Frame.{map-only, region-redrawn, region-unit}
 use Rattle.trace.proofs.Areas.{areaFor, areaIn, Clear, sound-clear, region-kept, partition-kept}
 use Rattle.trace.proofs.Loans.Tests.{by-eqb}
@@ -65,37 +65,6 @@ module _ (id : ℕ) (e : RegionEntry) (t : Receipts) where
       (put-same id (some e) (t .regions) q)
 
 -- ---- the picture
-
-pub record Picture (m : List ℕ) (d : Manager) (t : Receipts) : Type 0 where
-  pub words : soundLength m ≡ true
-  pub region-slots : length (d .regions) ≡ slots
-  pub partition-slots : length (d .partitions) ≡ slots
-  pub regions : (id : ℕ) → RegionSlot m (regionOf d id) (t .regions id)
-  pub partitions : (id : ℕ) → PartitionSlot m (partitionOf d id) (t .partitions id)
-  pub areas : soundAreas d ≡ true
-
-pub pictured : {m : List ℕ} {d : Manager} {t : Receipts} → Inv m d t → Picture m d t
-pictured v =
-    record {
-      words = v .words;
-      region-slots = v .region-slots;
-      partition-slots = v .partition-slots;
-      regions = v .regions;
-      partitions = v .partitions;
-      areas = v .areas;
-    }
-
-pub with-waits : {m : List ℕ} {d : Manager} {t : Receipts} → Picture m d t → Waits d t → Inv m d t
-with-waits v w =
-    record {
-      words = v .words;
-      region-slots = v .region-slots;
-      partition-slots = v .partition-slots;
-      regions = v .regions;
-      partitions = v .partitions;
-      areas = v .areas;
-      waits = w;
-    }
 
 -- it does not rest on the queue, nor on the waits
 pub any-queue : (m : List ℕ) (d : Manager) (t : Receipts) (q : List Waiter) (w : List Wait) → Picture m d t → Picture m (withQueue d q) (withWaits w t)

@@ -16,7 +16,7 @@ use Rattle.manager.specs.declared.Region.{Region}
 use Rattle.trace.specs.Loans.{Loan, loan}
 use Rattle.trace.specs.Receipts.{Receipts, RegionEntry, Wait, withLoans, withWaits, pagesIn}
 use Rattle.trace.specs.Claims.{waitsIn, queueOf, waiterOf, waitersOf, waitersFor}
-use Rattle.trace.proofs.Invariant.{regionFor, RegionIs, WaitIs, Waits, Inv}
+use Rattle.trace.proofs.Invariant.{regionFor, RegionIs, WaitIs, Waits, Inv, Picture}
 use Rattle.trace.proofs.Areas.{region-slot}
 use Rattle.trace.proofs.Clients.{region-at}
 use Rattle.trace.proofs.Sound.{inv-sound}
@@ -30,7 +30,7 @@ use Rattle.trace.proofs.Queue.Shown.{Ids, queued, few-waits, waiters-fo
 use Rattle.trace.proofs.Queue.Enter.{waits-entered}
 use Rattle.trace.proofs.Queue.Sound.{Waitable, sound-queue}
 use Rattle.trace.proofs.Regions.Live.{law, not-dead, map-drawing}
-use Rattle.trace.proofs.Regions.Picture.{put-else, lending, Picture, pictured}
+use Rattle.trace.proofs.Regions.Picture.{put-else, lending}
 
 -- ---- ids
 
@@ -59,7 +59,7 @@ module _ (m : List ℕ) (d : Manager) (t : Receipts) (v : Inv m d t) where
   waitable : (w : Wait) → In w (t .waits) → Waitable m d t w
   waitable w i =
       let a = all-in t (t .waits) (v .waits .all) w i in
-      let r = region-at m (regionOf d (w .id)) (t .regions (w .id)) (a .entry) (v .regions (w .id)) (a .found) in
+      let r = region-at m (regionOf d (w .id)) (t .regions (w .id)) (a .entry) (v .picture .regions (w .id)) (a .found) in
       record {
         alive = rw (r .region) (not-dead m (a .entry) (r .is));
         order = ap (λ (x : Region). x .order) (r .region) ∙ ap orderIn (sym (a .found));
@@ -69,17 +69,17 @@ module _ (m : List ℕ) (d : Manager) (t : Receipts) (v : Inv m d t) where
 
   -- A PICTURED RECORD IS SOUND
   pub sound-inv : sound m d ≡ true
-  sound-inv = inv-sound m d t v (sound-queue m d t (v .waits) (region-ids m d t (pictured v)) waitable)
+  sound-inv = inv-sound m d t v (sound-queue m d t (v .waits) (region-ids m d t (v .picture)) waitable)
 
   -- a region's waiters are its queue by the receipts
   pub queue-inv : (id : ℕ) (e : RegionEntry) → t .regions id ≡ some e → waitersFor id (d .waiters) ≡ waitersOf (queueOf id e t)
-  queue-inv id e q = waiters-for slots tasks t (queued d t (v .waits) (region-ids m d t (pictured v))) d (v .waits .queue) id e q
+  queue-inv id e q = waiters-for slots tasks t (queued d t (v .waits) (region-ids m d t (v .picture))) d (v .waits .queue) id e q
 
   -- a wait entered
   pub wait-inv : (w : Wait) → WaitIs t w → waiting d (w .task) ≡ false → Waits (enqueue d (waiterOf w)) (withWaits (t .waits ++ (w ∷ [])) t)
   wait-inv w a n =
-      let i = region-ids m d t (pictured v) in
-      let r = region-at m (regionOf d (w .id)) (t .regions (w .id)) (a .entry) (v .regions (w .id)) (a .found) in
+      let i = region-ids m d t (v .picture) in
+      let r = region-at m (regionOf d (w .id)) (t .regions (w .id)) (a .entry) (v .picture .regions (w .id)) (a .found) in
       waits-entered d t w (v .waits) i a (ap (λ (x : Region). x .order) (r .region))
       (λ h. true-false (waiting d (w .task)) (task-waits slots tasks t (queued d t (v .waits) i) d (v .waits .queue) (w .task) h) n)
 

@@ -24,7 +24,7 @@ use Rattle.manager.specs.declared.Call.the-variants.{ResizeSegment}
 use Rattle.manager.specs.declared.Status.the-variants.{Successful, Unsatisfied}
 use Rattle.trace.specs.Loans.{Loan, amend, Lent, Room}
 use Rattle.trace.specs.Receipts.{Receipts, RegionEntry, unit, pagesIn, addressIn, pageIn, refit}
-use Rattle.trace.proofs.Invariant.{regionFor, RegionIs, Inv}
+use Rattle.trace.proofs.Invariant.{regionFor, RegionIs, Inv, with-waits}
 use Rattle.trace.proofs.Frame.{region-unit}
 use Rattle.trace.proofs.Clients.{RegionAt, region-at}
 use Rattle.trace.proofs.Held.{page-address, loan-held}
@@ -35,7 +35,7 @@ use Rattle.trace.proofs.Loans.Lawful.{Drawing}
 use Rattle.trace.proofs.Loans.Pages.{pages}
 use Rattle.trace.proofs.Regions.Checks.{Passed, acts, note-done, Kept, kept-refused, kept-checked, sound-status}
 use Rattle.trace.proofs.Regions.Live.{law, slot-entry, not-dead, map-drawing, lent-held}
-use Rattle.trace.proofs.Regions.Picture.{on-region, pictured, with-waits, changed-map}
+use Rattle.trace.proofs.Regions.Picture.{on-region, changed-map}
 use Rattle.trace.proofs.Regions.Lending.{waits-lent, lent-list}
 use Rattle.trace.proofs.Regions.Queue.{sound-inv}
 
@@ -69,7 +69,7 @@ module _ (m : List ℕ) (d : Manager) (t : Receipts) (v : Inv m d t) (id a size 
             note-done (ResizeSegment id a size) (withSegments m (regionFor e) s) d t n Successful refl,
             on-region id e t (refit a size) other q refl,
           )
-              (with-waits (changed-map m d t (pictured v) id e q other s w)
+              (with-waits (changed-map m d t (v .picture) id e q other s w)
               (waits-lent t id e q other d (v .waits) (inl (lent-list other (pageIn e a) wants other-lent))));
           sound = sound-status Successful refl;
         }
@@ -86,7 +86,7 @@ module _ (m : List ℕ) (d : Manager) (t : Receipts) (v : Inv m d t) (id a size 
   unfolding resizeSegment every Passed
   keeps-resize =
       kept-checked (ResizeSegment id a size) m d t v _ _ (sound-inv m d t v) refl
-      (λ c. let s = slot-entry m (regionOf d id) (t .regions id) (v .regions id) (c .1 .0) in
+      (λ c. let s = slot-entry m (regionOf d id) (t .regions id) (v .picture .regions id) (c .1 .0) in
       let h = lent-held m (s .0) (s .2 .is) a (subst (λ (r : Region). eqb (heldAt m r a) 0 ≡ false) (s .2 .region) (c .1 .1 .0)) in
       subst (λ (r : Region). Kept (ResizeSegment id a size) t (resizing m d a r (pagesAsked r size))) (sym (s .2 .region))
       (act-kept (s .0) (s .1) (s .2 .is) (let y = eqb-false size 0 (c .0) in omega arith) _ (h .lent)))
@@ -95,7 +95,7 @@ module _ (m : List ℕ) (d : Manager) (t : Receipts) (v : Inv m d t) (id a size 
 module _ (m : List ℕ) (d : Manager) (t : Receipts) (v : Inv m d t) (ok : sound m d ≡ true) (id : ℕ) (e : RegionEntry) (q : t .regions id ≡ some e)
     (p k size : ℕ) (x : Lent (e .loans) p k) (z : 0 < size) where
   region-is : RegionAt m (regionOf d id) e
-  region-is = region-at m (regionOf d id) (t .regions id) e (v .regions id) q
+  region-is = region-at m (regionOf d id) (t .regions id) e (v .picture .regions id) q
 
   resize-is : perform m d (ResizeSegment id (addressIn e p) size) ≡ resizing m d (addressIn e p) (regionFor e) (pagesFor size (unit e))
   unfolding perform resizeSegment Passed

@@ -27,7 +27,7 @@ use Rattle.trace.proofs.Held.{page-address, loan-held}
 use Rattle.trace.proofs.Loans.Drawn.{lent-some}
 use Rattle.trace.proofs.Regions.Checks.{Passed, acts, Kept, kept-checked, sound-status}
 use Rattle.trace.proofs.Regions.Live.{law, slot-entry, not-dead, map-drawing, lent-held}
-use Rattle.trace.proofs.Regions.Picture.{put-here, lending, on-region, lending-again, pictured, changed-map}
+use Rattle.trace.proofs.Regions.Picture.{put-here, lending, on-region, lending-again, changed-map}
 use Rattle.trace.proofs.Regions.Lending.{waits-lent}
 use Rattle.trace.proofs.Regions.Queue.{sound-inv, region-ids, few-queue}
 use Rattle.trace.proofs.Regions.Serve.{Outcome, Serving, something, served}
@@ -49,7 +49,7 @@ module _ (m : List ℕ) (d : Manager) (t : Receipts) (v : Inv m d t) (id a : ℕ
           (lending id e rest t) rest (queueOf id e t)
       serving =
           record {
-            picture = changed-map m d t (pictured v) id e q rest _ (law (regionFor e) .returned (map-drawing m e (at .is)) (pageIn e a) k x);
+            picture = changed-map m d t (v .picture) id e q rest _ (law (regionFor e) .returned (map-drawing m e (at .is)) (pageIn e a) k x);
             entry = put-here id (some (withLoans rest e)) (t .regions);
             waits = rw (lending-again id e t rest something)
                 (waits-lent t id e q something d (v .waits) (inl (λ (n : something ≡ []). let z : _≡_ {A = ℕ} 0 1 = cc in omega arith)));
@@ -58,14 +58,14 @@ module _ (m : List ℕ) (d : Manager) (t : Receipts) (v : Inv m d t) (id a : ℕ
 
       outcome : Outcome e rest (queueOf id e t) (onRegion id (giveBack a) t) (returning m d id a (regionFor e))
       unfolding serve
-      outcome = rw struck (served id e tasks _ d _ rest (queueOf id e t) serving (few-queue d t id e (v .waits) (region-ids m d t (pictured v)) q))
+      outcome = rw struck (served id e tasks _ d _ rest (queueOf id e t) serving (few-queue d t id e (v .waits) (region-ids m d t (v .picture)) q))
 
   -- A RETURN KEEPS THE PICTURE
   pub keeps-return : Kept (ReturnSegment id a) t (returnSegment m d id a)
   unfolding returnSegment every Passed note
   keeps-return =
       kept-checked (ReturnSegment id a) m d t v _ _ (sound-inv m d t v) refl
-      (λ c. let s = slot-entry m (regionOf d id) (t .regions id) (v .regions id) (c .0) in
+      (λ c. let s = slot-entry m (regionOf d id) (t .regions id) (v .picture .regions id) (c .0) in
       let h = lent-held m (s .0) (s .2 .is) a (subst (λ (r : Region). eqb (heldAt m r a) 0 ≡ false) (s .2 .region) (c .1 .0)) in
       subst (λ (r : Region). Kept (ReturnSegment id a) t (fromServed (returning m d id a r))) (sym (s .2 .region))
       (record {
@@ -77,7 +77,7 @@ module _ (m : List ℕ) (d : Manager) (t : Receipts) (v : Inv m d t) (id a : ℕ
 module _ (m : List ℕ) (d : Manager) (t : Receipts) (v : Inv m d t) (id : ℕ) (e : RegionEntry) (q : t .regions id ≡ some e)
     (p k : ℕ) (x : Lent (e .loans) p k) where
   region-is : RegionAt m (regionOf d id) e
-  region-is = region-at m (regionOf d id) (t .regions id) e (v .regions id) q
+  region-is = region-at m (regionOf d id) (t .regions id) e (v .picture .regions id) q
 
   return-is : perform m d (ReturnSegment id (addressIn e p)) ≡ fromServed (returning m d id (addressIn e p) (regionFor e))
   unfolding perform returnSegment Passed

@@ -22,7 +22,7 @@ use Rattle.manager.specs.declared.Place.{Place}
 use Rattle.trace.specs.Loans.{Loan, loan, enter}
 use Rattle.trace.specs.Receipts.{Receipts, RegionEntry, Wait, unit, pagesIn, addressIn, lend, onRegion, withLoans, put, withWaits, without, noticed, allNoticed}
 use Rattle.trace.specs.Claims.{queueOf, waitsIn, waiterOf, Grants, all, stop, grant}
-use Rattle.trace.proofs.Invariant.{regionFor, WaitIs, Waits, Inv}
+use Rattle.trace.proofs.Invariant.{regionFor, WaitIs, Waits, Inv, Picture, with-waits}
 use Rattle.trace.proofs.Frame.{region-unit}
 use Rattle.trace.proofs.Clients.{RegionAt, region-at}
 use Rattle.trace.proofs.Loans.Lawful.{Drawing, Gets, given, nothing}
@@ -31,7 +31,7 @@ use Rattle.trace.proofs.Queue.Tasks.{all-in}
 use Rattle.trace.proofs.Queue.Shown.{Ids, queued}
 use Rattle.trace.proofs.Queue.Grant as queue
 use Rattle.trace.proofs.Regions.Live.{law, map-drawing}
-use Rattle.trace.proofs.Regions.Picture.{put-here, lending, on-region, lending-again, lending-same, Picture, with-waits, any-queue, changed-map}
+use Rattle.trace.proofs.Regions.Picture.{put-here, lending, on-region, lending-again, lending-same, any-queue, changed-map}
 use Rattle.trace.proofs.Regions.Lending.{none-arranged, waits-lent}
 use Rattle.trace.proofs.Regions.Queue.{region-ids, lending-ids}
 use Rattle.trace.proofs.Regions.Get.{empty-run, lend-page}
