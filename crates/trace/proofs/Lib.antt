@@ -15,3 +15,4 @@ pub mod Partitions
 pub mod Recover
 pub mod Theorem
 pub mod Kept
+pub mod Replies

@@ -24,6 +24,8 @@ use Rattle.trace.proofs.Regions.Return.{keeps-return}
 use Rattle.trace.proofs.Regions.Resize.{keeps-resize}
 use Rattle.trace.proofs.Regions.Claims.{region-claims}
 use Rattle.trace.proofs.Queue.Clock.{keeps-tick, tick-sends}
+use Rattle.trace.proofs.Replies.{replies}
+use Rattle.trace.proofs.Replies.Access.{replies-write, reads}
 use Rattle.trace.proofs.Partitions.Claims.{partition-keeps, partition-claims}
 
 -- a call of any directive
@@ -54,6 +56,9 @@ module _ (s : State) (v : Inv (s .memory) (s .manager) (s .receipts)) where
   pub claims : Claims s
   claims =
       record {
+        replies = replies (s .memory) (s .manager) (s .receipts) v;
+        replies-write = replies-write (s .memory) (s .manager) (s .receipts) v;
+        reads = reads (s .memory) (s .manager) (s .receipts) v;
         region = region-claims (s .memory) (s .manager) (s .receipts) v;
         partition = partition-claims (s .memory) (s .manager) (s .receipts) v (sound-inv _ _ _ v);
         apart = apart (s .memory) (s .manager) (s .receipts) v;

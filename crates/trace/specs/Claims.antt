@@ -1,13 +1,13 @@
 -- Document 01, demand 3: what holds after every list of calls, a field for each sentence. "By the receipts" is said by the receipts
 -- alone. Assumes nothing.
 use mathlib.Core.Path.{_≡_}
-use mathlib.Core.Bool.{Bool, false, cond, not, _&&_}
-use mathlib.Core.List.{List, [], _∷_, _++_}
+use mathlib.Core.Bool.{cond, not, _&&_}
+use mathlib.Core.List.{List, [], _∷_}
 use mathlib.Core.Logic.{_⊎_, _↔_}
-use mathlib.Core.Option.{Option, none, some}
-use Prim.Native.Nat.{ℕ, zero, suc, _+_, _-_, _*_, _≤_, _<_}
+use mathlib.Core.Option.{some}
+use Prim.Native.Nat.{ℕ, _+_, _-_, _*_, _≤_, _<_}
 use lib.ListN.{length}
-use lib.Dec.{eqb, ltb}
+use lib.Dec.{eqb}
 use Rattle.arith.specs.Round.{pagesFor}
 use Rattle.manager.specs.Record.{slots, mostWords, regionOf, partitionOf}
 use Rattle.manager.specs.Map.{Segment, free, held, draw}
@@ -17,36 +17,15 @@ use Rattle.manager.specs.Access.{readSegment, writeSegment}
 use Rattle.manager.specs.Perform.{perform}
 use Rattle.manager.specs.declared.Waiter.{Waiter}
 use Rattle.manager.specs.declared.Notice.{Notice}
-use Rattle.manager.specs.declared.Information.{Information}
 use Rattle.manager.specs.declared.Call.{Call}
 use Rattle.manager.specs.declared.Call.the-variants.{GetSegment, ReturnSegment, SegmentSize, ResizeSegment, RegionInformation, GetBuffer, Tick}
 use Rattle.manager.specs.declared.Wait.the-variants.{No}
-use Rattle.manager.specs.declared.Order.{Order}
-use Rattle.manager.specs.declared.Order.the-variants.{Fifo, Priority}
-use Rattle.manager.specs.declared.Status.the-variants.{Successful, Timeout, Unsatisfied, InternalError}
-use Rattle.trace.specs.Loans.{Loan, Lent, Run, Lowest, Room, Ordered, drawn, loanPages, runs, most, sum, enter, amend}
-use Rattle.trace.specs.Receipts.{Receipts, RegionEntry, PartitionEntry, Wait, unit, pagesIn, addressIn, buffersIn, buffersFrom, Within, Distinct}
+use Rattle.manager.specs.declared.Status.the-variants.{Successful, Unsatisfied, InternalError}
+use Rattle.trace.specs.Loans.{Loan, Lent, Run, Lowest, Room, Ordered, drawn, loanPages, sum, enter, amend}
+use Rattle.trace.specs.Receipts.{RegionEntry, PartitionEntry, Wait, replyOf, unit, pagesIn, addressIn, buffersIn, buffersFrom, Within, Distinct}
+unfoldable pub use Rattle.trace.specs.Replies.{waitsIn, urgentThan, behind, arranged, queueOf, dueIn, dueOf, dueFrom, informationIn}
+use Rattle.trace.specs.Replies.{byReceipts, writeByReceipts, readByReceipts}
 use Rattle.trace.specs.Trace.{State, Object, Loaned, Runs, start}
-
--- THE QUEUE BY THE RECEIPTS: a region's waits, by arrival, or by priority and equal ones by arrival
-unfoldable pub waitsIn : ℕ → List Wait → List Wait
-waitsIn id [] = []
-waitsIn id (w ∷ ws) = cond (eqb (w .id) id) (w ∷ waitsIn id ws) (waitsIn id ws)
-
-abbrev pub urgentThan : Order → Wait → Wait → Bool
-urgentThan Fifo w x = false
-urgentThan Priority w x = ltb (w .priority) (x .priority)
-
-unfoldable pub behind : Order → Wait → List Wait → List Wait
-behind o w [] = w ∷ []
-behind o w (x ∷ xs) = cond (urgentThan o w x) (w ∷ x ∷ xs) (x ∷ behind o w xs)
-
-unfoldable pub arranged : Order → List Wait → List Wait → List Wait
-arranged o q [] = q
-arranged o q (w ∷ ws) = arranged o (behind o w q) ws
-
-abbrev pub queueOf : ℕ → RegionEntry → Receipts → List Wait
-queueOf id e t = arranged (e .order) [] (waitsIn id (t .waits))
 
 -- a wait as the record keeps it: with the ticks that it has left
 abbrev pub left : Wait → ℕ
@@ -71,34 +50,6 @@ pub data Grants (e : RegionEntry) : List Loan → List Wait → List Notice → 
   grant : {l : List Loan} {w : Wait} {ws : List Wait} {ns : List Notice} {p : ℕ} → Lowest (pagesIn e) l (pagesFor (w .size) (unit e)) p
       → Grants e (enter p (pagesFor (w .size) (unit e)) l) ws ns
       → Grants e l (w ∷ ws) (record { task = w .task; status = Successful; address = addressIn e p } ∷ ns)
-
--- TIME-OUTS BY THE RECEIPTS: the waits whose ticks run out at this tick, by the ticks counted since they began; regions in order
-unfoldable pub dueIn : List Wait → List Notice
-dueIn [] = []
-dueIn (w ∷ ws) =
-    cond (eqb (w .ticks) (w .since + 1)) (record { task = w .task; status = Timeout; address = 0 } ∷ dueIn ws) (dueIn ws)
-
-abbrev pub dueOf : ℕ → Option RegionEntry → Receipts → List Notice
-dueOf id none t = []
-dueOf id (some e) t = dueIn (queueOf id e t)
-
-unfoldable pub dueFrom : ℕ → ℕ → Receipts → List Notice
-dueFrom zero id t = []
-dueFrom (suc n) id t = dueOf id (t .regions id) t ++ dueFrom n (suc id) t
-
--- INFORMATION BY THE RECEIPTS: count, largest and total bytes over the runs of unheld pages, then over the loans
-abbrev pub informationIn : RegionEntry → Information
-informationIn e =
-    let frees = runs (pagesIn e) 0 (e .loans) in
-    let helds = loanPages (e .loans) in
-    record {
-      «free_count» = length frees;
-      «free_largest» = most frees * unit e;
-      «free_total» = sum frees * unit e;
-      «held_count» = length helds;
-      «held_largest» = most helds * unit e;
-      «held_total» = sum helds * unit e;
-    }
 
 -- the pages free in a map
 unfoldable pub freePages : List Segment → ℕ
@@ -156,6 +107,12 @@ pub record PartitionClaims (s : State) (id : ℕ) (e : PartitionEntry) : Type 0 
 
 -- DEMAND 3
 pub record Claims (s : State) : Type 0 where
+  -- every call is answered as the receipts say: status, value, information and notices. So is a write, and a read hands back the words
+  -- of the loan at its address
+  pub replies : (c : Call) → replyOf (perform (s .memory) (s .manager) c) ≡ byReceipts (length (s .memory)) (s .receipts) c
+  pub replies-write : (id address first : ℕ) (words : List ℕ)
+      → replyOf (writeSegment (s .memory) (s .manager) id address first words) ≡ writeByReceipts (s .receipts) id address first words
+  pub reads : (id address : ℕ) → readSegment (s .memory) (s .manager) id address ≡ readByReceipts (s .memory) (s .receipts) id address
   pub region : (id : ℕ) (e : RegionEntry) → s .receipts .regions id ≡ some e → RegionClaims s id e
   pub partition : (id : ℕ) (e : PartitionEntry) → s .receipts .partitions id ≡ some e → PartitionClaims s id e
   -- no two loans share a byte, of whatever objects

@@ -1,4 +1,6 @@
 pub mod Loans
 pub mod Receipts
+pub mod Replies
+pub mod Examples
 pub mod Trace
 pub mod Claims

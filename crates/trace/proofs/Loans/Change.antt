@@ -24,7 +24,7 @@ held-gap n p at zero l = rw add-zero
 held-gap n p at (suc g) [] = refl
 held-gap n p at (suc g) (loan a m ∷ l) = refl
 
-reach-gap : (n p at g : ℕ) (l : List Loan) → reachFrom p at (free+ g (onward n l)) ≡ reachFrom p (at + g) (onward n l)
+pub reach-gap : (n p at g : ℕ) (l : List Loan) → reachFrom p at (free+ g (onward n l)) ≡ reachFrom p (at + g) (onward n l)
 unfolding free+ reachFrom
 reach-gap n p at zero l = rw add-zero
 reach-gap n p at (suc g) [] = refl
@@ -51,7 +51,7 @@ module _ (n p at a m : ℕ) (l : List Loan) (o : Ordered n at (loan a m ∷ l)) 
   unfolding heldFrom
   held-first = rw (drawn-next n at (loan a m ∷ l), held-gap n p at (a - at) (loan a m ∷ l), there)
 
-  reach-first : reachFrom p at (drawn n at (loan a m ∷ l)) ≡ cond (eqb a p) (mostAt n a m l) (reachFrom p (a + m) (drawn n (a + m) l))
+  pub reach-first : reachFrom p at (drawn n at (loan a m ∷ l)) ≡ cond (eqb a p) (mostAt n a m l) (reachFrom p (a + m) (drawn n (a + m) l))
   unfolding reachFrom
   reach-first =
       let e : lead (drawn n (a + m) l) ≡ next n l - (a + m) = ap lead (drawn-next n (a + m) l) ∙ lead-onward (next n l - (a + m)) n l in

@@ -24,7 +24,7 @@ pub data Got (n at : ℕ) (l : List Loan) (k : ℕ) : Place → List Segment →
   none : {s : List Segment} → s ≡ drawn n at l → ((q : ℕ) → at ≤ q → ¬ Run n l k q) → Got n at l k Nowhere s
 
 -- past the free pages in front
-place-gap : (n k at g : ℕ) (l : List Loan) → 0 < k → placeFrom k at (free+ g (onward n l)) ≡ cond (leb k g) (At at) (placeFrom k (at + g) (onward n l))
+pub place-gap : (n k at g : ℕ) (l : List Loan) → 0 < k → placeFrom k at (free+ g (onward n l)) ≡ cond (leb k g) (At at) (placeFrom k (at + g) (onward n l))
 unfolding free+ placeFrom
 place-gap n k at zero l h = rw (add-zero, lt-leb k 0 h)
 place-gap n k at (suc g) [] h = refl

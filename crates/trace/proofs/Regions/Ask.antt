@@ -23,7 +23,7 @@ use Rattle.manager.specs.declared.Status.the-variants.{Successful}
 use Rattle.trace.specs.Loans.{Lent, runs, loanPages, most, sum}
 use Rattle.trace.specs.Receipts.{Receipts, RegionEntry, unit, pagesIn, addressIn, entered, note, allNoticed}
 use Rattle.trace.specs.Claims.{informationIn}
-use Rattle.trace.proofs.Invariant.{regionFor, Inv}
+use Rattle.trace.proofs.Invariant.{regionFor, RegionIs, Inv}
 use Rattle.trace.proofs.Clients.{RegionAt, region-at}
 use Rattle.trace.proofs.Held.{loan-held}
 use Rattle.trace.proofs.Loans.Drawn.{lent-some}
@@ -72,6 +72,17 @@ unfolding sumOf sum
 sum-is [] = refl
 sum-is (n ∷ l) = ap (_+_ n) (sum-is l)
 
+-- count, largest and total bytes over a map, by its loans
+pub information-is : (m : List ℕ) (e : RegionEntry) → RegionIs m e
+    → informationOf (unit e) (freeSizes (segments m (regionFor e))) (heldSizes (segments m (regionFor e))) ≡ informationIn e
+information-is m e is =
+    let w = map-drawing m e is in
+    let frees = runs (pagesIn e) 0 (e .loans) in
+    let helds = loanPages (e .loans) in
+    ap (λ (l : List ℕ). informationOf (unit e) (freeSizes (segments m (regionFor e))) l) (law (regionFor e) .held-pages w)
+    ∙ ap (λ (l : List ℕ). informationOf (unit e) l helds) (law (regionFor e) .free-runs w)
+    ∙ rw (most-is frees, sum-is frees, most-is helds, sum-is helds)
+
 -- WHAT THEY ANSWER
 module _ (m : List ℕ) (d : Manager) (t : Receipts) (v : Inv m d t) (ok : sound m d ≡ true) (id : ℕ) (e : RegionEntry) (q : t .regions id ≡ some e) where
   region-is : RegionAt m (regionOf d id) e
@@ -97,11 +108,6 @@ module _ (m : List ℕ) (d : Manager) (t : Receipts) (v : Inv m d t) (ok : sound
   pub information-answers : perform m d (RegionInformation id) .information ≡ informationIn e
   unfolding perform regionInformation Passed
   information-answers =
-      let w = map-drawing m e (region-is .is) in
-      let frees = runs (pagesIn e) 0 (e .loans) in
-      let helds = loanPages (e .loans) in
       ap (λ (s : Result). s .information) (acts m d _ _ ok (rw (region-is .region) (not-dead m e (region-is .is)), tt))
       ∙ ap (λ (r : Region). informationOf (r .page) (freeSizes (segments m r)) (heldSizes (segments m r))) (region-is .region)
-      ∙ ap (λ (l : List ℕ). informationOf (unit e) (freeSizes (segments m (regionFor e))) l) (law (regionFor e) .held-pages w)
-      ∙ ap (λ (l : List ℕ). informationOf (unit e) l helds) (law (regionFor e) .free-runs w)
-      ∙ rw (most-is frees, sum-is frees, most-is helds, sum-is helds)
+      ∙ information-is m e (region-is .is)

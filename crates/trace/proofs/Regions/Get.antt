@@ -44,7 +44,7 @@ use Rattle.trace.proofs.Regions.Lending.{waits-lent, enter-some}
 use Rattle.trace.proofs.Regions.Queue.{sound-inv, wait-inv}
 
 -- what a get does in a region, once its checks pass
-abbrev getting : List ℕ → Manager → asking.Wait → Waiter → Region → ℕ → Result
+abbrev pub getting : List ℕ → Manager → asking.Wait → Waiter → Region → ℕ → Result
 getting m d wait w r k = onPlace (placed m r k) (λ p. done (taken m r k) d (addressOf r p)) (unplaced m d wait w)
 
 -- where nothing is lent there is a run of as many pages as the region has

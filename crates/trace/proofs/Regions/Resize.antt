@@ -40,12 +40,12 @@ use Rattle.trace.proofs.Regions.Lending.{waits-lent, lent-list}
 use Rattle.trace.proofs.Regions.Queue.{sound-inv}
 
 -- what a resize does in a region, once its checks pass
-abbrev resized : List ℕ → Manager → ℕ → Region → ℕ → Bool → Result
+abbrev pub resized : List ℕ → Manager → ℕ → Region → ℕ → Bool → Result
 resized m d a r k b =
     cond b (done (withSegments m r (kind r .change (pageAt r a) k (segments m r))) d (heldAt m r a * r .page))
     (replied m d Unsatisfied (heldAt m r a * r .page))
 
-abbrev resizing : List ℕ → Manager → ℕ → Region → ℕ → Result
+abbrev pub resizing : List ℕ → Manager → ℕ → Region → ℕ → Result
 resizing m d a r k = resized m d a r k (leb k (kind r .reach (pageAt r a) (segments m r)))
 
 module _ (m : List ℕ) (d : Manager) (t : Receipts) (v : Inv m d t) (id a size : ℕ) where

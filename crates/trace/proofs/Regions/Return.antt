@@ -33,7 +33,7 @@ use Rattle.trace.proofs.Regions.Queue.{sound-inv, region-ids, few-queue
 use Rattle.trace.proofs.Regions.Serve.{Outcome, Serving, something, served}
 
 -- what a return does in a region, once its checks pass
-abbrev returning : List ℕ → Manager → ℕ → ℕ → Region → Served
+abbrev pub returning : List ℕ → Manager → ℕ → ℕ → Region → Served
 returning m d id a r = serve (withSegments m r (kind r .change (pageAt r a) 0 (segments m r))) d id
 
 module _ (m : List ℕ) (d : Manager) (t : Receipts) (v : Inv m d t) (id a : ℕ) where
@@ -56,7 +56,7 @@ module _ (m : List ℕ) (d : Manager) (t : Receipts) (v : Inv m d t) (id a : ℕ
             queue = refl;
           }
 
-      outcome : Outcome e rest (queueOf id e t) (onRegion id (giveBack a) t) (returning m d id a (regionFor e))
+      pub outcome : Outcome e rest (queueOf id e t) (onRegion id (giveBack a) t) (returning m d id a (regionFor e))
       unfolding serve
       outcome = rw struck (served id e tasks _ d _ rest (queueOf id e t) serving (few-queue d t id e (v .waits) (region-ids m d t (v .picture)) q))
 

@@ -1,0 +1,178 @@
+-- What a get, a return and a tick answer, by the receipts: where the queue has a say. Assumes nothing.
+use mathlib.Core.Path.{_≡_, refl, sym, ap, _∙_, subst}
+use mathlib.Core.Bool.{Bool, true, false, _||_}
+use mathlib.Core.List.{List, [], _∷_}
+use mathlib.Core.Logic.{inl, inr}
+use mathlib.Core.Option.{some}
+use Prim.Native.Nat.{ℕ, _-_, _<_}
+use native.Mathlib.Omega.{arith}
+use lib.ListN.{length, replicate}
+use lib.Dec.{eqb, ltb}
+use borrow.Author.Tests.{eqb-true, eqb-false, eq-eqb}
+use Rattle.arith.specs.Round.Laws.{pages-some}
+use Rattle.manager.specs.Record.{slots, tasks, noWaiter, regionOf}
+use Rattle.manager.specs.Result.{Result, check, checked, done}
+use Rattle.manager.specs.Map.{Segment}
+use Rattle.manager.specs.Region.{pagesOf, addressOf, heldAt, pagesAsked}
+use Rattle.manager.specs.Queue.{waiting}
+use Rattle.manager.specs.Queue.Parts.{by-case}
+use Rattle.manager.specs.Serve.{onPlace, placed, taken, fromServed}
+use Rattle.manager.specs.Regions.{waitChecks, unplaced, getSegment, returnSegment, tick}
+use Rattle.manager.specs.declared.Manager.{Manager}
+use Rattle.manager.specs.declared.Waiter.{Waiter}
+use Rattle.manager.specs.declared.Notice.{Notice}
+use Rattle.manager.specs.declared.Place.{Place}
+use Rattle.manager.specs.declared.Place.the-variants.{At, Nowhere}
+use Rattle.manager.specs.declared.Wait as asking
+use Rattle.manager.specs.declared.Wait.the-variants.{No, Yes}
+use Rattle.manager.specs.declared.Call.the-variants.{GetSegment, ReturnSegment, Tick}
+use Rattle.manager.specs.declared.Status.the-variants.{InvalidSize, InvalidAddress}
+use Rattle.trace.specs.Loans.{Loan, enter, Ordered, Run, Lowest}
+use Rattle.trace.specs.Receipts.{Receipts, RegionEntry, Wait, Reply, Within, replyOf, unit, pagesIn, addressIn, pageIn}
+use Rattle.trace.specs.Claims.{waitersOf, Grants, all, stop, grant}
+use Rattle.trace.specs.Replies.{yes, tells, noRun, lowestRun, pagesOver, grantsIn, waitsAlready, waitingChecks, queueOf, byReceipts}
+use Rattle.trace.proofs.Invariant.{regionFor, tasksOf, queuesFrom, Inv}
+use Rattle.trace.proofs.Frame.{region-unit}
+use Rattle.trace.proofs.Loans.Get.{Got, gave, none, got-from}
+use Rattle.trace.proofs.Queue.Line.{In, true-false, in-line, in-append}
+use Rattle.trace.proofs.Queue.Order.{goes, orders, in-waits, queue-of}
+use Rattle.trace.proofs.Queue.Places.{in-some, in-replicate}
+use Rattle.trace.proofs.Queue.Tasks.{all-in, in-tasks}
+use Rattle.trace.proofs.Queue.Shown.{Queued, queued, in-queues, in-waiters, task-waits}
+use Rattle.trace.proofs.Queue.Ticks.{tick-notices}
+use Rattle.trace.proofs.Regions.Live.{law, map-drawing}
+use Rattle.trace.proofs.Regions.Queue.{sound-inv, region-ids}
+use Rattle.trace.proofs.Regions.Get.{getting}
+use Rattle.trace.proofs.Regions.Return.{returning, outcome}
+use Rattle.trace.proofs.Replies.Checks.{Agree, rest, same, test, acted, agree, answers, at-region}
+use Rattle.trace.proofs.Replies.Held.{none-at, lent-at, lowest-from, placed-lowest}
+
+-- ---- a task waits
+
+module _ (task : ℕ) where
+  already-within : (ws : List Wait) → waitsAlready task ws ≡ true → Within task (tasksOf ws)
+  unfolding waitsAlready Within tasksOf
+  already-within [] e = absurd (true-false false e refl)
+  already-within (w ∷ ws) e =
+      by-case (eqb (w .task) task) (λ b. (b || waitsAlready task ws) ≡ true → Within task (tasksOf (w ∷ ws)))
+      (λ f g. inl (eqb-true (w .task) task f)) (λ f g. inr (already-within ws g)) e
+
+  within-already : (ws : List Wait) → Within task (tasksOf ws) → waitsAlready task ws ≡ true
+  unfolding waitsAlready Within tasksOf
+  within-already [] h = absurd h
+  within-already (w ∷ ws) (inl e) = rw (eq-eqb (w .task) task e)
+  within-already (w ∷ ws) (inr h) = or-true (eqb (w .task) task) (within-already ws h)
+    where
+      or-true : (b : Bool) → waitsAlready task ws ≡ true → (b || waitsAlready task ws) ≡ true
+      or-true true e = refl
+      or-true false e = e
+
+module _ (m : List ℕ) (d : Manager) (t : Receipts) (v : Inv m d t) where
+  queue-right : Queued slots tasks t
+  queue-right = queued d t (v .waits) (region-ids m d t (v .picture))
+
+  -- A TASK WAITS IN THE RECORD EXACTLY WHERE IT WAITS BY THE RECEIPTS
+  waiting-within : (task : ℕ) → ¬ (task ≡ 0) → waiting d task ≡ true → Within task (tasksOf (t .waits))
+  waiting-within task n e =
+      let r = in-some (λ w. eqb (w .task) task) (d .waiters) e in
+      let k = tasks - length (waitersOf (queuesFrom slots 0 t)) in
+      let i = subst (λ (l : List Waiter). In (r .0) l) (v .waits .queue) (r .1) in
+      let f : r .0 .task ≡ task = eqb-true (r .0 .task) task (r .2) in
+      elim (in-append (r .0) (waitersOf (queuesFrom slots 0 t)) (replicate k noWaiter) .0 i) [
+        | inl h ↦ let w = in-waiters (r .0) (queuesFrom slots 0 t) h in
+            subst (λ (a : ℕ). Within a (tasksOf (t .waits))) (ap (λ (x : Waiter). x .task) (w .2) ∙ f)
+            (in-tasks (w .0) (t .waits) (in-queues slots tasks t queue-right (w .0) .0 (w .1)))
+        | inr h ↦ absurd (n (sym f ∙ ap (λ (x : Waiter). x .task) (sym (in-replicate k noWaiter (r .0) h))))
+      ]
+
+  pub task-already : (task : ℕ) → ¬ (task ≡ 0) → waiting d task ≡ waitsAlready task (t .waits)
+  task-already task n =
+      by-case (waitsAlready task (t .waits)) (λ b. waiting d task ≡ b)
+      (λ e. task-waits slots tasks t queue-right d (v .waits .queue) task (already-within task (t .waits) e))
+      (λ e. by-case (waiting d task) (λ b. b ≡ false)
+      (λ f. absurd (true-false (waitsAlready task (t .waits)) (within-already task (t .waits) (waiting-within task n f)) e))
+      (λ f. refl))
+
+  -- ---- a get
+
+  wait-agree : (w : asking.Wait) (task priority : ℕ) (act : Result) (r : Reply) → Agree m d [] [] act r
+      → Agree m d (waitChecks d w task priority) (waitingChecks t w task priority) act r
+  wait-agree No task priority act r a = a
+  wait-agree Yes task priority act r a =
+      test refl (λ n. same (same (same (test (task-already task (eqb-false task 0 n)) (λ z. a)))))
+
+  got-by : (e : RegionEntry) (w : asking.Wait) (x : Waiter) (m′ : List ℕ) (g : Place)
+      → replyOf (onPlace g (λ p. done m′ d (addressOf (regionFor e) p)) (unplaced m d w x)) ≡ onPlace g (λ p. yes (addressIn e p)) (noRun w)
+  got-by e w x m′ (At p) = refl
+  got-by e No x m′ Nowhere = refl
+  got-by e Yes x m′ Nowhere = refl
+
+  pub replies-get : (id size : ℕ) (wait : asking.Wait) (task priority ticks : ℕ)
+      → replyOf (getSegment m d id size wait task priority ticks) ≡ byReceipts (length m) t (GetSegment id size wait task priority ticks)
+  unfolding getSegment byReceipts
+  replies-get id size wait task priority ticks =
+      let w : Waiter = record { task = task; region = id; size = size; priority = priority; ticks = ticks } in
+      answers m d _ _ _ (sound-inv m d t v)
+      (agree (test refl (λ n. rest
+      (at-region m d (regionOf d id) (t .regions id) (v .picture .regions id)
+      (λ r. check (ltb (pagesOf r) (pagesAsked r size)) InvalidSize ∷ waitChecks d wait task priority) (λ r. getting m d wait w r (pagesAsked r size)) _
+      (λ e is q p. agree (same (wait-agree wait task priority _ _ (acted
+      (got-by e wait w (taken m (regionFor e) (pagesOver e size)) (placed m (regionFor e) (pagesOver e size))
+      ∙ ap (λ (g : Place). onPlace g (λ p. yes (addressIn e p)) (noRun wait))
+      (placed-lowest m e is (pagesOver e size)
+      (pages-some size (unit e) (region-unit m e is) (let y = eqb-false size 0 n in omega arith))))))))))))
+
+-- ---- grants
+
+-- the lowest run is where the search ends
+module _ (n k : ℕ) (l : List Loan) where
+  found-none : (g : Place) (s : List Segment) → Got n 0 l k g s → ((p : ℕ) → ¬ Run n l k p) → g ≡ Nowhere
+  found-none g s (gave p e i b run low) h = absurd (h p run)
+  found-none g s (none e no-run) h = refl
+
+  found-lowest : (g : Place) (s : List Segment) (p : ℕ) → Got n 0 l k g s → Lowest n l k p → (g ≡ At p) × Ordered n 0 (enter p k l)
+  found-lowest g s p (gave q e i b run low) x =
+      let f : q ≡ p = omega (arith, low p (omega arith) (x .run), x .first q run) in
+      (ap At f, subst (λ (j : ℕ). Ordered n 0 (enter j k l)) f i)
+  found-lowest g s p (none e no-run) x = absurd (no-run p (omega arith) (x .run))
+
+module _ (e : RegionEntry) where
+  got-run : (k : ℕ) (l : List Loan) → 0 < k → (o : Ordered (pagesIn e) 0 l) → (s : List Segment) × Got (pagesIn e) 0 l k (lowestRun (pagesIn e) k 0 l) s
+  got-run k l z o = (_, rw (lowest-from (pagesIn e) k 0 l z o) at (got-from (pagesIn e) k 0 l o z))
+
+  -- THE GRANTS ARE THOSE THAT THE RECEIPTS GIVE
+  pub grants-are : {l : List Loan} {ws : List Wait} {ns : List Notice} → Grants e l ws ns → Ordered (pagesIn e) 0 l
+      → ((w : Wait) → In w ws → 0 < pagesOver e (w .size)) → ns ≡ grantsIn e l ws
+  unfolding grantsIn In
+  grants-are all o h = refl
+  grants-are {l} (stop {w = w} no-run) o h =
+      let g = got-run (pagesOver e (w .size)) l (h w (inl refl)) o in
+      rw (found-none (pagesIn e) (pagesOver e (w .size)) l _ (g .0) (g .1) no-run)
+  grants-are {l} (grant {w = w} {p = p} low r) o h =
+      let g = got-run (pagesOver e (w .size)) l (h w (inl refl)) o in
+      let f = found-lowest (pagesIn e) (pagesOver e (w .size)) l _ (g .0) p (g .1) low in
+      rw (f .0, ← (grants-are r (f .1) (λ x i. h x (inr i))))
+
+module _ (m : List ℕ) (d : Manager) (t : Receipts) (v : Inv m d t) where
+  -- a region's queue is of waits
+  in-queue : (id : ℕ) (e : RegionEntry) → t .regions id ≡ some e → (w : Wait) → In w (queueOf id e t) → In w (t .waits)
+  unfolding In
+  in-queue id e q w i =
+      elim (in-line (goes (orders t)) w [] (t .waits) .0 (in-waits id w _ .0 (rw (queue-of id e t q) at i) .0)) [ inl z ↦ absurd z | inr z ↦ z ]
+
+  pub replies-return : (id a : ℕ) → replyOf (returnSegment m d id a) ≡ byReceipts (length m) t (ReturnSegment id a)
+  unfolding returnSegment byReceipts
+  replies-return id a =
+      answers m d _ _ _ (sound-inv m d t v)
+      (at-region m d (regionOf d id) (t .regions id) (v .picture .regions id)
+      (λ r. check (eqb (heldAt m r a) 0) InvalidAddress ∷ []) (λ r. fromServed (returning m d id a r)) _
+      (λ e is q p. agree (test (none-at m e is a) (λ h.
+      let x = lent-at m e is a h in
+      acted (ap (λ (ns : List Notice). tells ns)
+      (grants-are e (outcome m d t v id a e q (record { region = p; is = is }) _ (x .lent) .grants)
+      (law (regionFor e) .returned (map-drawing m e is) (pageIn e a) _ (x .lent) .ordered)
+      (λ w i. pages-some (w .size) (unit e) (region-unit m e is) (all-in t (t .waits) (v .waits .all) w (in-queue id e q w i) .size-some))))))))
+
+  pub replies-tick : replyOf (tick m d) ≡ byReceipts (length m) t Tick
+  unfolding tick byReceipts checked
+  replies-tick = answers m d [] _ _ (sound-inv m d t v) (ap (λ (ns : List Notice). tells ns) (tick-notices slots tasks d t (v .waits .queue)))

@@ -1,0 +1,314 @@
+-- Document 01 by the receipts: what every call is answered, from its arguments, the receipts and the memory's length. No word of the
+-- memory and no field of the record is looked at. Assumes nothing.
+use mathlib.Core.Path.{_≡_}
+use mathlib.Core.Bool.{Bool, true, false, cond, not, _&&_, _||_}
+use mathlib.Core.List.{List, [], _∷_, _++_}
+use mathlib.Core.Option.{Option, none, some}
+use Prim.Native.Nat.{ℕ, zero, suc, _+_, _-_, _*_, _/_, _%_}
+use lib.ListN.{length, take, drop}
+use lib.Dec.{eqb, leb, ltb}
+use Rattle.arith.specs.Round.{roundUp, pagesFor}
+use Rattle.arith.specs.Layout.{pageCount}
+use Rattle.manager.specs.Record.{slots, tasks, noInformation}
+use Rattle.manager.specs.Result.{Check, check}
+use Rattle.manager.specs.Serve.{onPlace}
+use Rattle.manager.specs.declared.Notice.{Notice}
+use Rattle.manager.specs.declared.Information.{Information}
+use Rattle.manager.specs.declared.Call.{Call}
+use Rattle.manager.specs.declared.Call.the-variants.{CreateRegion, IdentRegion, DeleteRegion, GetSegment, ReturnSegment, SegmentSize, ResizeSegment, RegionInformation, CreatePartition, IdentPartition, DeletePartition, GetBuffer, ReturnBuffer, Tick}
+use Rattle.manager.specs.declared.Place.{Place}
+use Rattle.manager.specs.declared.Place.the-variants.{At, Nowhere}
+use Rattle.manager.specs.declared.Wait as asking
+use Rattle.manager.specs.declared.Wait.the-variants.{No, Yes}
+use Rattle.manager.specs.declared.Order.{Order}
+use Rattle.manager.specs.declared.Order.the-variants.{Fifo, Priority}
+use Rattle.manager.specs.declared.Status.{Status}
+use Rattle.manager.specs.declared.Status.the-variants.{Successful, InvalidName, InvalidId, TooMany, Timeout, InvalidSize, InvalidAddress, InvalidNumber, ResourceInUse, Unsatisfied, IncorrectState, InvalidPriority, Waiting}
+use Rattle.trace.specs.Loans.{Loan, loan, loanPages, runs, most, sum, enter, amend}
+use Rattle.trace.specs.Receipts.{Receipts, RegionEntry, Wait, Reply, unit, pagesIn, addressIn, pageIn}
+
+-- THE QUEUE BY THE RECEIPTS: a region's waits, by arrival, or by priority and equal ones by arrival
+unfoldable pub waitsIn : ℕ → List Wait → List Wait
+waitsIn id [] = []
+waitsIn id (w ∷ ws) = cond (eqb (w .id) id) (w ∷ waitsIn id ws) (waitsIn id ws)
+
+abbrev pub urgentThan : Order → Wait → Wait → Bool
+urgentThan Fifo w x = false
+urgentThan Priority w x = ltb (w .priority) (x .priority)
+
+unfoldable pub behind : Order → Wait → List Wait → List Wait
+behind o w [] = w ∷ []
+behind o w (x ∷ xs) = cond (urgentThan o w x) (w ∷ x ∷ xs) (x ∷ behind o w xs)
+
+unfoldable pub arranged : Order → List Wait → List Wait → List Wait
+arranged o q [] = q
+arranged o q (w ∷ ws) = arranged o (behind o w q) ws
+
+abbrev pub queueOf : ℕ → RegionEntry → Receipts → List Wait
+queueOf id e t = arranged (e .order) [] (waitsIn id (t .waits))
+
+-- TIME-OUTS BY THE RECEIPTS: the waits whose ticks run out at this tick, by the ticks counted since they began; regions in order
+unfoldable pub dueIn : List Wait → List Notice
+dueIn [] = []
+dueIn (w ∷ ws) =
+    cond (eqb (w .ticks) (w .since + 1)) (record { task = w .task; status = Timeout; address = 0 } ∷ dueIn ws) (dueIn ws)
+
+abbrev pub dueOf : ℕ → Option RegionEntry → Receipts → List Notice
+dueOf id none t = []
+dueOf id (some e) t = dueIn (queueOf id e t)
+
+unfoldable pub dueFrom : ℕ → ℕ → Receipts → List Notice
+dueFrom zero id t = []
+dueFrom (suc n) id t = dueOf id (t .regions id) t ++ dueFrom n (suc id) t
+
+-- INFORMATION BY THE RECEIPTS: count, largest and total bytes over the runs of unheld pages, then over the loans
+abbrev pub informationIn : RegionEntry → Information
+informationIn e =
+    let frees = runs (pagesIn e) 0 (e .loans) in
+    let helds = loanPages (e .loans) in
+    record {
+      «free_count» = length frees;
+      «free_largest» = most frees * unit e;
+      «free_total» = sum frees * unit e;
+      «held_count» = length helds;
+      «held_largest» = most helds * unit e;
+      «held_total» = sum helds * unit e;
+    }
+
+-- ---- ANSWERS
+
+-- a refusal: value 0, no information, no notices
+abbrev pub no : Status → Reply
+no s = record { status = s; value = 0; information = noInformation; notices = [] }
+
+abbrev pub yes : ℕ → Reply
+yes v = record { status = Successful; value = v; information = noInformation; notices = [] }
+
+abbrev pub tells : List Notice → Reply
+tells ns = record { status = Successful; value = 0; information = noInformation; notices = ns }
+
+abbrev pub informs : Information → Reply
+informs i = record { status = Successful; value = 0; information = i; notices = [] }
+
+-- the first of some checks that refuses answers, else what is behind them does
+unfoldable pub decided : List Check → Reply → Reply
+decided [] r = r
+decided (c ∷ cs) r = cond (c .fails) (no (c .status)) (decided cs r)
+
+-- 4: the receipts have no object under the id
+abbrev pub living : {A : Type 0} → Option A → (A → Reply) → Reply
+living none f = no InvalidId
+living (some e) f = f e
+
+-- ---- OBJECTS: the ids from 1 on
+
+abbrev pub vacant : {A : Type 0} → Option A → Bool
+vacant none = true
+vacant (some e) = false
+
+-- an object is there, and passes a test
+abbrev pub has : {A : Type 0} → (A → Bool) → Option A → Bool
+has p none = false
+has p (some e) = p e
+
+-- the first of n ids, from one on, that passes a test; the one behind them where none does
+unfoldable pub firstId : (ℕ → Bool) → ℕ → ℕ → ℕ
+firstId p zero id = id
+firstId p (suc n) id = cond (p id) id (firstId p n (suc id))
+
+unfoldable pub anyId : (ℕ → Bool) → ℕ → ℕ → Bool
+anyId p zero id = false
+anyId p (suc n) id = p id || anyId p n (suc id)
+
+-- "Create takes the lowest empty slot, ident the lowest with the name"
+abbrev pub newRegionId : Receipts → ℕ
+newRegionId t = firstId (λ id. vacant (t .regions id)) slots 1
+
+abbrev pub newPartitionId : Receipts → ℕ
+newPartitionId t = firstId (λ id. vacant (t .partitions id)) slots 1
+
+abbrev pub regionIdOf : Receipts → ℕ → ℕ
+regionIdOf t name = firstId (λ id. has (λ e. eqb (e .name) name) (t .regions id)) slots 1
+
+abbrev pub partitionIdOf : Receipts → ℕ → ℕ
+partitionIdOf t name = firstId (λ id. has (λ e. eqb (e .name) name) (t .partitions id)) slots 1
+
+-- bytes that a live object asked for: "the whole asked area counts"
+abbrev pub shared : ℕ → ℕ → ℕ → ℕ → Bool
+shared a n b k = ltb a (b + k) && ltb b (a + n)
+
+abbrev pub asked : Receipts → ℕ → ℕ → Bool
+asked t start bytes =
+    anyId (λ id. has (λ e. shared start bytes (e .start) (e .bytes)) (t .regions id)) slots 1
+    || anyId (λ id. has (λ e. shared start bytes (e .start) (e .bytes)) (t .partitions id)) slots 1
+
+-- ---- LOANS OF A REGION
+
+abbrev pub lendsAny : List Loan → Bool
+lendsAny [] = false
+lendsAny (x ∷ l) = true
+
+-- the pages of the loan at an address; 0 where there is none
+unfoldable pub pagesAt : RegionEntry → ℕ → List Loan → ℕ
+pagesAt e a [] = 0
+pagesAt e a (loan p k ∷ l) = cond (eqb (addressIn e p) a) k (pagesAt e a l)
+
+-- where the next loan starts, or the region of n pages ends
+abbrev pub upTo : ℕ → List Loan → ℕ
+upTo n [] = n
+upTo n (loan a k ∷ l) = a
+
+-- the most pages that the loan at an address can have: its own, and the unheld ones up to the next loan
+unfoldable pub mostPagesAt : RegionEntry → ℕ → List Loan → ℕ
+mostPagesAt e a [] = 0
+mostPagesAt e a (loan p k ∷ l) = cond (eqb (addressIn e p) a) (upTo (pagesIn e) l - p) (mostPagesAt e a l)
+
+-- the lowest run of k unheld pages, of n, from page `at` on: the first gap between loans that has k pages
+unfoldable pub lowestRun : ℕ → ℕ → ℕ → List Loan → Place
+lowestRun n k at [] = cond (leb k (n - at)) (At at) Nowhere
+lowestRun n k at (loan a m ∷ l) = cond (leb k (a - at)) (At at) (lowestRun n k (a + m) l)
+
+abbrev pub pagesOver : RegionEntry → ℕ → ℕ
+pagesOver e size = pagesFor size (unit e)
+
+abbrev pub runIn : RegionEntry → ℕ → List Loan → Place
+runIn e size l = lowestRun (pagesIn e) (pagesOver e size) 0 l
+
+-- GRANTS: to the first waits in order, each at the lowest run at that moment, up to the first wait that has none
+unfoldable pub grantsIn : RegionEntry → List Loan → List Wait → List Notice
+grantsIn e l [] = []
+grantsIn e l (w ∷ ws) =
+    onPlace (runIn e (w .size) l)
+    (λ p. record { task = w .task; status = Successful; address = addressIn e p } ∷ grantsIn e (enter p (pagesOver e (w .size)) l) ws)
+    []
+
+-- a task waits
+unfoldable pub waitsAlready : ℕ → List Wait → Bool
+waitsAlready task [] = false
+waitsAlready task (w ∷ ws) = eqb (w .task) task || waitsAlready task ws
+
+-- "if waiting is allowed 10, 19, 14"
+abbrev pub waitingChecks : Receipts → asking.Wait → ℕ → ℕ → List Check
+waitingChecks t No task priority = []
+waitingChecks t Yes task priority =
+    check (eqb task 0) InvalidNumber
+    ∷ check (ltb tasks task) InvalidNumber
+    ∷ check (eqb priority 0) InvalidPriority
+    ∷ check (ltb 255 priority) InvalidPriority
+    ∷ check (waitsAlready task (t .waits)) IncorrectState
+    ∷ []
+
+-- no run: 13, or the task now waits
+abbrev pub noRun : asking.Wait → Reply
+noRun No = no Unsatisfied
+noRun Yes = no Waiting
+
+-- "the value is the old length, with 13 too"
+abbrev pub resizes : Bool → ℕ → Reply
+resizes true v = yes v
+resizes false v = record { status = Unsatisfied; value = v; information = noInformation; notices = [] }
+
+-- ---- BUFFERS OF A PARTITION
+
+unfoldable pub listed : ℕ → List ℕ → Bool
+listed a [] = false
+listed a (x ∷ l) = eqb x a || listed a l
+
+abbrev pub lentAny : List ℕ → Bool
+lentAny [] = false
+lentAny (x ∷ l) = true
+
+abbrev pub front : List ℕ → Reply
+front [] = no Unsatisfied
+front (a ∷ l) = yes a
+
+-- ---- WHAT EVERY CALL IS ANSWERED, over a memory of n words: its checks in the paper's order, the one for 25 aside, then its answer
+unfoldable pub byReceipts : ℕ → Receipts → Call → Reply
+-- create region: 3, start 9, past memory 9, page 8, area 8, overlap 9, 5
+byReceipts n t (CreateRegion name start bytes page order) =
+    decided
+    (check (eqb name 0) InvalidName
+    ∷ check (eqb start 0) InvalidAddress
+    ∷ check (ltb (4 * n) (start + bytes)) InvalidAddress
+    ∷ check (eqb page 0) InvalidSize
+    ∷ check (ltb 4096 page) InvalidSize
+    ∷ check (eqb (pageCount start bytes (roundUp page 8)) 0) InvalidSize
+    ∷ check (asked t start bytes) InvalidAddress
+    ∷ check (ltb slots (newRegionId t)) TooMany
+    ∷ [])
+    (yes (newRegionId t))
+-- ident: 3
+byReceipts n t (IdentRegion name) =
+    decided (check (eqb name 0) InvalidName ∷ check (ltb slots (regionIdOf t name)) InvalidName ∷ []) (yes (regionIdOf t name))
+-- delete: 4, 12
+byReceipts n t (DeleteRegion id) =
+    living (t .regions id) (λ e. decided (check (lendsAny (e .loans)) ResourceInUse ∷ []) (yes 0))
+-- get: size 0 (8), 4, size too large 8; if waiting is allowed 10, 19, 14; then the search
+byReceipts n t (GetSegment id size wait task priority ticks) =
+    decided (check (eqb size 0) InvalidSize ∷ [])
+    (living (t .regions id) (λ e.
+    decided (check (ltb (pagesIn e) (pagesOver e size)) InvalidSize ∷ waitingChecks t wait task priority)
+    (onPlace (runIn e size (e .loans)) (λ p. yes (addressIn e p)) (noRun wait))))
+-- return: 4, 9; then the queue is served
+byReceipts n t (ReturnSegment id a) =
+    living (t .regions id) (λ e.
+    decided (check (eqb (pagesAt e a (e .loans)) 0) InvalidAddress ∷ [])
+    (tells (grantsIn e (amend (pageIn e a) 0 (e .loans)) (queueOf id e t))))
+-- size: 4, 9
+byReceipts n t (SegmentSize id a) =
+    living (t .regions id) (λ e.
+    decided (check (eqb (pagesAt e a (e .loans)) 0) InvalidAddress ∷ [])
+    (yes (pagesAt e a (e .loans) * unit e)))
+-- resize: size 0 (8), 4, 9, 13
+byReceipts n t (ResizeSegment id a size) =
+    decided (check (eqb size 0) InvalidSize ∷ [])
+    (living (t .regions id) (λ e.
+    decided (check (eqb (pagesAt e a (e .loans)) 0) InvalidAddress ∷ [])
+    (resizes (leb (pagesOver e size) (mostPagesAt e a (e .loans))) (pagesAt e a (e .loans) * unit e))))
+-- information: 4
+byReceipts n t (RegionInformation id) = living (t .regions id) (λ e. informs (informationIn e))
+-- create partition: 3, start 9, alignment 9, past memory 9, length or size 0 (8), length below size 8, size not a multiple of 4 or
+-- below 8 (8), overlap 9, 5
+byReceipts n t (CreatePartition name start bytes size) =
+    decided
+    (check (eqb name 0) InvalidName
+    ∷ check (eqb start 0) InvalidAddress
+    ∷ check (not (eqb (start % 4) 0)) InvalidAddress
+    ∷ check (ltb (4 * n) (start + bytes)) InvalidAddress
+    ∷ check (eqb bytes 0) InvalidSize
+    ∷ check (eqb size 0) InvalidSize
+    ∷ check (ltb bytes size) InvalidSize
+    ∷ check (not (eqb (size % 4) 0)) InvalidSize
+    ∷ check (ltb size 8) InvalidSize
+    ∷ check (asked t start bytes) InvalidAddress
+    ∷ check (ltb slots (newPartitionId t)) TooMany
+    ∷ [])
+    (yes (newPartitionId t))
+byReceipts n t (IdentPartition name) =
+    decided (check (eqb name 0) InvalidName ∷ check (ltb slots (partitionIdOf t name)) InvalidName ∷ []) (yes (partitionIdOf t name))
+byReceipts n t (DeletePartition id) =
+    living (t .partitions id) (λ e. decided (check (lentAny (e .lent)) ResourceInUse ∷ []) (yes 0))
+-- get of a buffer: 4, 13; the front of the chain
+byReceipts n t (GetBuffer id) = living (t .partitions id) (λ e. front (e .unlent))
+-- return of a buffer: 4, 9
+byReceipts n t (ReturnBuffer id a) =
+    living (t .partitions id) (λ e. decided (check (not (listed a (e .lent))) InvalidAddress ∷ []) (yes 0))
+-- a tick: no check of its own; the time-outs
+byReceipts n t Tick = tells (dueFrom slots 1 t)
+
+-- a write of a held segment: 4, 9, then 8. A read: the words of the loan at the address, none where there is no such loan
+abbrev pub writeByReceipts : Receipts → ℕ → ℕ → ℕ → List ℕ → Reply
+writeByReceipts t id a first words =
+    living (t .regions id) (λ e.
+    decided
+    (check (eqb (pagesAt e a (e .loans)) 0) InvalidAddress
+    ∷ check (ltb (pagesAt e a (e .loans) * unit e / 4) (first + length words)) InvalidSize
+    ∷ [])
+    (yes 0))
+
+abbrev pub lentWords : Option RegionEntry → ℕ → ℕ
+lentWords none a = 0
+lentWords (some e) a = pagesAt e a (e .loans) * unit e / 4
+
+abbrev pub readByReceipts : List ℕ → Receipts → ℕ → ℕ → List ℕ
+readByReceipts m t id a = take (lentWords (t .regions id) a) (drop (a / 4) m)
