@@ -1,6 +1,7 @@
--- A call of any directive. Assumes nothing.
+-- A call of any directive; and the manager as three functions, so that the demands can be stated of any other. Assumes nothing.
 use Prim.Native.Nat.{ℕ}
 use mathlib.Core.List.{List}
+use Rattle.manager.specs.Access.{readSegment, writeSegment}
 use Rattle.manager.specs.Result.{Result}
 use Rattle.manager.specs.Regions.{createRegion, identRegion, deleteRegion, getSegment, returnSegment, segmentSize, resizeSegment, regionInformation, tick}
 use Rattle.manager.specs.Partitions.{createPartition, identPartition, deletePartition, getBuffer, returnBuffer}
@@ -23,3 +24,13 @@ perform m d (DeletePartition id) = deletePartition m d id
 perform m d (GetBuffer id) = getBuffer m d id
 perform m d (ReturnBuffer id address) = returnBuffer m d id address
 perform m d Tick = tick m d
+
+-- WHAT ANSWERS: from a memory and a record, what a call leaves; what a read of a segment hands back; what a write leaves
+pub record Implementation : Type 0 where
+  pub call : List ℕ → Manager → Call → Result
+  pub read : List ℕ → Manager → ℕ → ℕ → List ℕ
+  pub write : List ℕ → Manager → ℕ → ℕ → ℕ → List ℕ → Result
+
+-- the manager of these definitions
+abbrev pub defined : Implementation
+defined = record { call = perform; read = readSegment; write = writeSegment }

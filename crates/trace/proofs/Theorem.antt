@@ -2,7 +2,7 @@
 -- the list.
 use mathlib.Core.List.{List}
 use Prim.Native.Nat.{ℕ}
-use Rattle.manager.specs.Perform.{perform}
+use Rattle.manager.specs.Perform.{perform, defined}
 use Rattle.manager.specs.declared.Manager.{Manager}
 use Rattle.manager.specs.declared.Call.{Call}
 use Rattle.manager.specs.declared.Call.the-variants.{CreateRegion, IdentRegion, DeleteRegion, GetSegment, ReturnSegment, SegmentSize, ResizeSegment, RegionInformation, CreatePartition, IdentPartition, DeletePartition, GetBuffer, ReturnBuffer, Tick}
@@ -47,13 +47,13 @@ performs m d t v (ReturnBuffer id a) = partition-keeps m d t v (sound-inv m d t 
 performs m d t v Tick = keeps-tick m d t v
 
 module _ (s : State) (v : Inv (s .memory) (s .manager) (s .receipts)) where
-  kept : (a : Ask) → let u = after a s in Inv (u .memory) (u .manager) (u .receipts)
+  kept : (a : Ask) → let u = after defined a s in Inv (u .memory) (u .manager) (u .receipts)
   unfolding after
   kept (call c) = performs (s .memory) (s .manager) (s .receipts) v c .inv
   kept (read id a) = v
   kept (write id a first words) = write-keeps (s .memory) (s .manager) (s .receipts) v (sound-inv _ _ _ v) id a first words
 
-  pub claims : Claims s
+  pub claims : Claims defined s
   claims =
       record {
         replies = replies (s .memory) (s .manager) (s .receipts) v;
@@ -68,11 +68,11 @@ module _ (s : State) (v : Inv (s .memory) (s .manager) (s .receipts)) where
       }
 
 -- every list
-runs : {s u : State} → Inv (s .memory) (s .manager) (s .receipts) → Runs s u → Inv (u .memory) (u .manager) (u .receipts)
+runs : {s u : State} → Inv (s .memory) (s .manager) (s .receipts) → Runs defined s u → Inv (u .memory) (u .manager) (u .receipts)
 runs v end = v
 runs {s} v (ask a r) = runs (kept s v a) r
 runs {s} v (clients m′ w r) = runs (clients-keep (s .memory) (s .manager) (s .receipts) v m′ w) r
 
 -- THE THEOREM
-pub theorem : Demand3
+pub theorem : Demand3 defined
 theorem m some most s r = claims s (runs (start-inv m some most) r)

@@ -13,8 +13,7 @@ use Rattle.manager.specs.Record.{slots, mostWords, regionOf, partitionOf}
 use Rattle.manager.specs.Map.{Segment, free, held, draw}
 use Rattle.manager.specs.Region.{mapWords, segments}
 use Rattle.manager.specs.Partition.{chain}
-use Rattle.manager.specs.Access.{readSegment, writeSegment}
-use Rattle.manager.specs.Perform.{perform}
+use Rattle.manager.specs.Perform.{Implementation}
 use Rattle.manager.specs.declared.Waiter.{Waiter}
 use Rattle.manager.specs.declared.Notice.{Notice}
 use Rattle.manager.specs.declared.Call.{Call}
@@ -58,7 +57,7 @@ freePages (free n ∷ s) = n + freePages s
 freePages (held n ∷ s) = freePages s
 
 -- WHAT IS CLAIMED OF A REGION that the receipts have under an id
-pub record RegionClaims (s : State) (id : ℕ) (e : RegionEntry) : Type 0 where
+pub record RegionClaims (i : Implementation) (s : State) (id : ℕ) (e : RegionEntry) : Type 0 where
   -- pages held by the receipts and pages free in the map make up the region
   pub counted : sum (loanPages (e .loans)) + freePages (segments (s .memory) (regionOf (s .manager) id)) ≡ pagesIn e
   -- its loans lie in its pages, and no two share one
@@ -67,63 +66,63 @@ pub record RegionClaims (s : State) (id : ℕ) (e : RegionEntry) : Type 0 where
   pub map : mapWords (s .memory) (regionOf (s .manager) id) ≡ draw (drawn (pagesIn e) 0 (e .loans))
   -- a valid get that won't wait is answered 13 exactly when no run of adjoining unheld pages is long enough
   pub unsatisfied : (size task priority ticks : ℕ) → 0 < size → pagesFor size (unit e) ≤ pagesIn e
-      → (perform (s .memory) (s .manager) (GetSegment id size No task priority ticks) .status ≡ Unsatisfied)
+      → (i .call (s .memory) (s .manager) (GetSegment id size No task priority ticks) .status ≡ Unsatisfied)
       ↔ ((p : ℕ) → ¬ Run (pagesIn e) (e .loans) (pagesFor size (unit e)) p)
   -- else the address is the lowest that fits
   pub lowest : (size task priority ticks : ℕ) → 0 < size → pagesFor size (unit e) ≤ pagesIn e
-      → (perform (s .memory) (s .manager) (GetSegment id size No task priority ticks) .status ≡ Unsatisfied)
+      → (i .call (s .memory) (s .manager) (GetSegment id size No task priority ticks) .status ≡ Unsatisfied)
       ⊎ ((p : ℕ) × Lowest (pagesIn e) (e .loans) (pagesFor size (unit e)) p
-      × (perform (s .memory) (s .manager) (GetSegment id size No task priority ticks) .status ≡ Successful)
-      × (perform (s .memory) (s .manager) (GetSegment id size No task priority ticks) .value ≡ addressIn e p))
+      × (i .call (s .memory) (s .manager) (GetSegment id size No task priority ticks) .status ≡ Successful)
+      × (i .call (s .memory) (s .manager) (GetSegment id size No task priority ticks) .value ≡ addressIn e p))
   -- a read is empty only where the receipts have no loan at that address in that region
-  pub read : (p k : ℕ) → Lent (e .loans) p k → ¬ (readSegment (s .memory) (s .manager) id (addressIn e p) ≡ [])
+  pub read : (p k : ℕ) → Lent (e .loans) p k → ¬ (i .read (s .memory) (s .manager) id (addressIn e p) ≡ [])
   -- an information call answers the count, largest and total bytes over the runs of unheld pages and over the loans
-  pub information : perform (s .memory) (s .manager) (RegionInformation id) .information ≡ informationIn e
+  pub information : i .call (s .memory) (s .manager) (RegionInformation id) .information ≡ informationIn e
   -- size and resize answer the loan's length, and resize is 13 exactly when the pages that it lacks aren't unheld
-  pub size : (p k : ℕ) → Lent (e .loans) p k → perform (s .memory) (s .manager) (SegmentSize id (addressIn e p)) .value ≡ k * unit e
+  pub size : (p k : ℕ) → Lent (e .loans) p k → i .call (s .memory) (s .manager) (SegmentSize id (addressIn e p)) .value ≡ k * unit e
   pub resize : (p k size : ℕ) → Lent (e .loans) p k → 0 < size
-      → (perform (s .memory) (s .manager) (ResizeSegment id (addressIn e p) size) .value ≡ k * unit e)
-      × ((perform (s .memory) (s .manager) (ResizeSegment id (addressIn e p) size) .status ≡ Unsatisfied)
+      → (i .call (s .memory) (s .manager) (ResizeSegment id (addressIn e p) size) .value ≡ k * unit e)
+      × ((i .call (s .memory) (s .manager) (ResizeSegment id (addressIn e p) size) .status ≡ Unsatisfied)
       ↔ (¬ Room (pagesIn e) (e .loans) p k (pagesFor size (unit e))))
   -- the queue is the waits of the receipts, in order
   pub queue : waitersFor id (s .manager .waiters) ≡ waitersOf (queueOf id e (s .receipts))
   -- after a return the grants go to the first waits in that order, each to the lowest run at that moment, and stop exactly at the first
   -- that has none
   pub return : (p k : ℕ) → Lent (e .loans) p k
-      → (perform (s .memory) (s .manager) (ReturnSegment id (addressIn e p)) .status ≡ Successful)
-      × Grants e (amend p 0 (e .loans)) (queueOf id e (s .receipts)) (perform (s .memory) (s .manager) (ReturnSegment id (addressIn e p)) .notices)
+      → (i .call (s .memory) (s .manager) (ReturnSegment id (addressIn e p)) .status ≡ Successful)
+      × Grants e (amend p 0 (e .loans)) (queueOf id e (s .receipts)) (i .call (s .memory) (s .manager) (ReturnSegment id (addressIn e p)) .notices)
 
 -- OF A PARTITION
-pub record PartitionClaims (s : State) (id : ℕ) (e : PartitionEntry) : Type 0 where
+pub record PartitionClaims (i : Implementation) (s : State) (id : ℕ) (e : PartitionEntry) : Type 0 where
   -- held and chained buffers make up the partition
   pub counted : length (e .lent) + length (chain (s .memory) (partitionOf (s .manager) id)) ≡ buffersIn e
   pub each : (a : ℕ) → Within a (buffersFrom (buffersIn e) (e .size) (e .start)) → Within a (e .lent) ⊎ Within a (chain (s .memory) (partitionOf (s .manager) id))
   -- no buffer is lent twice
   pub once : Distinct (e .lent)
   -- a get is answered 13 exactly when every buffer is held; else the address is the front of the chain as the receipts have it
-  pub unsatisfied : (perform (s .memory) (s .manager) (GetBuffer id) .status ≡ Unsatisfied) ↔ (length (e .lent) ≡ buffersIn e)
+  pub unsatisfied : (i .call (s .memory) (s .manager) (GetBuffer id) .status ≡ Unsatisfied) ↔ (length (e .lent) ≡ buffersIn e)
   pub front : (a : ℕ) (u : List ℕ) → e .unlent ≡ a ∷ u
-      → (perform (s .memory) (s .manager) (GetBuffer id) .status ≡ Successful) × (perform (s .memory) (s .manager) (GetBuffer id) .value ≡ a)
+      → (i .call (s .memory) (s .manager) (GetBuffer id) .status ≡ Successful) × (i .call (s .memory) (s .manager) (GetBuffer id) .value ≡ a)
 
 -- DEMAND 3
-pub record Claims (s : State) : Type 0 where
+pub record Claims (i : Implementation) (s : State) : Type 0 where
   -- every call is answered as the receipts say: status, value, information and notices. So is a write, and a read hands back the words
   -- of the loan at its address
-  pub replies : (c : Call) → replyOf (perform (s .memory) (s .manager) c) ≡ byReceipts (length (s .memory)) (s .receipts) c
+  pub replies : (c : Call) → replyOf (i .call (s .memory) (s .manager) c) ≡ byReceipts (length (s .memory)) (s .receipts) c
   pub replies-write : (id address first : ℕ) (words : List ℕ)
-      → replyOf (writeSegment (s .memory) (s .manager) id address first words) ≡ writeByReceipts (s .receipts) id address first words
-  pub reads : (id address : ℕ) → readSegment (s .memory) (s .manager) id address ≡ readByReceipts (s .memory) (s .receipts) id address
-  pub region : (id : ℕ) (e : RegionEntry) → s .receipts .regions id ≡ some e → RegionClaims s id e
-  pub partition : (id : ℕ) (e : PartitionEntry) → s .receipts .partitions id ≡ some e → PartitionClaims s id e
+      → replyOf (i .write (s .memory) (s .manager) id address first words) ≡ writeByReceipts (s .receipts) id address first words
+  pub reads : (id address : ℕ) → i .read (s .memory) (s .manager) id address ≡ readByReceipts (s .memory) (s .receipts) id address
+  pub region : (id : ℕ) (e : RegionEntry) → s .receipts .regions id ≡ some e → RegionClaims i s id e
+  pub partition : (id : ℕ) (e : PartitionEntry) → s .receipts .partitions id ≡ some e → PartitionClaims i s id e
   -- no two loans share a byte, of whatever objects
   pub apart : (o q : Object) (a n b k : ℕ) → Loaned (s .receipts) o a n → Loaned (s .receipts) q b k
       → ((o ≡ q) × (a ≡ b) × (n ≡ k)) ⊎ ((a + n ≤ b) ⊎ (b + k ≤ a))
   -- no answer is 25
-  pub sound : (c : Call) → ¬ (perform (s .memory) (s .manager) c .status ≡ InternalError)
-  pub sound-write : (id address first : ℕ) (words : List ℕ) → ¬ (writeSegment (s .memory) (s .manager) id address first words .status ≡ InternalError)
+  pub sound : (c : Call) → ¬ (i .call (s .memory) (s .manager) c .status ≡ InternalError)
+  pub sound-write : (id address first : ℕ) (words : List ℕ) → ¬ (i .write (s .memory) (s .manager) id address first words .status ≡ InternalError)
   -- a tick sends 6 to exactly those waits whose ticks have run out by the ticks counted since they began, and serves nobody
-  pub tick : perform (s .memory) (s .manager) Tick .notices ≡ dueFrom slots 1 (s .receipts)
+  pub tick : i .call (s .memory) (s .manager) Tick .notices ≡ dueFrom slots 1 (s .receipts)
 
 -- after every list of calls and writes, from a fresh start over any memory of allowed length
-abbrev pub Demand3 : Type 0
-Demand3 = (m : List ℕ) → 1 ≤ length m → length m ≤ mostWords → (s : State) → Runs (start m) s → Claims s
+abbrev pub Demand3 : Implementation → Type 0
+Demand3 i = (m : List ℕ) → 1 ≤ length m → length m ≤ mostWords → (s : State) → Runs i (start m) s → Claims i s

@@ -6,8 +6,7 @@ use mathlib.Core.Option.{some}
 use Prim.Native.Nat.{ℕ, _+_, _*_, _≤_, _<_}
 use lib.ListN.{length, getD}
 use Rattle.manager.specs.Record.{fresh}
-use Rattle.manager.specs.Access.{writeSegment}
-use Rattle.manager.specs.Perform.{perform}
+use Rattle.manager.specs.Perform.{Implementation}
 use Rattle.manager.specs.declared.Manager.{Manager}
 use Rattle.manager.specs.declared.Call.{Call}
 use Rattle.trace.specs.Loans.{Lent}
@@ -30,13 +29,13 @@ abbrev pub start : List ℕ → State
 start m = record { memory = m; manager = fresh; receipts = blank }
 
 -- each call gets what the last one left; the receipts go by its arguments and its answer
-unfoldable pub after : Ask → State → State
-after (call c) s =
-    let a = perform (s .memory) (s .manager) c in
+unfoldable pub after : Implementation → Ask → State → State
+after i (call c) s =
+    let a = i .call (s .memory) (s .manager) c in
     record { memory = a .memory; manager = a .manager; receipts = note c (replyOf a) (s .receipts) }
-after (read id address) s = s
-after (write id address first words) s =
-    let a = writeSegment (s .memory) (s .manager) id address first words in
+after i (read id address) s = s
+after i (write id address first words) s =
+    let a = i .write (s .memory) (s .manager) id address first words in
     record { memory = a .memory; manager = a .manager; receipts = s .receipts }
 
 -- an object: of a kind, under an id
@@ -59,8 +58,8 @@ pub record ClientsWrite (t : Receipts) (m m′ : List ℕ) : Type 0 where
   pub others : (i : ℕ) → ¬ Owned t i → getD m′ i 0 ≡ getD m i 0
 
 -- EVERY LIST OF CALLS, and the writes between them
-pub data Runs : State → State → Type 0 where
-  end : {s : State} → Runs s s
-  ask : {s t : State} (a : Ask) → Runs (after a s) t → Runs s t
+pub data Runs (i : Implementation) : State → State → Type 0 where
+  end : {s : State} → Runs i s s
+  ask : {s t : State} (a : Ask) → Runs i (after i a s) t → Runs i s t
   clients : {s t : State} (m′ : List ℕ) → ClientsWrite (s .receipts) (s .memory) m′
-      → Runs (record { memory = m′; manager = s .manager; receipts = s .receipts }) t → Runs s t
+      → Runs i (record { memory = m′; manager = s .manager; receipts = s .receipts }) t → Runs i s t

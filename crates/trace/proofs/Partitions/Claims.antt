@@ -8,7 +8,7 @@ use Prim.Native.Nat.{ℕ, _+_}
 use lib.ListN.{length}
 use Rattle.manager.specs.Record.{partitionOf}
 use Rattle.manager.specs.Partition.{isBuffer}
-use Rattle.manager.specs.Perform.{perform}
+use Rattle.manager.specs.Perform.{perform, defined}
 use Rattle.manager.specs.Sound.{sound}
 use Rattle.manager.specs.declared.Manager.{Manager}
 use Rattle.manager.specs.declared.Call.the-variants.{CreatePartition, IdentPartition, DeletePartition, GetBuffer, ReturnBuffer}
@@ -56,7 +56,7 @@ module _ (m : List ℕ) (d : Manager) (t : Receipts) (v : Inv m d t) (ok : sound
         within-buffer (partitionOf d id) (partition-shaped m (partitionOf d id) e partition-is) a
         (rw (buffers-in m (partitionOf d id) e partition-is, partition-is .size, partition-is .start) w)
 
-    pub partition-claims : PartitionClaims (record { memory = m; manager = d; receipts = t }) id e
+    pub partition-claims : PartitionClaims defined (record { memory = m; manager = d; receipts = t }) id e
     partition-claims =
         record {
           counted =

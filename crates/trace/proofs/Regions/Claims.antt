@@ -4,6 +4,7 @@ use mathlib.Core.List.{List}
 use mathlib.Core.Option.{some}
 use Prim.Native.Nat.{ℕ}
 use Rattle.manager.specs.Record.{regionOf}
+use Rattle.manager.specs.Perform.{perform, defined}
 use Rattle.manager.specs.declared.Manager.{Manager}
 use Rattle.trace.specs.Receipts.{Receipts, RegionEntry}
 use Rattle.trace.specs.Claims.{RegionClaims}
@@ -21,7 +22,7 @@ module _ (m : List ℕ) (d : Manager) (t : Receipts) (v : Inv m d t) (id : ℕ) 
   region-is : RegionAt m (regionOf d id) e
   region-is = region-at m (regionOf d id) (t .regions id) e (v .picture .regions id) q
 
-  pub region-claims : RegionClaims (record { memory = m; manager = d; receipts = t }) id e
+  pub region-claims : RegionClaims defined (record { memory = m; manager = d; receipts = t }) id e
   region-claims =
       record {
         counted = rw (region-is .region) (law (regionFor e) .counted (map-drawing m e (region-is .is)));
