@@ -1,36 +1,32 @@
--- Reading and writing a held segment. A write is refused, or it changes only words of the loan at its address, so that it is one of the
--- writes that clients may make; a read of a loan has words. Assumes nothing.
-use mathlib.Core.Path.{_≡_, refl, sym, ap, _∙_, subst}
-use mathlib.Core.Bool.{true, false}
-use mathlib.Core.List.{List, []}
+-- Writing a held segment: a write is refused and changes nothing, or it stores its words in the loan at its address, so that it is one of
+-- the writes that clients may make. Assumes nothing.
+use mathlib.Core.Path.{_≡_, refl, sym, subst}
+use mathlib.Core.Bool.{true, false, cond, not}
+use mathlib.Core.List.{List}
 use mathlib.Core.Option.{Option, some}
 use Prim.Native.Nat.{ℕ, zero, suc, _+_, _*_, _/_, _≤_, _<_}
-use native.Mathlib.Nat.{mul-le-mul}
 use native.Mathlib.Omega.{arith}
-use lib.ListN.{length, take, drop, length-take, length-drop}
+use lib.ListN.{length}
 use lib.Seq.{sets}
 use lib.Dec.{eqb, ltb}
-use borrow.Author.Tests.{eqb-false, ne-eqb, ltb-false}
+use borrow.Author.Tests.{eqb-false, ltb-false, not-true}
 use Rattle.manager.specs.Record.{regionOf}
 use Rattle.manager.specs.Lists.{every}
+use Rattle.manager.specs.Lists.Laws.{and-first}
 use Rattle.manager.specs.Result.{Result, refused}
 use Rattle.manager.specs.Region.{dead, heldAt}
 use Rattle.manager.specs.Sound.{sound}
-use Rattle.manager.specs.Access.{readSegment, writeSegment}
+use Rattle.manager.specs.Access.{writeSegment}
 use Rattle.manager.specs.declared.Manager.{Manager}
 use Rattle.manager.specs.declared.Region.{Region}
 use Rattle.manager.specs.declared.Status.{Status}
-use Rattle.manager.specs.declared.Status.the-variants.{Successful, InternalError}
-use Rattle.trace.specs.Loans.{Lent}
-use Rattle.trace.specs.Receipts.{Receipts, RegionEntry, unit, addressIn, pageIn}
+use Rattle.trace.specs.Receipts.{Receipts, RegionEntry, isSuccess, isWaiting, unit, pageIn}
 use Rattle.trace.specs.Trace.{Object, region, Loaned, segment, ClientsWrite}
 use Rattle.trace.proofs.Invariant.{Inside, Only, regionFor, RegionIs, RegionSlot, Inv, empty, live}
-use Rattle.trace.proofs.Frame.{only-sets, unit-least, inside-parts}
-use Rattle.trace.proofs.Clients.{SegmentLoan, segment-in, segment-some, region-at, clients-keep}
-use Rattle.trace.proofs.Held.{loan-held, held-loan}
-use Rattle.trace.proofs.Regions.Checks.{Passed, refusing, refusing-sound, by-answer, sound-status}
-
--- ---- writes
+use Rattle.trace.proofs.Frame.{only-sets}
+use Rattle.trace.proofs.Clients.{segment-in, clients-keep}
+use Rattle.trace.proofs.Held.{regular, held-loan, holds-loan}
+use Rattle.trace.proofs.Regions.Checks.{Passed, refusing, by-answer}
 
 -- a change of nothing, and a change of one loan's words, are writes that clients may make
 pub clients-none : (t : Receipts) (m : List ℕ) → ClientsWrite t m m
@@ -40,14 +36,23 @@ pub clients-loan : (t : Receipts) (m m′ : List ℕ) (o : Object) (a n : ℕ) �
 clients-loan t m m′ o a n l c =
     record { size = c .size; others = λ w f. c .same w (λ (i : Inside a n w). f (o, a, n, l, i .low, omega (arith, i .high))) }
 
+-- the words that a status leaves: all as they were, or some stored
+abbrev pub storedBy : List ℕ → ℕ → List ℕ → Status → List ℕ
+storedBy m at words s = cond (isSuccess s) (sets m at words) m
+
 -- what a write leaves
-pub record Writes (m : List ℕ) (d : Manager) (t : Receipts) (s : Result) : Type 0 where
+pub record Writes (m : List ℕ) (d : Manager) (t : Receipts) (at : ℕ) (words : List ℕ) (s : Result) : Type 0 where
   pub clients : ClientsWrite t m (s .memory)
   pub manager : s .manager ≡ d
-  pub answered : ¬ (s .status ≡ InternalError)
+  pub memory : s .memory ≡ storedBy m at words (s .status)
 
-writes-refused : (m : List ℕ) (d : Manager) (t : Receipts) (s : Status) → refusing s ≡ true → Writes m d t (refused m d s)
-writes-refused m d t s r = record { clients = clients-none t m; manager = refl; answered = refusing-sound s r }
+writes-refused : (m : List ℕ) (d : Manager) (t : Receipts) (at : ℕ) (words : List ℕ) (s : Status) → refusing s ≡ true → Writes m d t at words (refused m d s)
+writes-refused m d t at words s r =
+    record {
+      clients = clients-none t m;
+      manager = refl;
+      memory = rw (not-true (isSuccess s) (and-first (not (isSuccess s)) (not (isWaiting s)) r));
+    }
 
 -- words stored in the loan at an address
 module _ (m : List ℕ) (d : Manager) (t : Receipts) (id : ℕ) (e : RegionEntry) (found : t .regions id ≡ some e) (is : RegionIs m e) (a : ℕ) where
@@ -57,7 +62,7 @@ module _ (m : List ℕ) (d : Manager) (t : Receipts) (id : ℕ) (e : RegionEntry
       let x = held-loan m e is a (rw h u) in
       let w = segment-in m e is a (k * unit e) (record { p = pageIn e a; k = k; lent = rw h at (x .lent); at = x .at; bytes = refl }) in
       clients-loan t m (sets m (a / 4 + first) words) (region id) a (k * unit e)
-      (subst (λ (b : ℕ). Loaned t (region id) b (k * unit e)) (sym (x .at)) (segment e found (pageIn e a) k (rw h at (x .lent))))
+      (segment e found k (rw h at (holds-loan e (regular m e is) a (heldAt m (regionFor e) a) x)))
       (only-sets a (k * unit e) m (a / 4 + first) words (omega (arith, w .whole)) (omega (arith, w .whole)))
 
 module _ (m : List ℕ) (d : Manager) (t : Receipts) (v : Inv m d t) where
@@ -76,15 +81,15 @@ module _ (m : List ℕ) (d : Manager) (t : Receipts) (v : Inv m d t) where
       pos (suc k) n = omega arith
 
   module _ (ok : sound m d ≡ true) where
-    -- A WRITE IS ONE THAT CLIENTS MAY MAKE, and never answered 25
-    pub writes : (id a first : ℕ) (words : List ℕ) → Writes m d t (writeSegment m d id a first words)
+    -- A WRITE IS ONE THAT CLIENTS MAY MAKE, and what it stores goes by its status
+    pub writes : (id a first : ℕ) (words : List ℕ) → Writes m d t (a / 4 + first) words (writeSegment m d id a first words)
     unfolding writeSegment every Passed
     writes id a first words =
-        by-answer m d _ _ ok (Writes m d t) refl (writes-refused m d t)
+        by-answer m d _ _ ok (Writes m d t (a / 4 + first) words) refl (writes-refused m d t (a / 4 + first) words)
         (λ c. record {
           clients = passed id a first words (regionOf d id) (t .regions id) refl (v .picture .regions id) (c .0) (c .1 .0) (c .1 .1 .0);
           manager = refl;
-          answered = sound-status Successful refl;
+          memory = refl;
         })
 
     pub write-keeps : (id a first : ℕ) (words : List ℕ)
@@ -93,26 +98,3 @@ module _ (m : List ℕ) (d : Manager) (t : Receipts) (v : Inv m d t) where
         let w = writes id a first words in
         subst (λ (x : Manager). Inv (writeSegment m d id a first words .memory) x t) (sym (w .manager))
         (clients-keep m d t v (writeSegment m d id a first words .memory) (w .clients))
-
-    -- ---- reads
-
-    -- A READ OF A LOAN HAS WORDS: those of the loan
-    pub read-is : (id : ℕ) (e : RegionEntry) → t .regions id ≡ some e → (p k : ℕ) → Lent (e .loans) p k
-        → readSegment m d id (addressIn e p) ≡ take (k * unit e / 4) (drop (addressIn e p / 4) m)
-    unfolding readSegment
-    read-is id e f p k l =
-        let r = region-at m (regionOf d id) (t .regions id) e (v .picture .regions id) f in
-        let s : SegmentLoan e (addressIn e p) (k * unit e) = record { p = p; k = k; lent = l; at = refl; bytes = refl } in
-        let some = segment-some m e (r .is) (addressIn e p) (k * unit e) s in
-        rw (ok, r .region, ne-eqb (e .name) 0 (r .is .named), loan-held m e (r .is) p k l, ne-eqb k 0 (λ (z : k ≡ 0). omega arith))
-
-    pub read-some : (id : ℕ) (e : RegionEntry) → t .regions id ≡ some e → (p k : ℕ) → Lent (e .loans) p k
-        → ¬ (readSegment m d id (addressIn e p) ≡ [])
-    read-some id e f p k l h =
-        let r = region-at m (regionOf d id) (t .regions id) e (v .picture .regions id) f in
-        let s : SegmentLoan e (addressIn e p) (k * unit e) = record { p = p; k = k; lent = l; at = refl; bytes = refl } in
-        let i = segment-in m e (r .is) (addressIn e p) (k * unit e) s in
-        let u : 1 * 8 ≤ k * unit e = mul-le-mul (segment-some m e (r .is) (addressIn e p) (k * unit e) s) (unit-least e (r .is .page-some)) in
-        let z : length (take (k * unit e / 4) (drop (addressIn e p / 4) m)) ≡ 0 = ap length (sym (read-is id e f p k l) ∙ h) in
-        let q = inside-parts m (e .start) (e .bytes) (r .is .inside) .upto in
-        omega (arith, i .upto, i .whole, length-take (k * unit e / 4) (drop (addressIn e p / 4) m), length-drop (addressIn e p / 4) m)

@@ -8,7 +8,7 @@ use native.Mathlib.Nat.{mul-le-mul-right}
 use native.Mathlib.Omega.{arith}
 use Rattle.manager.specs.Record.{partitionOf, regionOf}
 use Rattle.manager.specs.declared.Manager.{Manager}
-use Rattle.trace.specs.Receipts.{Receipts, RegionEntry, PartitionEntry, unit, pagesIn, addressIn}
+use Rattle.trace.specs.Receipts.{Receipts, RegionEntry, PartitionEntry, unit, pagesIn, addressIn, pageLoans}
 use Rattle.trace.specs.Trace.{Object, region, partition, Loaned, segment, buffer}
 use Rattle.trace.proofs.Invariant.{Inv, RegionIs, PartitionIs}
 use Rattle.trace.proofs.Frame.{buffers-apart}
@@ -22,7 +22,7 @@ Alike a n b k = ((a ≡ b) × (n ≡ k)) ⊎ ((a + n ≤ b) ⊎ (b + k ≤ a))
 
 -- two loans of one region
 pub segments-apart : (m : List ℕ) (e : RegionEntry) → RegionIs m e → (a n b k : ℕ) → SegmentLoan e a n → SegmentLoan e b k → Alike a n b k
-segments-apart m e is a n b k x y = go (no-overlap (pagesIn e) 0 (e .loans) (is .ordered) (x .p) (x .k) (y .p) (y .k) (x .lent) (y .lent))
+segments-apart m e is a n b k x y = go (no-overlap (pagesIn e) 0 (pageLoans e) (is .ordered) (x .p) (x .k) (y .p) (y .k) (x .lent) (y .lent))
   where
     go : ((x .p ≡ y .p) × (x .k ≡ y .k)) ⊎ ((x .p + x .k ≤ y .p) ⊎ (y .p + y .k ≤ x .p)) → Alike a n b k
     go (inl f) = inl (x .at ∙ ap (addressIn e) (f .0) ∙ sym (y .at), x .bytes ∙ ap (λ (j : ℕ). j * unit e) (f .1) ∙ sym (y .bytes))
@@ -42,10 +42,10 @@ lent-apart m d id e is a n b k x y = go (buffers-apart m (partitionOf d id) e is
 module _ (m : List ℕ) (d : Manager) (t : Receipts) (v : Inv m d t) where
   -- two of one object
   alike : (o : Object) (a n b k : ℕ) → Loaned t o a n → Loaned t o b k → Alike a n b k
-  alike (region id) a n b k (segment e f p j l) y =
+  alike (region id) a n b k (segment e f j l) y =
       let r = region-at m (regionOf d id) (t .regions id) e (v .picture .regions id) f in
-      segments-apart m e (r .is) (addressIn e p) (j * unit e) b k
-      (record { p = p; k = j; lent = l; at = refl; bytes = refl }) (segment-loan t id b k e f y)
+      segments-apart m e (r .is) a (j * unit e) b k
+      (segment-loan m t id a (j * unit e) e (r .is) f (segment e f j l)) (segment-loan m t id b k e (r .is) f y)
   alike (partition id) a n b k (buffer e f l) y =
       lent-apart m d id e (partition-at m (partitionOf d id) (t .partitions id) e (v .picture .partitions id) f) a (e .size) b k
       (record { lent = l; bytes = refl }) (buffer-loan t id b k e f y)

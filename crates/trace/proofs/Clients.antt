@@ -1,13 +1,13 @@
 -- What clients hold lies in the areas of the objects that lent it, and holds none of the words that the manager keeps for itself: a
 -- region's map lies before its pages, and a chained buffer is not lent. So whatever clients write into what they hold keeps the
--- invariant. Assumes nothing.
+-- invariant, and a call that changes only words of the manager's own moves none of theirs. Assumes nothing.
 use mathlib.Core.Path.{_≡_, refl, sym, ap, subst}
 use mathlib.Core.List.{List}
 use mathlib.Core.Logic.{⊎-elim}
 use mathlib.Core.Option.{Option, some}
 use Prim.Native.Nat.{ℕ, _+_, _*_, _/_, _%_, _≤_, _<_}
 use native.Mathlib.Omega.{arith}
-use lib.ListN.{length}
+use lib.ListN.{length, getD}
 use Rattle.arith.specs.Layout.{mapStart}
 use Rattle.arith.specs.Round.{pagesFor}
 use Rattle.manager.specs.Record.{regionOf, partitionOf}
@@ -17,11 +17,12 @@ use Rattle.manager.specs.declared.Manager.{Manager}
 use Rattle.manager.specs.declared.Region.{Region}
 use Rattle.manager.specs.declared.Partition.{Partition}
 use Rattle.trace.specs.Loans.{Lent}
-use Rattle.trace.specs.Receipts.{Receipts, RegionEntry, PartitionEntry, unit, pagesIn, addressIn, Within}
+use Rattle.trace.specs.Receipts.{Receipts, RegionEntry, PartitionEntry, unit, pagesIn, addressIn, pageIn, pageLoans, Within}
 use Rattle.trace.specs.Trace.{Object, region, partition, Loaned, segment, buffer, Owned, ClientsWrite}
-use Rattle.trace.proofs.Invariant.{Inside, regionFor, RegionIs, RegionSlot, PartitionIs, PartitionSlot, Inv, empty, live}
+use Rattle.trace.proofs.Invariant.{Inside, Only, regionFor, RegionIs, RegionSlot, PartitionIs, PartitionSlot, Inv, empty, live}
 use Rattle.trace.proofs.Loans.Drawn.{lent-within, lent-some}
 use Rattle.trace.proofs.Frame.{unit-whole, whole-times, page-upto, first-from, region-unit, region-inside, region-before, region-same, partition-shaped, buffer-lies, buffers-apart, chained-buffer, link-next, link-before, buffer-inside, partition-same}
+use Rattle.trace.proofs.Held.{regular, loan-holds}
 use Rattle.trace.proofs.Areas.{areaFor, areaIn, sound-clear, clear-words, same-object}
 
 -- ---- what stands in a live slot
@@ -44,11 +45,11 @@ partition-at m p o e (live q e′ is) f =
 
 -- ---- the loans of an object
 
--- a loan of a region is a segment of its loans; of a partition, a lent buffer
+-- a loan of a region is one of some of its pages; of a partition, a lent buffer
 pub record SegmentLoan (e : RegionEntry) (a n : ℕ) : Type 0 where
   pub p : ℕ
   pub k : ℕ
-  pub lent : Lent (e .loans) p k
+  pub lent : Lent (pageLoans e) p k
   pub at : a ≡ addressIn e p
   pub bytes : n ≡ k * unit e
 
@@ -56,16 +57,11 @@ pub record BufferLoan (e : PartitionEntry) (a n : ℕ) : Type 0 where
   pub lent : Within a (e .lent)
   pub bytes : n ≡ e .size
 
-pub segment-loan : (t : Receipts) (id a n : ℕ) (e : RegionEntry) → t .regions id ≡ some e → Loaned t (region id) a n → SegmentLoan e a n
-segment-loan t id a n e f (segment e′ g p k l) =
+pub segment-loan : (m : List ℕ) (t : Receipts) (id a n : ℕ) (e : RegionEntry) → RegionIs m e → t .regions id ≡ some e → Loaned t (region id) a n → SegmentLoan e a n
+segment-loan m t id a n e is f (segment e′ g k l) =
     let h : e′ ≡ e = cc in
-    record {
-      p = p;
-      k = k;
-      lent = subst (λ (x : RegionEntry). Lent (x .loans) p k) h l;
-      at = ap (λ (x : RegionEntry). addressIn x p) h;
-      bytes = ap (λ (x : RegionEntry). k * unit x) h;
-    }
+    let x = loan-holds e (regular m e is) a k (subst (λ (y : RegionEntry). Lent (y .loans) a k) h l) in
+    record { p = pageIn e a; k = k; lent = x .lent; at = x .at; bytes = ap (λ (y : RegionEntry). k * unit y) h }
 
 pub buffer-loan : (t : Receipts) (id a n : ℕ) (e : PartitionEntry) → t .partitions id ≡ some e → Loaned t (partition id) a n → BufferLoan e a n
 buffer-loan t id a n e f (buffer e′ g l) =
@@ -85,12 +81,12 @@ module _ (m : List ℕ) (e : RegionEntry) (is : RegionIs m e) (a n : ℕ) (l : S
   segment-behind = omega (arith, l .at)
 
   pub segment-some : 0 < l .k
-  segment-some = lent-some (pagesIn e) 0 (e .loans) (l .p) (l .k) (is .ordered) (l .lent)
+  segment-some = lent-some (pagesIn e) 0 (pageLoans e) (l .p) (l .k) (is .ordered) (l .lent)
 
   pub segment-in : LoanIn (areaFor (regionFor e)) a n
   segment-in =
       let w : unit e % 4 ≡ 0 = omega (arith, unit-whole e) in
-      let u = page-upto (e .start) (e .bytes) (unit e) (region-unit m e is) (is .some-page) (l .p + l .k) (lent-within (pagesIn e) 0 (e .loans) (l .p) (l .k) (is .ordered) (l .lent)) in
+      let u = page-upto (e .start) (e .bytes) (unit e) (region-unit m e is) (is .some-page) (l .p + l .k) (lent-within (pagesIn e) 0 (pageLoans e) (l .p) (l .k) (is .ordered) (l .lent)) in
       record {
         from = omega (arith, l .at, first-from (e .start) (e .bytes) (unit e) (region-unit m e is));
         upto = omega (arith, l .at, l .bytes, u);
@@ -113,9 +109,9 @@ module _ (m : List ℕ) (p : Partition) (e : PartitionEntry) (is : PartitionIs m
 -- EVERY LOAN LIES IN THE AREA OF ITS OBJECT
 module _ (m : List ℕ) (d : Manager) (t : Receipts) (v : Inv m d t) where
   pub loan-in : (o : Object) (a n : ℕ) → Loaned t o a n → LoanIn (areaIn d o) a n
-  loan-in (region id) a n (segment e g p k h) =
+  loan-in (region id) a n (segment e g k h) =
       let r = region-at m (regionOf d id) (t .regions id) e (v .picture .regions id) g in
-      rw (r .region) (segment-in m e (r .is) (addressIn e p) (k * unit e) (record { p = p; k = k; lent = h; at = refl; bytes = refl }))
+      rw (r .region) (segment-in m e (r .is) a (k * unit e) (segment-loan m t id a (k * unit e) e (r .is) g (segment e g k h)))
   loan-in (partition id) a n (buffer e g h) =
       let s = partition-at m (partitionOf d id) (t .partitions id) e (v .picture .partitions id) g in
       buffer-in m (partitionOf d id) e s a (e .size) (record { lent = h; bytes = refl })
@@ -138,7 +134,7 @@ module _ (m : List ℕ) (d : Manager) (t : Receipts) (v : Inv m d t) where
   pub map-not-owned : (id : ℕ) (e : RegionEntry) → t .regions id ≡ some e → (w : ℕ) → mapAt (regionFor e) ≤ w → w < mapAt (regionFor e) + pagesIn e → ¬ Owned t w
   map-not-owned id e f w lo hi h =
       let r = region-at m (regionOf d id) (t .regions id) e (v .picture .regions id) f in
-      let l = segment-loan t id (h .1) (h .2) e f (owned-of (region id) w (rw (r .region) (region-inside m e (r .is) w lo hi)) h) in
+      let l = segment-loan m t id (h .1) (h .2) e (r .is) f (owned-of (region id) w (rw (r .region) (region-inside m e (r .is) w lo hi)) h) in
       omega (arith, segment-behind m e (r .is) (h .1) (h .2) l, region-before m e (r .is) w hi, h .4)
 
   -- NOR IS A WORD OF A BUFFER THAT IS NOT LENT
@@ -180,3 +176,34 @@ module _ (m : List ℕ) (d : Manager) (t : Receipts) (v : Inv m d t) where
             next = c .others (a / 4) (buffer-not-owned id e f a (a / 4) u (rw q (link-next m p e is a b)));
             before = c .others (a / 4 + 1) (buffer-not-owned id e f a (a / 4 + 1) u (rw q (link-before m p e is a b)));
           }))
+
+-- ---- photographs stay put
+
+-- whatever is of clients before a call and after it has its value still
+abbrev pub Stays : Receipts → Receipts → List ℕ → List ℕ → Type 0
+Stays t u m m′ = (w : ℕ) → Owned t w → Owned u w → getD m′ w 0 ≡ getD m w 0
+
+-- only map words of an entry's region differ
+abbrev pub OnlyMap : RegionEntry → List ℕ → List ℕ → Type 0
+OnlyMap e m m′ = Only (4 * mapAt (regionFor e)) (4 * pagesIn e) m m′
+
+-- no word is a link word of one of some buffers
+abbrev pub NoLink : List ℕ → ℕ → Type 0
+NoLink l w = (a : ℕ) → Within a l → ((w ≡ a / 4) → ⊥) × ((w ≡ a / 4 + 1) → ⊥)
+
+module _ (m : List ℕ) (d : Manager) (t : Receipts) (v : Inv m d t) where
+  -- THE WORDS OF A MAP ARE NOT OF CLIENTS: so a change of a map moves none of theirs
+  pub map-stays : (id : ℕ) (e : RegionEntry) → t .regions id ≡ some e → (k k′ : List ℕ) → OnlyMap e k k′ → (w : ℕ) → Owned t w → getD k′ w 0 ≡ getD k w 0
+  map-stays id e f k k′ c w o =
+      c .same w (λ (i : Inside (4 * mapAt (regionFor e)) (4 * pagesIn e) w).
+      map-not-owned m d t v id e f w (omega (arith, i .low)) (omega (arith, i .high)) o)
+
+  -- NOR ARE THE LINK WORDS OF BUFFERS THAT ARE NOT LENT
+  pub owned-no-link : (id : ℕ) (e : PartitionEntry) → t .partitions id ≡ some e → (w : ℕ) → Owned t w → NoLink (e .unlent) w
+  owned-no-link id e f w o a u =
+      let p = partitionOf d id in
+      let s = partition-at m p (t .partitions id) e (v .picture .partitions id) f in
+      let b = chained-buffer m p e s a u in (
+        λ (q : w ≡ a / 4). buffer-not-owned m d t v id e f a w u (rw q (link-next m p e s a b)) o,
+        λ (q : w ≡ a / 4 + 1). buffer-not-owned m d t v id e f a w u (rw q (link-before m p e s a b)) o,
+      )

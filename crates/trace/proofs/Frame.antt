@@ -24,8 +24,9 @@ use Rattle.manager.specs.Sound.{inside}
 use Rattle.manager.specs.declared.Region.{Region}
 use Rattle.manager.specs.declared.Partition.{Partition}
 use Rattle.trace.specs.Loans.{Loan, Ordered, drawn}
-use Rattle.trace.specs.Receipts.{RegionEntry, PartitionEntry, unit, pagesIn, Within, withLoans}
-use Rattle.trace.proofs.Invariant.{Inside, Only, regionFor, RegionIs, PartitionIs}
+use Rattle.trace.specs.Receipts.{RegionEntry, PartitionEntry, unit, pagesIn, firstIn, pageLoans, Within}
+use Rattle.trace.proofs.Invariant.{Inside, Only, regionFor, atAddresses, lentPages, RegionIs, PartitionIs}
+use Rattle.trace.proofs.Loans.Addresses.{pages-back}
 use Rattle.trace.proofs.Loans.Words.{size as drawn-size}
 use Rattle.trace.proofs.Buffers.{within-on, on-within}
 
@@ -145,7 +146,11 @@ map-stored m r ws e h = part-stored m (mapAt r) ws (pagesOf r) e h
 pub map-length : (m : List ℕ) (r : Region) → mapAt r + pagesOf r ≤ length m → length (mapWords m r) ≡ pagesOf r
 map-length m r h = omega (arith, length-take (pagesOf r) (drop (mapAt r) m), length-drop (mapAt r) m)
 
--- drawing a map changes only words of the area
+-- drawing a map changes only its words
+pub map-words-only : (m : List ℕ) (r : Region) (ws : List ℕ) → length ws ≡ pagesOf r → Only (4 * mapAt r) (4 * pagesOf r) m (sets m (mapAt r) ws)
+map-words-only m r ws e = only-sets (4 * mapAt r) (4 * pagesOf r) m (mapAt r) ws (omega arith) (omega arith)
+
+-- and so only words of the area
 pub map-only : (m : List ℕ) (r : Region) (ws : List ℕ) → 0 < r .page → 1 ≤ pagesOf r → length ws ≡ pagesOf r
     → Only (r .start) (r .length) m (sets m (mapAt r) ws)
 map-only m r ws hp some e =
@@ -178,12 +183,16 @@ module _ (m : List ℕ) (e : RegionEntry) (is : RegionIs m e) where
         page-some = is .page-some;
         page-most = is .page-most;
         some-page = is .some-page;
+        placed = is .placed;
         ordered = is .ordered;
         map = map-same m m′ (regionFor e) s h ∙ is .map;
       }
 
   -- A LIVE REGION WITH OTHER LOANS, and the map drawn from them
-  pub region-redrawn : (l : List Loan) → Ordered (pagesIn e) 0 l → RegionIs (withSegments m (regionFor e) (drawn (pagesIn e) 0 l)) (withLoans l e)
+  pub lent-pages : (l : List Loan) → pageLoans (lentPages l e) ≡ l
+  lent-pages l = pages-back (firstIn e) (unit e) region-unit l
+
+  pub region-redrawn : (l : List Loan) → Ordered (pagesIn e) 0 l → RegionIs (withSegments m (regionFor e) (drawn (pagesIn e) 0 l)) (lentPages l e)
   region-redrawn l o =
       record {
         named = is .named;
@@ -191,8 +200,11 @@ module _ (m : List ℕ) (e : RegionEntry) (is : RegionIs m e) where
         page-some = is .page-some;
         page-most = is .page-most;
         some-page = is .some-page;
-        ordered = o;
-        map = map-stored m (regionFor e) (draw (drawn (pagesIn e) 0 l)) (drawn-size (pagesIn e) l o) region-fits;
+        placed = ap (atAddresses e) (sym (lent-pages l));
+        ordered = subst (λ (k : List Loan). Ordered (pagesIn e) 0 k) (sym (lent-pages l)) o;
+        map =
+            map-stored m (regionFor e) (draw (drawn (pagesIn e) 0 l)) (drawn-size (pagesIn e) l o) region-fits
+            ∙ ap (λ (k : List Loan). draw (drawn (pagesIn e) 0 k)) (sym (lent-pages l));
       }
 
 -- ---- a partition: the link words of its chained buffers

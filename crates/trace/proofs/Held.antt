@@ -1,10 +1,10 @@
--- A held segment by the receipts: on a live region the segment that starts at an address is the loan at that address's page. Assumes
--- nothing.
-use mathlib.Core.Path.{_≡_, refl, ap, _∙_}
+-- The loans of a live region, at addresses and by their pages; and a held segment by the receipts: the segment that starts at an address
+-- is the loan at that address. Assumes nothing.
+use mathlib.Core.Path.{_≡_, refl, sym, ap, _∙_, subst}
 use mathlib.Core.Bool.{Bool, true, false}
 use mathlib.Core.List.{List}
 use Prim.Native.Nat.{ℕ, _+_, _-_, _*_, _%_, _<_}
-use native.Mathlib.Nat.{div-add-mod', mul-div-left, mul-mod-left}
+use native.Mathlib.Nat.{div-add-mod', mul-mod-left}
 use native.Mathlib.Omega.{arith}
 use lib.Dec.{eqb, leb}
 use borrow.Author.Tests.{eqb-true, leb-true, eq-eqb, le-leb}
@@ -12,20 +12,54 @@ use Rattle.manager.specs.Lists.Laws.{and-first, and-second}
 use Rattle.manager.specs.Map.{decode}
 use Rattle.manager.specs.Paged.{heldFrom}
 use Rattle.manager.specs.Region.{baseOf, startsPage, segments, heldAt}
-use Rattle.trace.specs.Loans.{Lent, drawn}
-use Rattle.trace.specs.Receipts.{RegionEntry, unit, pagesIn, addressIn, pageIn}
-use Rattle.trace.proofs.Invariant.{regionFor, RegionIs}
+use Rattle.trace.specs.Loans.{Lent, enter, amend, Ordered, drawn}
+use Rattle.trace.specs.Receipts.{RegionEntry, unit, pagesIn, firstIn, addressIn, pageIn, pageLoans}
+use Rattle.trace.proofs.Invariant.{regionFor, atAddresses, RegionIs}
 use Rattle.trace.proofs.Frame.{region-unit}
+use Rattle.trace.proofs.Loans.Addresses.{page-of, lent-at, at-lent, enter-at, amend-at}
 use Rattle.trace.proofs.Loans.Words.{reads}
 use Rattle.trace.proofs.Loans.Change.{held-lent, held-some}
 
-module _ (m : List ℕ) (e : RegionEntry) (is : RegionIs m e) where
+-- WHAT THE RECEIPTS SAY OF A LIVE REGION'S LOANS, whatever the memory: each is at the address of a page, and they are in order
+pub record Regular (e : RegionEntry) : Type 0 where
+  pub some-unit : 0 < unit e
+  pub placed : e .loans ≡ atAddresses e (pageLoans e)
+  pub ordered : Ordered (pagesIn e) 0 (pageLoans e)
+
+pub regular : (m : List ℕ) (e : RegionEntry) → RegionIs m e → Regular e
+regular m e is = record { some-unit = region-unit m e is; placed = is .placed; ordered = is .ordered }
+
+-- a loan at an address, by its page
+pub record Holds (e : RegionEntry) (a k : ℕ) : Type 0 where
+  pub at : a ≡ addressIn e (pageIn e a)
+  pub lent : Lent (pageLoans e) (pageIn e a) k
+
+module _ (e : RegionEntry) (g : Regular e) where
   -- a page's address, and back
   pub page-address : (p : ℕ) → pageIn e (addressIn e p) ≡ p
-  page-address p =
-      let f : baseOf (regionFor e) + p * unit e - baseOf (regionFor e) ≡ p * unit e = omega arith in
-      rw f (mul-div-left p (region-unit m e is))
+  page-address p = page-of (firstIn e) (unit e) (g .some-unit) p
 
+  -- A LOAN AT AN ADDRESS IS ONE AT ITS PAGE
+  pub loan-holds : (a k : ℕ) → Lent (e .loans) a k → Holds e a k
+  loan-holds a k l =
+      let x = at-lent (firstIn e) (unit e) (pageLoans e) a k (rw (g .placed) at l) in
+      let p : x .0 ≡ pageIn e a = sym (page-address (x .0)) ∙ ap (pageIn e) (sym (x .1)) in
+      record { at = x .1 ∙ ap (addressIn e) p; lent = subst (λ (q : ℕ). Lent (pageLoans e) q k) p (x .2) }
+
+  pub holds-loan : (a k : ℕ) → Holds e a k → Lent (e .loans) a k
+  holds-loan a k h =
+      rw (g .placed) (subst (λ (b : ℕ). Lent (atAddresses e (pageLoans e)) b k) (sym (h .at)) (lent-at (firstIn e) (unit e) (pageLoans e) (pageIn e a) k (h .lent)))
+
+  -- a loan entered or amended at the address of a page
+  pub entered-at : (p k : ℕ) → enter (addressIn e p) k (e .loans) ≡ atAddresses e (enter p k (pageLoans e))
+  entered-at p k = ap (enter (addressIn e p) k) (g .placed) ∙ enter-at (firstIn e) (unit e) (g .some-unit) p k (pageLoans e)
+
+  pub amended-at : (a k : ℕ) → a ≡ addressIn e (pageIn e a) → amend a k (e .loans) ≡ atAddresses e (amend (pageIn e a) k (pageLoans e))
+  amended-at a k h =
+      ap (λ (b : ℕ). amend b k (e .loans)) h ∙ ap (amend (addressIn e (pageIn e a)) k) (g .placed)
+      ∙ amend-at (firstIn e) (unit e) (g .some-unit) (pageIn e a) k (pageLoans e)
+
+module _ (m : List ℕ) (e : RegionEntry) (is : RegionIs m e) where
   pub starts-page : (p : ℕ) → startsPage (regionFor e) (addressIn e p) ≡ true
   starts-page p =
       let f : baseOf (regionFor e) + p * unit e - baseOf (regionFor e) ≡ p * unit e = omega arith in
@@ -38,30 +72,26 @@ module _ (m : List ℕ) (e : RegionEntry) (is : RegionIs m e) where
       omega (arith, div-add-mod' (a - baseOf (regionFor e)) (unit e))
 
   -- its segments are drawn from the loans
-  pub segments-drawn : segments m (regionFor e) ≡ drawn (pagesIn e) 0 (e .loans)
-  segments-drawn = ap decode (is .map) ∙ reads (pagesIn e) 0 (e .loans) (is .ordered)
+  pub segments-drawn : segments m (regionFor e) ≡ drawn (pagesIn e) 0 (pageLoans e)
+  segments-drawn = ap decode (is .map) ∙ reads (pagesIn e) 0 (pageLoans e) (is .ordered)
 
   -- A LOAN IS A HELD SEGMENT at its address
-  pub loan-held : (p k : ℕ) → Lent (e .loans) p k → heldAt m (regionFor e) (addressIn e p) ≡ k
+  pub loan-held : (p k : ℕ) → Lent (pageLoans e) p k → heldAt m (regionFor e) (addressIn e p) ≡ k
   loan-held p k l =
       rw (starts-page p)
-      (ap (λ (q : ℕ). heldFrom q 0 (segments m (regionFor e))) (page-address p)
+      (ap (λ (q : ℕ). heldFrom q 0 (segments m (regionFor e))) (page-address e (regular m e is) p)
       ∙ ap (heldFrom p 0) segments-drawn
-      ∙ held-lent (pagesIn e) 0 (e .loans) p k (is .ordered) l)
+      ∙ held-lent (pagesIn e) 0 (pageLoans e) p k (is .ordered) l)
 
   -- AND A HELD SEGMENT IS A LOAN
-  pub record Holds (a k : ℕ) : Type 0 where
-    pub at : a ≡ addressIn e (pageIn e a)
-    pub lent : Lent (e .loans) (pageIn e a) k
-
-  pub held-loan : (a : ℕ) → 0 < heldAt m (regionFor e) a → Holds a (heldAt m (regionFor e) a)
+  pub held-loan : (a : ℕ) → 0 < heldAt m (regionFor e) a → Holds e a (heldAt m (regionFor e) a)
   held-loan a h = go (startsPage (regionFor e) a) refl
     where
-      go : (b : Bool) → startsPage (regionFor e) a ≡ b → Holds a (heldAt m (regionFor e) a)
+      go : (b : Bool) → startsPage (regionFor e) a ≡ b → Holds e a (heldAt m (regionFor e) a)
       go false f = absurd (omega (arith, let z : heldAt m (regionFor e) a ≡ 0 = rw f in z))
       go true f =
-          let g : heldAt m (regionFor e) a ≡ heldFrom (pageIn e a) 0 (drawn (pagesIn e) 0 (e .loans)) = rw f (ap (heldFrom (pageIn e a) 0) segments-drawn) in
+          let g : heldAt m (regionFor e) a ≡ heldFrom (pageIn e a) 0 (drawn (pagesIn e) 0 (pageLoans e)) = rw f (ap (heldFrom (pageIn e a) 0) segments-drawn) in
           record {
             at = page-start a f;
-            lent = rw g (held-some (pagesIn e) 0 (e .loans) (pageIn e a) (is .ordered) (rw g at h));
+            lent = rw g (held-some (pagesIn e) 0 (pageLoans e) (pageIn e a) (is .ordered) (rw g at h));
           }

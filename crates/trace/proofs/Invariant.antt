@@ -17,9 +17,10 @@ use Rattle.manager.specs.Sound.{soundLength, inside, livePartition, soundAreas}
 use Rattle.manager.specs.declared.Manager.{Manager}
 use Rattle.manager.specs.declared.Region.{Region}
 use Rattle.manager.specs.declared.Partition.{Partition}
-use Rattle.trace.specs.Loans.{Ordered, drawn}
-use Rattle.trace.specs.Receipts.{Receipts, RegionEntry, PartitionEntry, Wait, unit, pagesIn, Within, Distinct}
+use Rattle.trace.specs.Loans.{Loan, Ordered, drawn}
+use Rattle.trace.specs.Receipts.{Receipts, RegionEntry, PartitionEntry, Wait, unit, pagesIn, firstIn, pageLoans, withLoans, Within, Distinct}
 use Rattle.trace.specs.Claims.{queueOf, waitersOf}
+use Rattle.trace.proofs.Loans.Addresses.{atPages}
 
 -- word w lies wholly in the n bytes from a on
 pub record Inside (a n w : ℕ) : Type 0 where
@@ -35,15 +36,23 @@ pub record Only (a n : ℕ) (m m′ : List ℕ) : Type 0 where
 abbrev pub regionFor : RegionEntry → Region
 regionFor e = record { name = e .name; start = e .start; length = e .bytes; page = unit e; order = e .order }
 
--- a live region, and its picture: the map is drawn from its loans
+-- loans by their pages, at the addresses of an entry's pages; and the entry with these loans
+abbrev pub atAddresses : RegionEntry → List Loan → List Loan
+atAddresses e l = atPages (firstIn e) (unit e) l
+
+abbrev pub lentPages : List Loan → RegionEntry → RegionEntry
+lentPages l e = withLoans (atAddresses e l) e
+
+-- a live region, and its picture: its loans are at addresses of its pages, in order, and the map is drawn from them
 pub record RegionIs (m : List ℕ) (e : RegionEntry) : Type 0 where
   pub named : ¬ (e .name ≡ 0)
   pub inside : inside m (e .start) (e .bytes) ≡ true
   pub page-some : 1 ≤ e .page
   pub page-most : e .page ≤ 4096
   pub some-page : 1 ≤ pagesIn e
-  pub ordered : Ordered (pagesIn e) 0 (e .loans)
-  pub map : mapWords m (regionFor e) ≡ draw (drawn (pagesIn e) 0 (e .loans))
+  pub placed : e .loans ≡ atAddresses e (pageLoans e)
+  pub ordered : Ordered (pagesIn e) 0 (pageLoans e)
+  pub map : mapWords m (regionFor e) ≡ draw (drawn (pagesIn e) 0 (pageLoans e))
 
 pub data RegionSlot (m : List ℕ) : Region → Option RegionEntry → Type 0 where
   empty : RegionSlot m noRegion none

@@ -5,6 +5,7 @@ pub mod Buffers
 pub mod Frame
 pub mod Areas
 pub mod Held
+pub mod Grants
 pub mod Sound
 pub mod Clients
 pub mod Access
@@ -13,6 +14,7 @@ pub mod Queue
 pub mod Regions
 pub mod Partitions
 pub mod Recover
+pub mod Claims
 pub mod Theorem
 pub mod Kept
 pub mod Replies

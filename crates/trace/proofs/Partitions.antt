@@ -4,4 +4,3 @@ pub mod Get
 pub mod Return
 pub mod Delete
 pub mod Create
-pub mod Claims

@@ -11,4 +11,3 @@ pub mod Resize
 pub mod Ask
 pub mod Create
 pub mod Delete
-pub mod Claims

@@ -6,6 +6,8 @@ pub mod Regions
 pub mod Waits
 pub mod Partitions
 pub mod Access
+pub mod Consequences
+pub mod Undamaged
 use mathlib.Core.Path.{_≡_}
 use mathlib.Core.List.{List}
 use Prim.Native.Nat.{ℕ}

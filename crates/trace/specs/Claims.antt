@@ -1,18 +1,19 @@
 -- Document 01, demand 3: what holds after every list of calls, a field for each sentence. "By the receipts" is said by the receipts
--- alone. Assumes nothing.
+-- alone. The heart is `replies`: every reply is the one that the receipts give. The fields about single answers follow from it, and say
+-- what it comes to in the words of document 01. Assumes nothing.
 use mathlib.Core.Path.{_≡_}
 use mathlib.Core.Bool.{cond, not, _&&_}
 use mathlib.Core.List.{List, [], _∷_}
 use mathlib.Core.Logic.{_⊎_, _↔_}
 use mathlib.Core.Option.{some}
-use Prim.Native.Nat.{ℕ, _+_, _-_, _*_, _≤_, _<_}
-use lib.ListN.{length}
+use Prim.Native.Nat.{ℕ, _+_, _-_, _*_, _/_, _≤_, _<_}
+use lib.ListN.{length, getD, take, drop}
+use lib.Seq.{sets}
 use lib.Dec.{eqb}
 use Rattle.arith.specs.Round.{pagesFor}
-use Rattle.manager.specs.Record.{slots, mostWords, regionOf, partitionOf}
-use Rattle.manager.specs.Map.{Segment, free, held, draw}
-use Rattle.manager.specs.Region.{mapWords, segments}
-use Rattle.manager.specs.Partition.{chain}
+use Rattle.arith.specs.Layout.{mapStart}
+use Rattle.manager.specs.Record.{slots, mostWords, partitionOf}
+use Rattle.manager.specs.Map.{Segment, free, held, draw, decode}
 use Rattle.manager.specs.Perform.{Implementation}
 use Rattle.manager.specs.declared.Waiter.{Waiter}
 use Rattle.manager.specs.declared.Notice.{Notice}
@@ -21,10 +22,10 @@ use Rattle.manager.specs.declared.Call.the-variants.{GetSegment, ReturnSegment,
 use Rattle.manager.specs.declared.Wait.the-variants.{No}
 use Rattle.manager.specs.declared.Status.the-variants.{Successful, Unsatisfied, InternalError}
 use Rattle.trace.specs.Loans.{Loan, Lent, Run, Lowest, Room, Ordered, drawn, loanPages, sum, enter, amend}
-use Rattle.trace.specs.Receipts.{RegionEntry, PartitionEntry, Wait, replyOf, unit, pagesIn, addressIn, buffersIn, buffersFrom, Within, Distinct}
+use Rattle.trace.specs.Receipts.{Receipts, RegionEntry, PartitionEntry, Wait, replyOf, isSuccess, unit, pagesIn, addressIn, pageIn, byPage, pageLoans, buffersIn, buffersFrom, Within, Distinct}
 unfoldable pub use Rattle.trace.specs.Replies.{waitsIn, urgentThan, behind, arranged, queueOf, dueIn, dueOf, dueFrom, informationIn}
 use Rattle.trace.specs.Replies.{byReceipts, writeByReceipts, readByReceipts}
-use Rattle.trace.specs.Trace.{State, Object, Loaned, Runs, start}
+use Rattle.trace.specs.Trace.{Ask, call, read, write, State, after, Object, Loaned, Owned, Runs, start}
 
 -- a wait as the record keeps it: with the ticks that it has left
 abbrev pub left : Wait → ℕ
@@ -42,13 +43,18 @@ unfoldable pub waitersFor : ℕ → List Waiter → List Waiter
 waitersFor id [] = []
 waitersFor id (w ∷ ws) = cond (not (eqb (w .task) 0) && eqb (w .region) id) (w ∷ waitersFor id ws) (waitersFor id ws)
 
--- GRANTS BY THE RECEIPTS: to the first waits in order, each at the lowest run at that moment, up to the first wait that has none
+-- GRANTS BY THE RECEIPTS, with the loans l: to the first waits in order, each at the lowest run at that moment, up to the first wait that
+-- has none
 pub data Grants (e : RegionEntry) : List Loan → List Wait → List Notice → Type 0 where
   all : {l : List Loan} → Grants e l [] []
-  stop : {l : List Loan} {w : Wait} {ws : List Wait} → ((p : ℕ) → ¬ Run (pagesIn e) l (pagesFor (w .size) (unit e)) p) → Grants e l (w ∷ ws) []
-  grant : {l : List Loan} {w : Wait} {ws : List Wait} {ns : List Notice} {p : ℕ} → Lowest (pagesIn e) l (pagesFor (w .size) (unit e)) p
-      → Grants e (enter p (pagesFor (w .size) (unit e)) l) ws ns
+  stop : {l : List Loan} {w : Wait} {ws : List Wait} → ((p : ℕ) → ¬ Run (pagesIn e) (byPage e l) (pagesFor (w .size) (unit e)) p) → Grants e l (w ∷ ws) []
+  grant : {l : List Loan} {w : Wait} {ws : List Wait} {ns : List Notice} {p : ℕ} → Lowest (pagesIn e) (byPage e l) (pagesFor (w .size) (unit e)) p
+      → Grants e (enter (addressIn e p) (pagesFor (w .size) (unit e)) l) ws ns
       → Grants e l (w ∷ ws) (record { task = w .task; status = Successful; address = addressIn e p } ∷ ns)
+
+-- a region's map words in the memory: where they lie, and how many they are, follows from what create asked for
+abbrev pub mapIn : List ℕ → RegionEntry → List ℕ
+mapIn m e = take (pagesIn e) (drop (mapStart (e .start) / 4) m)
 
 -- the pages free in a map
 unfoldable pub freePages : List Segment → ℕ
@@ -58,51 +64,73 @@ freePages (held n ∷ s) = freePages s
 
 -- WHAT IS CLAIMED OF A REGION that the receipts have under an id
 pub record RegionClaims (i : Implementation) (s : State) (id : ℕ) (e : RegionEntry) : Type 0 where
-  -- pages held by the receipts and pages free in the map make up the region
-  pub counted : sum (loanPages (e .loans)) + freePages (segments (s .memory) (regionOf (s .manager) id)) ≡ pagesIn e
+  -- "Where an object's pages or buffers lie follows from what create asked for": each loan is at the address of a page
+  pub placed : (a k : ℕ) → Lent (e .loans) a k → a ≡ addressIn e (pageIn e a)
   -- its loans lie in its pages, and no two share one
-  pub ordered : Ordered (pagesIn e) 0 (e .loans)
-  -- the region's map is the one drawn from the receipts, unheld neighbours joined
-  pub map : mapWords (s .memory) (regionOf (s .manager) id) ≡ draw (drawn (pagesIn e) 0 (e .loans))
-  -- a valid get that won't wait is answered 13 exactly when no run of adjoining unheld pages is long enough
+  pub ordered : Ordered (pagesIn e) 0 (pageLoans e)
+  -- "The drawn map has a held segment for each loan and a free one for each unbroken run of unheld pages, taken whole": the region's map
+  -- is the drawn one
+  pub map : mapIn (s .memory) e ≡ draw (drawn (pagesIn e) 0 (pageLoans e))
+  -- pages held by the receipts and pages free in the map make up the region
+  pub counted : sum (loanPages (e .loans)) + freePages (decode (mapIn (s .memory) e)) ≡ pagesIn e
+  -- "A get is valid if its checks ahead of 13, the one for 25 aside, refuse nothing": one that won't wait is answered 13 exactly when no
+  -- run of adjoining unheld pages is long enough
   pub unsatisfied : (size task priority ticks : ℕ) → 0 < size → pagesFor size (unit e) ≤ pagesIn e
       → (i .call (s .memory) (s .manager) (GetSegment id size No task priority ticks) .status ≡ Unsatisfied)
-      ↔ ((p : ℕ) → ¬ Run (pagesIn e) (e .loans) (pagesFor size (unit e)) p)
+      ↔ ((p : ℕ) → ¬ Run (pagesIn e) (pageLoans e) (pagesFor size (unit e)) p)
   -- else the address is the lowest that fits
   pub lowest : (size task priority ticks : ℕ) → 0 < size → pagesFor size (unit e) ≤ pagesIn e
       → (i .call (s .memory) (s .manager) (GetSegment id size No task priority ticks) .status ≡ Unsatisfied)
-      ⊎ ((p : ℕ) × Lowest (pagesIn e) (e .loans) (pagesFor size (unit e)) p
+      ⊎ ((p : ℕ) × Lowest (pagesIn e) (pageLoans e) (pagesFor size (unit e)) p
       × (i .call (s .memory) (s .manager) (GetSegment id size No task priority ticks) .status ≡ Successful)
       × (i .call (s .memory) (s .manager) (GetSegment id size No task priority ticks) .value ≡ addressIn e p))
-  -- a read is empty only where the receipts have no loan at that address in that region
-  pub read : (p k : ℕ) → Lent (e .loans) p k → ¬ (i .read (s .memory) (s .manager) id (addressIn e p) ≡ [])
-  -- an information call answers the count, largest and total bytes over the runs of unheld pages and over the loans
+  -- "a read is empty only where the receipts have no loan at that address in that region"
+  pub read : (a k : ℕ) → Lent (e .loans) a k → ¬ (i .read (s .memory) (s .manager) id a ≡ [])
+  -- information answers the count, largest and total bytes over the runs of unheld pages and over the loans ("sums over held and unheld
+  -- pages")
   pub information : i .call (s .memory) (s .manager) (RegionInformation id) .information ≡ informationIn e
   -- size and resize answer the loan's length, and resize is 13 exactly when the pages that it lacks aren't unheld
-  pub size : (p k : ℕ) → Lent (e .loans) p k → i .call (s .memory) (s .manager) (SegmentSize id (addressIn e p)) .value ≡ k * unit e
-  pub resize : (p k size : ℕ) → Lent (e .loans) p k → 0 < size
-      → (i .call (s .memory) (s .manager) (ResizeSegment id (addressIn e p) size) .value ≡ k * unit e)
-      × ((i .call (s .memory) (s .manager) (ResizeSegment id (addressIn e p) size) .status ≡ Unsatisfied)
-      ↔ (¬ Room (pagesIn e) (e .loans) p k (pagesFor size (unit e))))
+  pub size : (a k : ℕ) → Lent (e .loans) a k → i .call (s .memory) (s .manager) (SegmentSize id a) .value ≡ k * unit e
+  pub resize : (a k size : ℕ) → Lent (e .loans) a k → 0 < size
+      → (i .call (s .memory) (s .manager) (ResizeSegment id a size) .value ≡ k * unit e)
+      × ((i .call (s .memory) (s .manager) (ResizeSegment id a size) .status ≡ Unsatisfied)
+      ↔ (¬ Room (pagesIn e) (pageLoans e) (pageIn e a) k (pagesFor size (unit e))))
   -- the queue is the waits of the receipts, in order
   pub queue : waitersFor id (s .manager .waiters) ≡ waitersOf (queueOf id e (s .receipts))
   -- after a return the grants go to the first waits in that order, each to the lowest run at that moment, and stop exactly at the first
-  -- that has none
-  pub return : (p k : ℕ) → Lent (e .loans) p k
-      → (i .call (s .memory) (s .manager) (ReturnSegment id (addressIn e p)) .status ≡ Successful)
-      × Grants e (amend p 0 (e .loans)) (queueOf id e (s .receipts)) (i .call (s .memory) (s .manager) (ReturnSegment id (addressIn e p)) .notices)
+  -- that has none ("the stop rule")
+  pub return : (a k : ℕ) → Lent (e .loans) a k
+      → (i .call (s .memory) (s .manager) (ReturnSegment id a) .status ≡ Successful)
+      × Grants e (amend a 0 (e .loans)) (queueOf id e (s .receipts)) (i .call (s .memory) (s .manager) (ReturnSegment id a) .notices)
+
+-- "Chained buffers are those met from the kept front by word 0": from an address on, up to 0
+pub data Chained (m : List ℕ) : ℕ → List ℕ → Type 0 where
+  none : Chained m 0 []
+  next : {a : ℕ} {l : List ℕ} → ¬ (a ≡ 0) → Chained m (getD m (a / 4) 0) l → Chained m a (a ∷ l)
 
 -- OF A PARTITION
 pub record PartitionClaims (i : Implementation) (s : State) (id : ℕ) (e : PartitionEntry) : Type 0 where
-  -- held and chained buffers make up the partition
-  pub counted : length (e .lent) + length (chain (s .memory) (partitionOf (s .manager) id)) ≡ buffersIn e
-  pub each : (a : ℕ) → Within a (buffersFrom (buffersIn e) (e .size) (e .start)) → Within a (e .lent) ⊎ Within a (chain (s .memory) (partitionOf (s .manager) id))
+  -- the chained buffers are those that are not lent, in the order in which they came free, "each once"
+  pub chained : Chained (s .memory) (partitionOf (s .manager) id .front) (e .unlent)
+  pub chained-once : Distinct (e .unlent)
   -- no buffer is lent twice
   pub once : Distinct (e .lent)
+  -- held and chained buffers make up the partition, and none is both
+  pub each : (a : ℕ) → Within a (buffersFrom (buffersIn e) (e .size) (e .start)) ↔ (Within a (e .lent) ⊎ Within a (e .unlent))
+  pub either : (a : ℕ) → Within a (e .lent) → ¬ Within a (e .unlent)
+  pub counted : length (e .lent) + length (e .unlent) ≡ buffersIn e
   -- a get is answered 13 exactly when every buffer is held; else the address is the front of the chain as the receipts have it
   pub unsatisfied : (i .call (s .memory) (s .manager) (GetBuffer id) .status ≡ Unsatisfied) ↔ (length (e .lent) ≡ buffersIn e)
   pub front : (a : ℕ) (u : List ℕ) → e .unlent ≡ a ∷ u
       → (i .call (s .memory) (s .manager) (GetBuffer id) .status ≡ Successful) × (i .call (s .memory) (s .manager) (GetBuffer id) .value ≡ a)
+
+-- WHAT CLIENTS HOLD AFTER THE NEXT CALL, by the receipts: "Writing lends on the part that starts at the given word of the segment and
+-- copies the given words there"; a refused write, and any other call, leaves the words as they were
+abbrev pub written : Receipts → Ask → List ℕ → List ℕ
+written t (call c) m = m
+written t (read id address) m = m
+written t (write id address first words) m =
+    cond (isSuccess (writeByReceipts t id address first words .status)) (sets m (address / 4 + first) words) m
 
 -- DEMAND 3
 pub record Claims (i : Implementation) (s : State) : Type 0 where
@@ -112,17 +140,25 @@ pub record Claims (i : Implementation) (s : State) : Type 0 where
   pub replies-write : (id address first : ℕ) (words : List ℕ)
       → replyOf (i .write (s .memory) (s .manager) id address first words) ≡ writeByReceipts (s .receipts) id address first words
   pub reads : (id address : ℕ) → i .read (s .memory) (s .manager) id address ≡ readByReceipts (s .memory) (s .receipts) id address
+  -- a live object, "an id is live if the receipts have it for the call's kind"
   pub region : (id : ℕ) (e : RegionEntry) → s .receipts .regions id ≡ some e → RegionClaims i s id e
   pub partition : (id : ℕ) (e : PartitionEntry) → s .receipts .partitions id ≡ some e → PartitionClaims i s id e
-  -- no two loans share a byte, of whatever objects
+  -- "clients hold the loans": no two loans share a byte, of whatever objects
   pub apart : (o q : Object) (a n b k : ℕ) → Loaned (s .receipts) o a n → Loaned (s .receipts) q b k
       → ((o ≡ q) × (a ≡ b) × (n ≡ k)) ⊎ ((a + n ≤ b) ⊎ (b + k ≤ a))
-  -- no answer is 25
+  -- photographs stay put: whatever call comes next, every word that a loan covers before and after it keeps its value, but for a write,
+  -- which changes exactly the words that it names, to the values given
+  pub stays : (a : Ask) (w : ℕ) → Owned (s .receipts) w → Owned (after i a s .receipts) w
+      → getD (after i a s .memory) w 0 ≡ getD (written (s .receipts) a (s .memory)) w 0
+  pub writes : (id address first : ℕ) (words : List ℕ)
+      → i .write (s .memory) (s .manager) id address first words .memory ≡ written (s .receipts) (write id address first words) (s .memory)
+  -- "Never called damaged": no answer is 25
   pub sound : (c : Call) → ¬ (i .call (s .memory) (s .manager) c .status ≡ InternalError)
   pub sound-write : (id address first : ℕ) (words : List ℕ) → ¬ (i .write (s .memory) (s .manager) id address first words .status ≡ InternalError)
-  -- a tick sends 6 to exactly those waits whose ticks have run out by the ticks counted since they began, and serves nobody
+  -- a tick sends 6 to exactly those waits whose ticks have run out by the ticks counted since they began, and serves nobody ("ticks left")
   pub tick : i .call (s .memory) (s .manager) Tick .notices ≡ dueFrom slots 1 (s .receipts)
 
--- after every list of calls and writes, from a fresh start over any memory of allowed length
+-- "Demand 3 is a single claim about the list and the writes between its calls, and not one for each call": after every list of calls and
+-- writes, from a fresh start over any memory of allowed length
 abbrev pub Demand3 : Implementation → Type 0
 Demand3 i = (m : List ℕ) → 1 ≤ length m → length m ≤ mostWords → (s : State) → Runs i (start m) s → Claims i s

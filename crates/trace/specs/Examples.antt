@@ -1,31 +1,48 @@
 -- Document 01, "Bench examples": the ones marked M, answered by the receipts alone. The table is the one of the definitions; here no
 -- memory and no record is kept, and each answer is entered into the receipts by which the next call is answered. Assumes nothing.
-use Prim.Native.Nat.{ℕ}
+use Prim.Native.Nat.{ℕ, _+_}
 use mathlib.Core.Path.{_≡_, refl}
-use mathlib.Core.Bool.{Bool, true, _&&_}
+use mathlib.Core.Bool.{Bool, true, false, _&&_}
 use mathlib.Core.List.{List, [], _∷_}
+use mathlib.Core.Option.{Option, none, some}
 use lib.Dec.{eqb}
 use Rattle.arith.specs.Layout.{largest, pageCount}
 use Rattle.manager.specs.Status.{numberOf}
 use Rattle.manager.specs.Record.{mostWords}
 use Rattle.manager.specs.Lists.{every}
+use Rattle.manager.specs.Map.{draw}
 use Rattle.manager.specs.Examples.{Step, step, Row, layout, calls, words, same, told, table}
-use Rattle.trace.specs.Loans.{enter, amend}
-use Rattle.trace.specs.Receipts.{Receipts, Reply, blank, note, allNoticed, without, waitOf, strike, buffersFrom}
+use Rattle.manager.specs.declared.Order.the-variants.{Fifo}
+use Rattle.trace.specs.Loans.{enter, amend, inPages, drawn}
+use Rattle.trace.specs.Receipts.{Receipts, RegionEntry, Reply, blank, pagesIn, addressIn, pageLoans, note, allNoticed, without, waitOf, strike, buffersFrom}
 use Rattle.trace.specs.Replies.{waitsIn, behind, arranged, decided, firstId, anyId, pagesAt, lowestRun, grantsIn, waitsAlready, listed, byReceipts}
 
+-- an answer: status, value, and the notices (task, status, address)
 abbrev right : Reply → ℕ → ℕ → List ℕ → Bool
 right r status value notices = eqb (numberOf (r .status)) status && (eqb (r .value) value && same (told (r .notices)) notices)
 
-abbrev follows : Receipts → List Step → Bool
-follows t [] = true
-follows t (step c status value notices ∷ ss) = let r = byReceipts mostWords t c in right r status value notices && follows (note c r t) ss
+-- the answers are as said, and so are the receipts after them
+abbrev follows : Receipts → List Step → (Receipts → Bool) → Bool
+follows t [] after = after t
+follows t (step c status value notices ∷ ss) after =
+    let r = byReceipts mostWords t c in
+    right r status value notices && follows (note c r t) ss after
+
+-- where an area's pages lie
+abbrev lies : RegionEntry → ℕ → ℕ → ℕ → Bool
+lies e n first last = eqb (pagesIn e) n && (eqb (addressIn e 0) first && eqb (addressIn e n) (last + 1))
+
+-- the words of the map that is drawn from a region's loans
+abbrev drawnWords : Option RegionEntry → List ℕ
+drawnWords none = []
+drawnWords (some e) = draw (drawn (pagesIn e) 0 (pageLoans e))
 
 abbrev holds : Row → Bool
-holds (layout start bytes page n first last) = true
-holds (calls ss) = follows blank ss
-holds (words ss ws) = follows blank ss
+holds (layout start bytes page n first last) =
+    lies (record { name = 1; start = start; bytes = bytes; page = page; order = Fifo; loans = [] }) n first last
+holds (calls ss) = follows blank ss (λ t. true)
+holds (words ss ws) = follows blank ss (λ t. same (drawnWords (t .regions 1)) ws)
 
 pub examples : every holds table ≡ true
-unfolding largest pageCount every enter amend note allNoticed without waitOf strike buffersFrom waitsIn behind arranged decided firstId anyId pagesAt lowestRun grantsIn waitsAlready listed byReceipts
+unfolding largest pageCount every draw enter amend inPages drawn note allNoticed without waitOf strike buffersFrom waitsIn behind arranged decided firstId anyId pagesAt lowestRun grantsIn waitsAlready listed byReceipts
 examples = refl

@@ -1,18 +1,19 @@
 -- Document 01, "Receipts, for demand 3": the loans of one region, and what is read off them alone: which pages are held, the runs of
--- unheld pages, and the drawn map. Nothing here looks at a map or at a memory. Assumes nothing.
+-- unheld pages, and the drawn map. The receipts keep a loan at the address that was answered. Which pages it covers is read off the same
+-- list with each address turned into the number of its page (`inPages`). Nothing here looks at a map or at a memory. Assumes nothing.
 use mathlib.Core.Path.{_≡_}
 use mathlib.Core.Bool.{cond}
 use mathlib.Core.List.{List, [], _∷_}
 use mathlib.Core.Logic.{_⊎_}
-use Prim.Native.Nat.{ℕ, zero, suc, _+_, _-_, _≤_, _<_, max}
+use Prim.Native.Nat.{ℕ, zero, suc, _+_, _-_, _/_, _≤_, _<_, max}
 use lib.Dec.{leb, eqb}
 use Rattle.manager.specs.Map.{Segment, free, held}
 
--- a loan of pages: its first page, and how many
+-- a loan of pages: where it starts (an address, or a page's number), and how many pages it has
 pub data Loan : Type 0 where
   loan : ℕ → ℕ → Loan
 
--- a loan entered, in the order of the pages
+-- a loan entered, in the order in which they start
 unfoldable pub enter : ℕ → ℕ → List Loan → List Loan
 enter p k [] = loan p k ∷ []
 enter p k (loan a n ∷ l) = cond (leb p a) (loan p k ∷ loan a n ∷ l) (loan a n ∷ enter p k l)
@@ -22,15 +23,22 @@ abbrev pub loan+ : ℕ → ℕ → List Loan → List Loan
 loan+ a zero l = l
 loan+ a (suc k) l = loan a (suc k) ∷ l
 
--- the loan at page p has k pages from now on (0: it is struck)
+-- the loan at p, and no other, has k pages from now on (0: it is struck)
 unfoldable pub amend : ℕ → ℕ → List Loan → List Loan
 amend p k [] = []
 amend p k (loan a n ∷ l) = cond (eqb a p) (loan+ a k l) (loan a n ∷ amend p k l)
 
--- a loan of k pages at page p is there
+-- a loan of k pages at p is there
 unfoldable pub Lent : List Loan → ℕ → ℕ → Type 0
 Lent [] p k = ⊥
 Lent (loan a n ∷ l) p k = ((a ≡ p) × (n ≡ k)) ⊎ Lent l p k
+
+-- loans at addresses, each with the number of its page for its address: pages of `page` bytes are counted from the one at `first` on
+unfoldable pub inPages : ℕ → ℕ → List Loan → List Loan
+inPages first page [] = []
+inPages first page (loan a k ∷ l) = loan ((a - first) / page) k ∷ inPages first page l
+
+-- ---- loans by their pages
 
 -- "Held is what a loan covers": page q is
 unfoldable pub Held : List Loan → ℕ → Type 0

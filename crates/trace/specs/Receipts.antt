@@ -17,9 +17,9 @@ use Rattle.manager.specs.declared.Notice.{Notice}
 use Rattle.manager.specs.declared.Information.{Information}
 use Rattle.manager.specs.declared.Order.{Order}
 use Rattle.manager.specs.declared.Status.{Status}
-use Rattle.trace.specs.Loans.{Loan, enter, amend}
+use Rattle.trace.specs.Loans.{Loan, enter, amend, inPages}
 
--- an object under its id: what was asked for, and its loans
+-- an object under its id: what was asked for, and its loans, each at the address that was answered, in the order of the addresses
 pub record RegionEntry : Type 0 where
   pub name : ℕ
   pub start : ℕ
@@ -63,11 +63,21 @@ unit e = roundUp (e .page) 8
 abbrev pub pagesIn : RegionEntry → ℕ
 pagesIn e = pageCount (e .start) (e .bytes) (unit e)
 
+abbrev pub firstIn : RegionEntry → ℕ
+firstIn e = firstPage (e .start) (unit e) (pagesIn e)
+
 abbrev pub addressIn : RegionEntry → ℕ → ℕ
-addressIn e p = firstPage (e .start) (unit e) (pagesIn e) + p * unit e
+addressIn e p = firstIn e + p * unit e
 
 abbrev pub pageIn : RegionEntry → ℕ → ℕ
-pageIn e a = (a - firstPage (e .start) (unit e) (pagesIn e)) / unit e
+pageIn e a = (a - firstIn e) / unit e
+
+-- loans at addresses of a region, by their pages; and all its loans so
+abbrev pub byPage : RegionEntry → List Loan → List Loan
+byPage e l = inPages (firstIn e) (unit e) l
+
+abbrev pub pageLoans : RegionEntry → List Loan
+pageLoans e = byPage e (e .loans)
 
 abbrev pub buffersIn : PartitionEntry → ℕ
 buffersIn e = e .bytes / e .size
@@ -113,15 +123,16 @@ unfoldable pub strike : ℕ → List ℕ → List ℕ
 strike a [] = []
 strike a (x ∷ xs) = cond (eqb x a) xs (x ∷ strike a xs)
 
--- a loan at an address, "of the size rounded up by the region's rule"; the loan there resized, or returned
+-- "get enters a loan at the answered address, of the size rounded up by the region's rule"; "resize gives the loan at its address the
+-- new size, rounded alike; return strikes that loan": the one at exactly that address
 abbrev pub lend : ℕ → ℕ → RegionEntry → RegionEntry
-lend a size e = withLoans (enter (pageIn e a) (pagesFor size (unit e)) (e .loans)) e
+lend a size e = withLoans (enter a (pagesFor size (unit e)) (e .loans)) e
 
 abbrev pub refit : ℕ → ℕ → RegionEntry → RegionEntry
-refit a size e = withLoans (amend (pageIn e a) (pagesFor size (unit e)) (e .loans)) e
+refit a size e = withLoans (amend a (pagesFor size (unit e)) (e .loans)) e
 
 abbrev pub giveBack : ℕ → RegionEntry → RegionEntry
-giveBack a e = withLoans (amend (pageIn e a) 0 (e .loans)) e
+giveBack a e = withLoans (amend a 0 (e .loans)) e
 
 -- what the answer of a call says
 pub record Reply : Type 0 where

@@ -25,7 +25,7 @@ use Rattle.manager.specs.declared.Order.the-variants.{Fifo, Priority}
 use Rattle.manager.specs.declared.Status.{Status}
 use Rattle.manager.specs.declared.Status.the-variants.{Successful, InvalidName, InvalidId, TooMany, Timeout, InvalidSize, InvalidAddress, InvalidNumber, ResourceInUse, Unsatisfied, IncorrectState, InvalidPriority, Waiting}
 use Rattle.trace.specs.Loans.{Loan, loan, loanPages, runs, most, sum, enter, amend}
-use Rattle.trace.specs.Receipts.{Receipts, RegionEntry, Wait, Reply, unit, pagesIn, addressIn, pageIn}
+use Rattle.trace.specs.Receipts.{Receipts, RegionEntry, Wait, Reply, unit, pagesIn, addressIn, pageIn, byPage, pageLoans}
 
 -- THE QUEUE BY THE RECEIPTS: a region's waits, by arrival, or by priority and equal ones by arrival
 unfoldable pub waitsIn : ℕ → List Wait → List Wait
@@ -64,7 +64,7 @@ dueFrom (suc n) id t = dueOf id (t .regions id) t ++ dueFrom n (suc id) t
 -- INFORMATION BY THE RECEIPTS: count, largest and total bytes over the runs of unheld pages, then over the loans
 abbrev pub informationIn : RegionEntry → Information
 informationIn e =
-    let frees = runs (pagesIn e) 0 (e .loans) in
+    let frees = runs (pagesIn e) 0 (pageLoans e) in
     let helds = loanPages (e .loans) in
     record {
       «free_count» = length frees;
@@ -149,19 +149,19 @@ lendsAny [] = false
 lendsAny (x ∷ l) = true
 
 -- the pages of the loan at an address; 0 where there is none
-unfoldable pub pagesAt : RegionEntry → ℕ → List Loan → ℕ
-pagesAt e a [] = 0
-pagesAt e a (loan p k ∷ l) = cond (eqb (addressIn e p) a) k (pagesAt e a l)
+unfoldable pub pagesAt : ℕ → List Loan → ℕ
+pagesAt a [] = 0
+pagesAt a (loan b k ∷ l) = cond (eqb b a) k (pagesAt a l)
 
 -- where the next loan starts, or the region of n pages ends
 abbrev pub upTo : ℕ → List Loan → ℕ
 upTo n [] = n
 upTo n (loan a k ∷ l) = a
 
--- the most pages that the loan at an address can have: its own, and the unheld ones up to the next loan
-unfoldable pub mostPagesAt : RegionEntry → ℕ → List Loan → ℕ
-mostPagesAt e a [] = 0
-mostPagesAt e a (loan p k ∷ l) = cond (eqb (addressIn e p) a) (upTo (pagesIn e) l - p) (mostPagesAt e a l)
+-- the most pages, of n, that the loan at page p can have: its own, and the unheld ones up to the next loan
+unfoldable pub mostPagesAt : ℕ → ℕ → List Loan → ℕ
+mostPagesAt n p [] = 0
+mostPagesAt n p (loan a k ∷ l) = cond (eqb a p) (upTo n l - a) (mostPagesAt n p l)
 
 -- the lowest run of k unheld pages, of n, from page `at` on: the first gap between loans that has k pages
 unfoldable pub lowestRun : ℕ → ℕ → ℕ → List Loan → Place
@@ -171,15 +171,16 @@ lowestRun n k at (loan a m ∷ l) = cond (leb k (a - at)) (At at) (lowestRun n k
 abbrev pub pagesOver : RegionEntry → ℕ → ℕ
 pagesOver e size = pagesFor size (unit e)
 
+-- with the loans l, at addresses
 abbrev pub runIn : RegionEntry → ℕ → List Loan → Place
-runIn e size l = lowestRun (pagesIn e) (pagesOver e size) 0 l
+runIn e size l = lowestRun (pagesIn e) (pagesOver e size) 0 (byPage e l)
 
 -- GRANTS: to the first waits in order, each at the lowest run at that moment, up to the first wait that has none
 unfoldable pub grantsIn : RegionEntry → List Loan → List Wait → List Notice
 grantsIn e l [] = []
 grantsIn e l (w ∷ ws) =
     onPlace (runIn e (w .size) l)
-    (λ p. record { task = w .task; status = Successful; address = addressIn e p } ∷ grantsIn e (enter p (pagesOver e (w .size)) l) ws)
+    (λ p. record { task = w .task; status = Successful; address = addressIn e p } ∷ grantsIn e (enter (addressIn e p) (pagesOver e (w .size)) l) ws)
     []
 
 -- a task waits
@@ -252,19 +253,19 @@ byReceipts n t (GetSegment id size wait task priority ticks) =
 -- return: 4, 9; then the queue is served
 byReceipts n t (ReturnSegment id a) =
     living (t .regions id) (λ e.
-    decided (check (eqb (pagesAt e a (e .loans)) 0) InvalidAddress ∷ [])
-    (tells (grantsIn e (amend (pageIn e a) 0 (e .loans)) (queueOf id e t))))
+    decided (check (eqb (pagesAt a (e .loans)) 0) InvalidAddress ∷ [])
+    (tells (grantsIn e (amend a 0 (e .loans)) (queueOf id e t))))
 -- size: 4, 9
 byReceipts n t (SegmentSize id a) =
     living (t .regions id) (λ e.
-    decided (check (eqb (pagesAt e a (e .loans)) 0) InvalidAddress ∷ [])
-    (yes (pagesAt e a (e .loans) * unit e)))
+    decided (check (eqb (pagesAt a (e .loans)) 0) InvalidAddress ∷ [])
+    (yes (pagesAt a (e .loans) * unit e)))
 -- resize: size 0 (8), 4, 9, 13
 byReceipts n t (ResizeSegment id a size) =
     decided (check (eqb size 0) InvalidSize ∷ [])
     (living (t .regions id) (λ e.
-    decided (check (eqb (pagesAt e a (e .loans)) 0) InvalidAddress ∷ [])
-    (resizes (leb (pagesOver e size) (mostPagesAt e a (e .loans))) (pagesAt e a (e .loans) * unit e))))
+    decided (check (eqb (pagesAt a (e .loans)) 0) InvalidAddress ∷ [])
+    (resizes (leb (pagesOver e size) (mostPagesAt (pagesIn e) (pageIn e a) (pageLoans e))) (pagesAt a (e .loans) * unit e))))
 -- information: 4
 byReceipts n t (RegionInformation id) = living (t .regions id) (λ e. informs (informationIn e))
 -- create partition: 3, start 9, alignment 9, past memory 9, length or size 0 (8), length below size 8, size not a multiple of 4 or
@@ -301,14 +302,14 @@ abbrev pub writeByReceipts : Receipts → ℕ → ℕ → ℕ → List ℕ → R
 writeByReceipts t id a first words =
     living (t .regions id) (λ e.
     decided
-    (check (eqb (pagesAt e a (e .loans)) 0) InvalidAddress
-    ∷ check (ltb (pagesAt e a (e .loans) * unit e / 4) (first + length words)) InvalidSize
+    (check (eqb (pagesAt a (e .loans)) 0) InvalidAddress
+    ∷ check (ltb (pagesAt a (e .loans) * unit e / 4) (first + length words)) InvalidSize
     ∷ [])
     (yes 0))
 
 abbrev pub lentWords : Option RegionEntry → ℕ → ℕ
 lentWords none a = 0
-lentWords (some e) a = pagesAt e a (e .loans) * unit e / 4
+lentWords (some e) a = pagesAt a (e .loans) * unit e / 4
 
 abbrev pub readByReceipts : List ℕ → Receipts → ℕ → ℕ → List ℕ
 readByReceipts m t id a = take (lentWords (t .regions id) a) (drop (a / 4) m)

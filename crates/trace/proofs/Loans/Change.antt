@@ -13,6 +13,7 @@ use Rattle.manager.specs.Map.{held}
 use Rattle.manager.specs.Paged.{free+, held+, lead, rest, heldFrom, reachFrom, changeFrom}
 use Rattle.manager.specs.Paged.Laws.{free-join}
 use Rattle.trace.specs.Loans.{Loan, loan, loan+, amend, Lent, Held, drawn, Ordered, Room}
+use Rattle.trace.specs.Replies.{upTo, mostPagesAt}
 use Rattle.trace.proofs.Loans.Tests.{by-leb, by-eqb}
 use Rattle.trace.proofs.Loans.Drawn.{next, onward, drawn-next, lead-onward, rest-onward, ordered-next, ordered-end, ordered-from, held-after, next-held, lent-after, lent-some}
 
@@ -132,6 +133,18 @@ reach-is n at (loan a j ∷ l) p m k o (inr x) =
     let ih = reach-is n (a + j) l p m k (o .2) x in
     let b = room-behind n at a j l o p m k x in
     rw (reach-first n p at a j l o, ne-eqb a p (lent-behind n p at a j l o m x)) (λ h. b .0 (ih .0 h), λ r. ih .1 (b .1 r))
+
+-- and that is the most by the loans
+next-is : (n : ℕ) (l : List Loan) → next n l ≡ upTo n l
+next-is n [] = refl
+next-is n (loan a k ∷ l) = refl
+
+pub most-from : (n p at : ℕ) (l : List Loan) → Ordered n at l → reachFrom p at (drawn n at l) ≡ mostPagesAt n p l
+unfolding mostPagesAt reachFrom Ordered
+most-from n p at [] o = ap (reachFrom p at) (drawn-next n at []) ∙ reach-gap n p at (n - at) []
+most-from n p at (loan q k ∷ l) o =
+    let g : k + (next n l - (q + k)) ≡ upTo n l - q = omega (arith, ordered-next n (q + k) l (o .2), next-is n l) in
+    reach-first n p at q k l o ∙ rw (g, most-from n p (q + k) l (o .2))
 
 -- ---- return and resize
 

@@ -14,6 +14,7 @@ use Rattle.manager.specs.Paged.{free+, placeFrom, take}
 use Rattle.manager.specs.declared.Place.{Place}
 use Rattle.manager.specs.declared.Place.the-variants.{At, Nowhere}
 use Rattle.trace.specs.Loans.{Loan, loan, enter, Held, drawn, Ordered, Run}
+use Rattle.trace.specs.Replies.{lowestRun}
 use Rattle.trace.proofs.Loans.Tests.{by-leb}
 use Rattle.trace.proofs.Loans.Drawn.{next, onward, drawn-next, ordered-end, ordered-from, held-after}
 
@@ -97,3 +98,12 @@ got-from n k at (loan a m ∷ l) o z =
     (cond t (held k ∷ free+ (a - at - k) (held m ∷ drawn n (a + m) l)) (free+ (a - at) (held m ∷ take k (drawn n (a + m) l)))))
     (first n at k (loan a m ∷ l) o z)
     (λ h. behind n at a m l k o h (got-from n k (a + m) l (o .2) z)))
+
+-- THE PLACE IS THE LOWEST RUN BY THE LOANS
+pub lowest-from : (n k at : ℕ) (l : List Loan) → 0 < k → Ordered n at l → placeFrom k at (drawn n at l) ≡ lowestRun n k at l
+unfolding placeFrom lowestRun Ordered
+lowest-from n k at [] z o = ap (placeFrom k at) (drawn-next n at []) ∙ place-gap n k at (n - at) [] z
+lowest-from n k at (loan a j ∷ l) z o =
+    let there : at + (a - at) ≡ a = omega arith in
+    ap (placeFrom k at) (drawn-next n at (loan a j ∷ l)) ∙ place-gap n k at (a - at) (loan a j ∷ l) z
+    ∙ rw (there, lowest-from n k (a + j) l z (o .2))

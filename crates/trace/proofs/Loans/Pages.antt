@@ -12,9 +12,10 @@ use Rattle.manager.specs.Map.Laws.{redraw}
 use Rattle.manager.specs.Paged.{paged, placeFrom, take, heldFrom, reachFrom, changeFrom}
 use Rattle.manager.specs.declared.Place.{Place}
 use Rattle.trace.specs.Loans.{Loan, amend, Lent, drawn, runs, Ordered, Run, Lowest, Room, loanPages, sum}
+use Rattle.trace.specs.Replies.{lowestRun}
 use Rattle.trace.specs.Claims.{freePages}
 use Rattle.trace.proofs.Loans.Drawn as draws
-use Rattle.trace.proofs.Loans.Get.{Got, gave, none, got-from}
+use Rattle.trace.proofs.Loans.Get.{Got, gave, none, got-from, lowest-from}
 use Rattle.trace.proofs.Loans.Change as change
 use Rattle.trace.proofs.Loans.Words as words
 use Rattle.trace.proofs.Loans.Book as book
@@ -31,6 +32,10 @@ gets o (none e no-run) = nothing (record { ordered = o; is = e }) (λ q u. no-ru
 module _ {n : ℕ} {l : List Loan} {s : List Segment} (d : Drawing pages n l s) where
   got : (k : ℕ) → 0 < k → Gets pages n l k (placeFrom k 0 s) (take k s)
   got k z = rw (d .is) (gets (d .ordered) (got-from n k 0 l (d .ordered) z))
+
+  -- the place is the lowest run by the loans
+  pub place-lowest : (k : ℕ) → 0 < k → placeFrom k 0 s ≡ lowestRun n k 0 l
+  place-lowest k z = ap (placeFrom k 0) (d .is) ∙ lowest-from n k 0 l z (d .ordered)
 
   held : (p k : ℕ) → Lent l p k → heldFrom p 0 s ≡ k
   held p k x = rw (d .is) (change.held-lent n 0 l p k (d .ordered) x)

@@ -4,10 +4,11 @@ use mathlib.Core.Path.{_≡_, refl, _∙_}
 use mathlib.Core.Bool.{true, false}
 use mathlib.Core.List.{List, []}
 use mathlib.Core.Logic.{inr}
+use mathlib.Core.Option.{some}
 use Prim.Native.Nat.{ℕ, zero, suc, _+_, _*_, _/_, _%_, _≤_, _<_}
 use native.Mathlib.Nat.{zero-mul}
 use native.Mathlib.Omega.{arith}
-use lib.ListN.{length}
+use lib.ListN.{length, getD}
 use lib.Dec.{eqb}
 use borrow.Author.Tests.{eqb-true, eqb-false, ltb-false, leb-false, not-false}
 use Rattle.manager.specs.Record.{slots, idOf, withPartition}
@@ -16,7 +17,7 @@ use Rattle.manager.specs.Lists as lists
 use Rattle.manager.specs.Region.{areaOf}
 use Rattle.manager.specs.Regions.{overlaps}
 use Rattle.manager.specs.Partition.{bufferAt, linkAll}
-use Rattle.manager.specs.Partition.Laws.{Shaped, addresses, all-length, create-chain, create-outside, new-laid, new-created, live-new}
+use Rattle.manager.specs.Partition.Laws.{Shaped, addresses, all-length, all-clear, create-chain, create-outside, new-laid, new-created, live-new}
 use Rattle.manager.specs.Partitions.{partitionNamed, newPartition, createPartition}
 use Rattle.manager.specs.Sound.{sound}
 use Rattle.manager.specs.declared.Manager.{Manager}
@@ -25,7 +26,9 @@ use Rattle.manager.specs.declared.Call.the-variants.{CreatePartition}
 use Rattle.trace.specs.Receipts.{Receipts, PartitionEntry, buffersFrom, Within, Distinct}
 use Rattle.trace.proofs.Invariant.{Only, PartitionIs, Inv, live}
 use Rattle.trace.proofs.Areas.{overlaps-clear}
-use Rattle.trace.proofs.Buffers.{length-buffers, buffer-within}
+use Rattle.trace.proofs.Buffers.{length-buffers, numbered-buffers, buffer-within}
+use Rattle.trace.proofs.Clients.{NoLink, owned-no-link}
+use Rattle.trace.proofs.Regions.Picture.{put-here}
 use Rattle.trace.proofs.Regions.Checks.{Passed, Kept, kept-checked}
 use Rattle.trace.proofs.Partitions.Slot.{keeping, put-keeps, outside, kept-done}
 
@@ -53,6 +56,10 @@ module _ (m : List ℕ) (name start bytes size : ℕ) (named : ¬ (name ≡ 0)) 
 
   new-only : Only start bytes m (chaining m name start bytes size)
   new-only = record { size = all-length (bytes / size) m new 0; same = λ w n. create-outside new shaped m w (outside new shaped w n) }
+
+  -- only link words of its buffers differ
+  new-words : (w : ℕ) → NoLink (buffersFrom (bytes / size) size start) w → getD (chaining m name start bytes size) w 0 ≡ getD m w 0
+  new-words w n = all-clear (bytes / size) m new 0 w (λ j x y. n (bufferAt new j) (numbered-buffers (bytes / size) size start j (omega arith)))
 
   -- A LIVE PARTITION, WITH NOTHING LENT
   new-is : PartitionIs (chaining m name start bytes size) new (asked name start bytes size)
@@ -82,16 +89,20 @@ module _ (m : List ℕ) (d : Manager) (t : Receipts) (v : Inv m d t) (name start
   module _ (within : slot < slots) (clear : overlaps d (areaOf (newPartition name start bytes size)) ≡ false)
       (only : Only start bytes m (chaining m name start bytes size))
       (is : PartitionIs (chaining m name start bytes size) (newPartition name start bytes size) (asked name start bytes size)) where
-    act-kept : Kept (CreatePartition name start bytes size) t
+    act-kept : ((w : ℕ) → NoLink (buffersFrom (bytes / size) size start) w → getD (chaining m name start bytes size) w 0 ≡ getD m w 0)
+        → Kept (CreatePartition name start bytes size) m t
         (done (chaining m name start bytes size) (withPartition d slot (newPartition name start bytes size)) (idOf slot))
-    act-kept =
+    act-kept words =
         let p = newPartition name start bytes size in
-        kept-done (CreatePartition name start bytes size) t (keeping (idOf slot) _ t) _ (withPartition d slot p) (idOf slot) refl
-        (put-keeps m d t v (idOf slot) (record { within = within; is = refl }) p _ _ only
-        (λ x n. overlaps-clear d (v .picture .region-slots) (v .picture .partition-slots) (areaOf p) clear x) (live p _ is))
+        let e = asked name start bytes size in
+        let after =
+        put-keeps m d t v (idOf slot) (record { within = within; is = refl }) p _ _ only
+        (λ x n. overlaps-clear d (v .picture .region-slots) (v .picture .partition-slots) (areaOf p) clear x) (live p e is) in
+        kept-done (CreatePartition name start bytes size) m t (keeping (idOf slot) (some e) t) _ (withPartition d slot p) (idOf slot) refl after
+        (λ w h h′. words w (owned-no-link _ _ (keeping (idOf slot) (some e) t) after (idOf slot) e (put-here (idOf slot) (some e) (t .partitions)) w h′))
 
   -- A CREATE KEEPS THE PICTURE
-  pub keeps-create : sound m d ≡ true → Kept (CreatePartition name start bytes size) t (createPartition m d name start bytes size)
+  pub keeps-create : sound m d ≡ true → Kept (CreatePartition name start bytes size) m t (createPartition m d name start bytes size)
   unfolding createPartition lists.every Passed
   keeps-create ok =
       kept-checked (CreatePartition name start bytes size) m d t v _ _ ok refl
@@ -104,4 +115,5 @@ module _ (m : List ℕ) (d : Manager) (t : Receipts) (v : Inv m d t) (name start
       let big = ltb-false size 8 (c .1 .1 .1 .1 .1 .1 .1 .1 .0) in
       act-kept (leb-false slots slot (c .1 .1 .1 .1 .1 .1 .1 .1 .1 .1 .0)) (c .1 .1 .1 .1 .1 .1 .1 .1 .1 .0)
       (new-only m name start bytes size named started aligned upto some-buffer whole big)
-      (new-is m name start bytes size named started aligned upto some-buffer whole big))
+      (new-is m name start bytes size named started aligned upto some-buffer whole big)
+      (new-words m name start bytes size named started aligned upto some-buffer whole big))

@@ -2,33 +2,29 @@
 use mathlib.Core.Path.{_≡_, refl, sym, ap, _∙_, subst}
 use mathlib.Core.Bool.{true}
 use mathlib.Core.List.{List, _∷_}
-use mathlib.Core.Logic.{_⊎_, inl, inr, ⊎-elim, _↔_}
+use mathlib.Core.Logic.{_⊎_, inl, inr}
 use mathlib.Core.Option.{some}
 use Prim.Native.Nat.{ℕ, _<_}
 use native.Mathlib.Omega.{arith}
-use lib.ListN.{length}
-use borrow.Author.Tests.{eqb-false, eq-eqb, ne-eqb}
+use lib.ListN.{getD}
+use borrow.Author.Tests.{eqb-false}
 use Rattle.manager.specs.Record.{slotOf, partitionOf, withPartition}
-use Rattle.manager.specs.Result.{Result, refused, done}
-use Rattle.manager.specs.Result.Laws.{checked-passes, checked-fails}
+use Rattle.manager.specs.Result.{done}
 use Rattle.manager.specs.Lists as lists
 use Rattle.manager.specs.Partition.{isBuffer, chain, afterGet, gotten}
-use Rattle.manager.specs.Partition.Distinct.{same-or-not}
-use Rattle.manager.specs.Partition.Laws.{get-chain, get-buffer, get-length, get-outside, live-get, live-chain}
+use Rattle.manager.specs.Partition.Laws.{get-chain, get-buffer, get-length, get-outside, get-only, live-get, live-chain}
 use Rattle.manager.specs.Partitions.{getBuffer}
-use Rattle.manager.specs.Perform.{perform}
 use Rattle.manager.specs.Sound.{sound}
 use Rattle.manager.specs.declared.Manager.{Manager}
 use Rattle.manager.specs.declared.Partition.{Partition}
 use Rattle.manager.specs.declared.Call.the-variants.{GetBuffer}
-use Rattle.manager.specs.declared.Status.the-variants.{Successful, Unsatisfied}
-use Rattle.trace.specs.Receipts.{Receipts, PartitionEntry, buffersIn, Within, Distinct, strike, withBuffers}
+use Rattle.trace.specs.Receipts.{Receipts, PartitionEntry, Within, Distinct, strike, withBuffers}
 use Rattle.trace.proofs.Invariant.{Only, PartitionIs, Inv, live}
 use Rattle.trace.proofs.Frame.{partition-laid, partition-shaped}
-use Rattle.trace.proofs.Clients.{partition-at}
-use Rattle.trace.proofs.Buffers.{strike-here, within-strike, strike-other, strike-length}
-use Rattle.trace.proofs.Regions.Checks.{Passed, acts, answered-sound, Kept, kept-checked}
-use Rattle.trace.proofs.Partitions.Slot.{free-unlent, buffers-in, unlent-once, partition-entry, on-partition, put-keeps, live-slot, live-clear, outside, kept-done}
+use Rattle.trace.proofs.Clients.{NoLink, owned-no-link}
+use Rattle.trace.proofs.Buffers.{on-within, strike-here, within-strike, strike-other, strike-length}
+use Rattle.trace.proofs.Regions.Checks.{Passed, Kept, kept-checked}
+use Rattle.trace.proofs.Partitions.Slot.{unlent-once, partition-entry, on-partition, put-keeps, live-slot, live-clear, outside, kept-done}
 
 -- the entry with one buffer more lent
 abbrev pub lentOne : ℕ → PartitionEntry → PartitionEntry
@@ -89,78 +85,27 @@ module _ (m : List ℕ) (p : Partition) (e : PartitionEntry) (is : PartitionIs m
       let s = partition-shaped m p e is in
       record { size = get-length m p; same = λ w n. get-outside m p s (live-chain m p (is .sound)) w (outside p s w n) h }
 
+  -- only link words of buffers that were not lent differ
+  got-words : (w : ℕ) → NoLink (e .unlent) w → getD (afterGet m p) w 0 ≡ getD m w 0
+  got-words w n =
+      get-only m p (partition-shaped m p e is) (live-chain m p (is .sound)) w (λ a o. n a (rw (is .chained) at (on-within a (chain m p) o))) h
+
 module _ (m : List ℕ) (d : Manager) (t : Receipts) (v : Inv m d t) (id : ℕ) where
   module _ (e : PartitionEntry) (q : t .partitions id ≡ some e) (is : PartitionIs m (partitionOf d id) e) (h : 0 < partitionOf d id .free) where
-    act-kept : Kept (GetBuffer id) t (done (afterGet m (partitionOf d id)) (withPartition d (slotOf id) (gotten m (partitionOf d id))) (partitionOf d id .front))
+    act-kept : Kept (GetBuffer id) m t (done (afterGet m (partitionOf d id)) (withPartition d (slotOf id) (gotten m (partitionOf d id))) (partitionOf d id .front))
     act-kept =
         let p = partitionOf d id in
-        kept-done (GetBuffer id) t _ (afterGet m p) (withPartition d (slotOf id) (gotten m p)) (p .front)
+        kept-done (GetBuffer id) m t _ (afterGet m p) (withPartition d (slotOf id) (gotten m p)) (p .front)
         (on-partition id e t (λ (x : PartitionEntry). lentOne (p .front) x) q)
         (put-keeps m d t v id (live-slot m d t v id e is) (gotten m p) (afterGet m p) (some (lentOne (p .front) e)) (got-only m p e is h)
         (live-clear m d t v id e is) (live (gotten m p) (lentOne (p .front) e) (got-is m p e is h)))
+        (λ w o o′. got-words m p e is h w (owned-no-link m d t v id e q w o))
 
   -- A GET KEEPS THE PICTURE
-  pub keeps-get : sound m d ≡ true → Kept (GetBuffer id) t (getBuffer m d id)
+  pub keeps-get : sound m d ≡ true → Kept (GetBuffer id) m t (getBuffer m d id)
   unfolding getBuffer lists.every Passed
   keeps-get ok =
       kept-checked (GetBuffer id) m d t v _ _ ok refl
       (λ c. let s = partition-entry m (partitionOf d id) (t .partitions id) (v .picture .partitions id) (c .0) in
       let n = eqb-false (partitionOf d id .free) 0 (c .1 .0) in
       act-kept (s .0) (s .1) (s .2) (omega arith))
-
--- WHAT IT ANSWERS
-module _ (m : List ℕ) (d : Manager) (t : Receipts) (v : Inv m d t) (ok : sound m d ≡ true) (id : ℕ) (e : PartitionEntry) (q : t .partitions id ≡ some e) where
-  partition-is : PartitionIs m (partitionOf d id) e
-  partition-is = partition-at m (partitionOf d id) (t .partitions id) e (v .picture .partitions id) q
-
-  -- by the number of free buffers
-  refuses-get : partitionOf d id .free ≡ 0 → getBuffer m d id ≡ refused m d Unsatisfied
-  unfolding getBuffer
-  refuses-get z =
-      answered-sound m d _ _ ok
-      ∙ checked-passes _ _ _ (refused m d) _ (ne-eqb (partitionOf d id .name) 0 (partition-is .named))
-      ∙ checked-fails _ _ _ (refused m d) _ (eq-eqb (partitionOf d id .free) 0 z)
-
-  acts-get : ¬ (partitionOf d id .free ≡ 0)
-      → getBuffer m d id ≡ done (afterGet m (partitionOf d id)) (withPartition d (slotOf id) (gotten m (partitionOf d id))) (partitionOf d id .front)
-  unfolding getBuffer Passed
-  acts-get n =
-      acts m d _ _ ok (
-        ne-eqb (partitionOf d id .name) 0 (partition-is .named),
-        (ne-eqb (partitionOf d id .free) 0 n, tt),
-      )
-
-  -- as many are lent as there are buffers exactly when none is free
-  none-free : partitionOf d id .free ≡ 0 ↔ length (e .lent) ≡ buffersIn e
-  none-free =
-      let f = free-unlent m (partitionOf d id) e partition-is in
-      let c = partition-is .counted ∙ buffers-in m (partitionOf d id) e partition-is in
-      (λ (z : partitionOf d id .free ≡ 0). omega (arith, f, c), λ (z : length (e .lent) ≡ buffersIn e). omega (arith, f, c))
-
-  -- 13 EXACTLY WHEN EVERY BUFFER IS HELD
-  pub get-unsatisfied : (perform m d (GetBuffer id) .status ≡ Unsatisfied) ↔ (length (e .lent) ≡ buffersIn e)
-  unfolding perform
-  get-unsatisfied =
-      ⊎-elim
-      (λ (z : partitionOf d id .free ≡ 0). (
-        λ (s : getBuffer m d id .status ≡ Unsatisfied). none-free .0 z,
-        λ (l : length (e .lent) ≡ buffersIn e). ap (λ (r : Result). r .status) (refuses-get z),
-      ))
-      (λ (n : ¬ (partitionOf d id .free ≡ 0)). (
-        λ (s : getBuffer m d id .status ≡ Unsatisfied).
-            let x : Successful ≡ Unsatisfied = sym (ap (λ (r : Result). r .status) (acts-get n)) ∙ s in
-            let z : _≡_ {A = ℕ} 0 1 = cc in absurd (omega arith),
-        λ (l : length (e .lent) ≡ buffersIn e). absurd (n (none-free .1 l)),
-      ))
-      (same-or-not (partitionOf d id .free) 0)
-
-  -- ELSE THE FRONT OF THE CHAIN AS THE RECEIPTS HAVE IT
-  pub get-front : (a : ℕ) (u : List ℕ) → e .unlent ≡ a ∷ u → (perform m d (GetBuffer id) .status ≡ Successful) × (perform m d (GetBuffer id) .value ≡ a)
-  unfolding perform
-  get-front a u l =
-      let p = partitionOf d id in
-      let f = free-unlent m p e partition-is ∙ ap length l in
-      let n : ¬ (p .free ≡ 0) = λ (z : p .free ≡ 0). omega arith in
-      let r : p .front ∷ chain (afterGet m p) (gotten m p) ≡ a ∷ u = sym (front-first m p e partition-is (omega arith)) ∙ l in
-      let x : p .front ≡ a = cc in
-      (ap (λ (s : Result). s .status) (acts-get n), ap (λ (s : Result). s .value) (acts-get n) ∙ x)

@@ -7,14 +7,14 @@ use mathlib.Core.Logic.{_⊎_, inl, inr, ⊎-elim}
 use mathlib.Core.Option.{some}
 use Prim.Native.Nat.{ℕ}
 use native.Mathlib.Omega.{arith}
-use lib.ListN.{length, length-append}
+use lib.ListN.{getD, length, length-append}
 use borrow.Author.Tests.{not-false}
 use Rattle.manager.specs.Record.{slotOf, partitionOf, withPartition}
 use Rattle.manager.specs.Result.{done}
 use Rattle.manager.specs.Lists as lists
 use Rattle.manager.specs.Partition.{isBuffer, isFree, chain, afterReturn, returned}
 use Rattle.manager.specs.Partition.Distinct.{on-off, same-or-not}
-use Rattle.manager.specs.Partition.Laws.{return-chain, return-length, return-outside, live-return, live-chain}
+use Rattle.manager.specs.Partition.Laws.{return-chain, return-length, return-outside, return-only, live-return, live-chain}
 use Rattle.manager.specs.Partitions.{returnBuffer}
 use Rattle.manager.specs.Sound.{sound}
 use Rattle.manager.specs.declared.Manager.{Manager}
@@ -23,9 +23,11 @@ use Rattle.manager.specs.declared.Call.the-variants.{ReturnBuffer}
 use Rattle.trace.specs.Receipts.{Receipts, PartitionEntry, Within, strike, withBuffers}
 use Rattle.trace.proofs.Invariant.{Only, PartitionIs, Inv, live}
 use Rattle.trace.proofs.Frame.{partition-laid, partition-shaped}
-use Rattle.trace.proofs.Buffers.{within-on, within-strike, strike-other, strike-keeps, strike-distinct, strike-length}
+use Rattle.trace.proofs.Buffers.{within-on, on-within, within-strike, strike-other, strike-keeps, strike-distinct, strike-length}
+use Rattle.trace.proofs.Clients.{NoLink, owned-no-link}
+use Rattle.trace.proofs.Regions.Picture.{put-here}
 use Rattle.trace.proofs.Regions.Checks.{Passed, Kept, kept-checked}
-use Rattle.trace.proofs.Partitions.Slot.{partition-entry, on-partition, put-keeps, live-slot, live-clear, outside, kept-done}
+use Rattle.trace.proofs.Partitions.Slot.{partition-entry, keeping, on-partition, put-keeps, live-slot, live-clear, outside, kept-done}
 
 -- a number added at the end of a list
 pub last-within : (a : ℕ) (l : List ℕ) → Within a (l ++ (a ∷ []))
@@ -87,19 +89,29 @@ module _ (m : List ℕ) (p : Partition) (e : PartitionEntry) (is : PartitionIs m
       let s = partition-shaped m p e is in
       record { size = return-length m p a; same = λ w n. return-outside m p s (live-chain m p (is .sound)) w (outside p s w n) a b }
 
+  -- only link words of buffers that are not lent then differ
+  back-words : (w : ℕ) → NoLink (e .unlent ++ (a ∷ [])) w → getD (afterReturn m p a) w 0 ≡ getD m w 0
+  back-words w n =
+      let l = n a (last-within a (e .unlent)) in
+      return-only m p (partition-shaped m p e is) (live-chain m p (is .sound)) w a
+      (λ x q. n x (more-within x a (e .unlent) (rw (is .chained) at (on-within x (chain m p) q)))) (l .0) (l .1)
+
 module _ (m : List ℕ) (d : Manager) (t : Receipts) (v : Inv m d t) (id a : ℕ) where
   module _ (e : PartitionEntry) (q : t .partitions id ≡ some e) (is : PartitionIs m (partitionOf d id) e)
       (b : isBuffer (partitionOf d id) a ≡ true) (o : isFree m (partitionOf d id) a ≡ false) where
-    act-kept : Kept (ReturnBuffer id a) t (done (afterReturn m (partitionOf d id) a) (withPartition d (slotOf id) (returned (partitionOf d id) a)) 0)
+    act-kept : Kept (ReturnBuffer id a) m t (done (afterReturn m (partitionOf d id) a) (withPartition d (slotOf id) (returned (partitionOf d id) a)) 0)
     act-kept =
         let p = partitionOf d id in
-        kept-done (ReturnBuffer id a) t _ (afterReturn m p a) (withPartition d (slotOf id) (returned p a)) 0
-        (on-partition id e t (λ (x : PartitionEntry). lentLess a x) q)
-        (put-keeps m d t v id (live-slot m d t v id e is) (returned p a) (afterReturn m p a) (some (lentLess a e)) (back-only m p e is a b o)
-        (live-clear m d t v id e is) (live (returned p a) (lentLess a e) (back-is m p e is a b o)))
+        let after =
+        put-keeps m d t v id (live-slot m d t v id e is) (returned p a) (afterReturn m p a) (some (lentLess a e)) (back-only m p e is a b o)
+        (live-clear m d t v id e is) (live (returned p a) (lentLess a e) (back-is m p e is a b o)) in
+        kept-done (ReturnBuffer id a) m t (keeping id (some (lentLess a e)) t) (afterReturn m p a) (withPartition d (slotOf id) (returned p a)) 0
+        (on-partition id e t (λ (x : PartitionEntry). lentLess a x) q) after
+        (λ w h h′. back-words m p e is a b o w
+        (owned-no-link _ _ (keeping id (some (lentLess a e)) t) after id (lentLess a e) (put-here id (some (lentLess a e)) (t .partitions)) w h′))
 
   -- A RETURN KEEPS THE PICTURE
-  pub keeps-return : sound m d ≡ true → Kept (ReturnBuffer id a) t (returnBuffer m d id a)
+  pub keeps-return : sound m d ≡ true → Kept (ReturnBuffer id a) m t (returnBuffer m d id a)
   unfolding returnBuffer lists.every Passed
   keeps-return ok =
       kept-checked (ReturnBuffer id a) m d t v _ _ ok refl

@@ -27,7 +27,8 @@ use Rattle.trace.proofs.Buffers.{chain-once}
 use Rattle.trace.proofs.Areas.{areaIn, Clear, OfSlot, sound-clear, partition-slot, partition-there, partition-elsewhere, areas-partition, region-kept, partition-kept}
 use Rattle.trace.proofs.Loans.Tests.{by-eqb}
 use Rattle.trace.proofs.Queue.Tasks.{wait-same}
-use Rattle.trace.proofs.Regions.Checks.{Kept, note-done, sound-status}
+use Rattle.trace.proofs.Clients.{Stays}
+use Rattle.trace.proofs.Regions.Checks.{Kept, note-done}
 use Rattle.trace.proofs.Regions.Picture.{words-same}
 
 -- ---- what stands in a slot
@@ -145,9 +146,11 @@ outside p s w n = go (leb (p .start) (4 * w)) refl
 
 -- ---- what a directive that acts keeps
 
-pub kept-done : (c : Call) (t u : Receipts) (m : List ℕ) (d : Manager) (n : ℕ) → entered c n t ≡ u → Inv m d u → Kept c t (done m d n)
-kept-done c t u m d n e v =
+pub kept-done : (c : Call) (m : List ℕ) (t u : Receipts) (m′ : List ℕ) (d : Manager) (n : ℕ) → entered c n t ≡ u → Inv m′ d u → Stays t u m m′
+    → Kept c m t (done m′ d n)
+kept-done c m t u m′ d n e v s =
+    let f = note-done c m′ d t n Successful refl ∙ e in
     record {
-      inv = subst (λ (r : Receipts). Inv m d r) (sym (note-done c m d t n Successful refl ∙ e)) v;
-      sound = sound-status Successful refl;
+      inv = subst (λ (r : Receipts). Inv m′ d r) (sym f) v;
+      stays = subst (λ (r : Receipts). Stays t r m m′) (sym f) s;
     }

@@ -1,20 +1,16 @@
--- The clock tick keeps the invariant, and its notices are those of the waits whose ticks have run out. Assumes nothing.
+-- The clock tick keeps the invariant: the waits that were not due go on, a tick later. Assumes nothing.
 use mathlib.Core.Path.{_≡_, refl, ap, _∙_}
 use mathlib.Core.List.{List, []}
 use Prim.Native.Nat.{ℕ}
 use Rattle.manager.specs.Record.{slots, tasks}
-use Rattle.manager.specs.Result.{Result}
 use Rattle.manager.specs.Lists.{every}
 use Rattle.manager.specs.Queue.{leaving, afterTick}
 use Rattle.manager.specs.Regions.{tick}
-use Rattle.manager.specs.Perform.{perform}
 use Rattle.manager.specs.declared.Manager.{Manager}
 use Rattle.manager.specs.declared.Call.the-variants.{Tick}
-use Rattle.manager.specs.declared.Status.the-variants.{Successful}
 use Rattle.trace.specs.Receipts.{Receipts, withWaits, allLater, allNoticed, note}
-use Rattle.trace.specs.Claims.{dueFrom}
 use Rattle.trace.proofs.Invariant.{Inv, with-waits}
-use Rattle.trace.proofs.Regions.Checks.{Passed, Kept, kept-checked, acts, sound-status}
+use Rattle.trace.proofs.Regions.Checks.{Kept, kept-words, kept-checked}
 use Rattle.trace.proofs.Regions.Picture.{any-queue}
 use Rattle.trace.proofs.Regions.Queue.{region-ids, sound-inv}
 use Rattle.trace.proofs.Queue.Line.{keep}
@@ -32,16 +28,9 @@ module _ (m : List ℕ) (d : Manager) (t : Receipts) (v : Inv m d t) where
       ∙ tick-receipts slots tasks t (queued d t (v .waits) ids)
 
   -- THE TICK KEEPS THE INVARIANT
-  pub keeps-tick : Kept Tick t (tick m d)
+  pub keeps-tick : Kept Tick m t (tick m d)
   unfolding tick every note afterTick
   keeps-tick =
       kept-checked Tick m d t v [] _ (sound-inv m d t v) refl (λ c.
-      record {
-        inv = rw noted (with-waits (any-queue m d t (afterTick d .waiters) (allLater (keep notDue (t .waits))) (v .picture)) (waits-tick d t (v .waits) ids));
-        sound = sound-status Successful refl;
-      })
-
-  -- A TICK SENDS 6 TO EXACTLY THOSE WHOSE TICKS HAVE RUN OUT
-  pub tick-sends : perform m d Tick .notices ≡ dueFrom slots 1 t
-  unfolding perform tick Passed
-  tick-sends = ap (λ (s : Result). s .notices) (acts m d [] _ (sound-inv m d t v) tt) ∙ tick-notices slots tasks d t (v .waits .queue)
+      kept-words Tick m d t v _ refl
+      (rw noted (with-waits (any-queue m d t (afterTick d .waiters) (allLater (keep notDue (t .waits))) (v .picture)) (waits-tick d t (v .waits) ids))))

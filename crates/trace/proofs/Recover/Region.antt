@@ -1,5 +1,5 @@
--- The entry of a region, read off a sound record: its numbers are the record's, and its loans are the held segments of its map. Assumes
--- nothing.
+-- The entry of a region, read off a sound record: its numbers are the record's, and its loans are the held segments of its map, at their
+-- addresses. Assumes nothing.
 use mathlib.Core.Path.{_≡_, refl, sym, ap, _∙_, subst}
 use mathlib.Core.Bool.{Bool, true, false, cond, _&&_}
 use mathlib.Core.List.{List}
@@ -12,15 +12,16 @@ use borrow.Author.Tests.{eqb-true, eqb-false, leb-true}
 use Rattle.manager.specs.Lists.Laws.{and-first, and-second}
 use Rattle.manager.specs.Map.{soundMap, draw}
 use Rattle.manager.specs.Record.{noRegion}
-use Rattle.manager.specs.Region.{dead, pagesOf, mapWords, segments}
+use Rattle.manager.specs.Region.{dead, pagesOf, baseOf, mapWords, segments}
 use Rattle.manager.specs.Sound.{inside, soundPage, isFifo, emptyRegion, liveRegion, soundRegion}
 use Rattle.manager.specs.declared.Region.{Region}
 use Rattle.manager.specs.declared.Order.{Order}
 use Rattle.manager.specs.declared.Order.the-variants.{Fifo, Priority}
 use Rattle.trace.specs.Loans.{Loan, Ordered, drawn}
-use Rattle.trace.specs.Receipts.{RegionEntry, unit, pagesIn}
-use Rattle.trace.proofs.Invariant.{regionFor, RegionIs, RegionSlot, empty, live}
+use Rattle.trace.specs.Receipts.{RegionEntry, unit, pagesIn, firstIn, byPage, pageLoans}
+use Rattle.trace.proofs.Invariant.{regionFor, atAddresses, RegionIs, RegionSlot, empty, live}
 use Rattle.trace.proofs.Frame.{map-fits, map-length, inside-parts}
+use Rattle.trace.proofs.Loans.Addresses.{atPages, pages-back}
 use Rattle.trace.proofs.Loans.Words.{loansOf, sound-loans}
 use Rattle.manager.specs.Map.Laws.{redraw}
 
@@ -53,7 +54,7 @@ region-parts m r e =
 
 -- the entry of a region, and of a slot
 abbrev pub entryOf : List ℕ → Region → RegionEntry
-entryOf m r = record { name = r .name; start = r .start; bytes = r .length; page = r .page; order = r .order; loans = loansOf 0 (segments m r) }
+entryOf m r = record { name = r .name; start = r .start; bytes = r .length; page = r .page; order = r .order; loans = atPages (baseOf r) (r .page) (loansOf 0 (segments m r)) }
 
 abbrev pub slotEntry : List ℕ → Region → Option RegionEntry
 slotEntry m r = cond (dead r) none (some (entryOf m r))
@@ -88,23 +89,26 @@ region-back m r h =
 
 -- a live region, of an entry whose loans are its held segments
 pub is-region : (m : List ℕ) (e : RegionEntry) → ¬ (e .name ≡ 0) → RegionParts m (regionFor e) → 1 ≤ e .page → e .page ≤ 4096
-    → e .loans ≡ loansOf 0 (segments m (regionFor e)) → RegionIs m e
+    → e .loans ≡ atAddresses e (loansOf 0 (segments m (regionFor e))) → RegionIs m e
 is-region m e n q l h s =
     let ws = mapWords m (regionFor e) in
     let f = map-fits (e .start) (e .bytes) (unit e) (length m) (omega (arith, q .least)) (q .some-page) (inside-parts m (e .start) (e .bytes) (q .inside) .upto) in
     let z : length ws ≡ pagesIn e = map-length m (regionFor e) f in
     let x = sound-loans ws (q .map) in
+    let l′ = loansOf 0 (segments m (regionFor e)) in
+    let s′ : pageLoans e ≡ l′ = ap (byPage e) s ∙ pages-back (firstIn e) (unit e) (omega (arith, q .least)) l′ in
     record {
       named = n;
       inside = q .inside;
       page-some = l;
       page-most = h;
       some-page = q .some-page;
-      ordered = subst (λ (k : ℕ). Ordered k 0 (e .loans)) z (rw s (x .ordered));
+      placed = s ∙ ap (atAddresses e) (sym s′);
+      ordered = subst (λ (j : List Loan). Ordered (pagesIn e) 0 j) (sym s′) (subst (λ (k : ℕ). Ordered k 0 l′) z (x .ordered));
       map =
           sym (redraw ws (q .map)) ∙ ap draw (x .drawing)
-          ∙ ap (λ (k : ℕ). draw (drawn k 0 (loansOf 0 (segments m (regionFor e))))) z
-          ∙ ap (λ (l : List Loan). draw (drawn (pagesIn e) 0 l)) (sym s);
+          ∙ ap (λ (k : ℕ). draw (drawn k 0 l′)) z
+          ∙ ap (λ (j : List Loan). draw (drawn (pagesIn e) 0 j)) (sym s′);
     }
 
 -- A SOUND SLOT IS THE PICTURE OF ITS ENTRY
@@ -120,4 +124,4 @@ region-read m r e = go (dead r) refl
         let q = region-parts m r g in
         let b = region-back m r (q .whole) in
         subst (λ (x : Region). RegionSlot m x (some (entryOf m r))) (sym b)
-        (live (entryOf m r) (is-region m (entryOf m r) (eqb-false (r .name) 0 f) (subst (RegionParts m) b q) (omega (arith, q .least)) (q .most) (ap (λ (x : Region). loansOf 0 (segments m x)) b)))
+        (live (entryOf m r) (is-region m (entryOf m r) (eqb-false (r .name) 0 f) (subst (RegionParts m) b q) (omega (arith, q .least)) (q .most) (ap (λ (x : Region). atPages (baseOf x) (x .page) (loansOf 0 (segments m x))) b)))

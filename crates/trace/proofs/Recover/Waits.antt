@@ -15,7 +15,7 @@ use Rattle.manager.specs.Lists.{every, some as someOf, pairwise, adjacent}
 use Rattle.manager.specs.Lists.Laws.{and-first, and-second}
 use Rattle.manager.specs.Map.{Segment, free, held, isHeldSegment}
 use Rattle.manager.specs.Record.{tasks, noWaiter, regionOf}
-use Rattle.manager.specs.Region.{dead, pagesOf, pagesAsked, anyHeld, segments}
+use Rattle.manager.specs.Region.{baseOf, dead, pagesOf, pagesAsked, anyHeld, segments}
 use Rattle.manager.specs.Queue.{goesBefore}
 use Rattle.manager.specs.Sound.{unused, soundWaiter, soundPlace, otherTask, inOrder, liveRegion, soundRegion}
 use Rattle.manager.specs.Queue.Used.{empty-waiter}
@@ -26,6 +26,7 @@ use Rattle.manager.specs.declared.Waiter.{Waiter}
 use Rattle.trace.specs.Receipts.{Receipts, Wait, unit, Within, Distinct}
 use Rattle.trace.specs.Claims.{waiterOf, waitersOf}
 use Rattle.trace.proofs.Invariant.{WaitIs, AllWaits, tasksOf}
+use Rattle.trace.proofs.Loans.Addresses.{none-at}
 use Rattle.trace.proofs.Loans.Words.{loansOf}
 use Rattle.trace.proofs.Recover.Region.{entryOf, slotEntry, unit-same, region-parts}
 
@@ -167,7 +168,7 @@ module _ (m : List ℕ) (d : Manager) (t : Receipts) (entries : (id : ℕ) → t
       record {
         entry = entryOf m r;
         found = entries (w .region) ∙ rw (p .alive);
-        lending = some-loan 0 (segments m r) (p .lending);
+        lending = λ n. some-loan 0 (segments m r) (p .lending) (none-at (baseOf r) (r .page) (loansOf 0 (segments m r)) n);
         task-some = pos (w .task) (eqb-false (w .task) 0 f);
         task-most = p .task-most;
         size-some = p .size-some;

@@ -1,34 +1,33 @@
 -- A chain of checks: every check passes and the directive acts, or one refuses. A refusal leaves the memory, the record and the receipts
 -- as they were. Assumes nothing.
-use mathlib.Core.Path.{_≡_, refl, _∙_, subst}
+use mathlib.Core.Path.{_≡_, refl, ap, _∙_}
 use mathlib.Core.Bool.{Bool, true, false, cond, not, _&&_}
 use mathlib.Core.List.{List, [], _∷_}
+use mathlib.Core.Option.{some}
 use Prim.Native.Nat.{ℕ}
-use native.Mathlib.Omega.{arith}
-use lib.Dec.{eqb}
+use lib.ListN.{getD}
 use borrow.Author.Tests.{not-true}
 use Rattle.manager.specs.Lists.{every}
 use Rattle.manager.specs.Lists.Laws.{and-first, and-second}
 use Rattle.manager.specs.Queue.Parts.{by-case}
-use Rattle.manager.specs.Status.{numberOf}
 use Rattle.manager.specs.Result.{Result, Check, checked, replied, refused}
 use Rattle.manager.specs.Regions.{answered}
 use Rattle.manager.specs.Sound.{sound}
 use Rattle.manager.specs.declared.Manager.{Manager}
 use Rattle.manager.specs.declared.Call.{Call}
 use Rattle.manager.specs.declared.Status.{Status}
-use Rattle.manager.specs.declared.Status.the-variants.{InternalError}
-use Rattle.trace.specs.Receipts.{Receipts, replyOf, note, allNoticed, isSuccess, isWaiting, entered, waited}
+use Rattle.trace.specs.Receipts.{Receipts, RegionEntry, replyOf, note, allNoticed, isSuccess, isWaiting, entered, waited}
 use Rattle.trace.proofs.Invariant.{Inv}
+use Rattle.trace.proofs.Clients.{Stays, OnlyMap, map-stays}
 
 -- every check of a list passes
 unfoldable pub Passed : List Check → Type 0
 Passed [] = Unit {0}
 Passed (c ∷ cs) = (c .fails ≡ false) × Passed cs
 
--- a status that refuses: not 0, not 255, and not 25
+-- a status that refuses: not 0, and not 255
 abbrev pub refusing : Status → Bool
-refusing s = not (isSuccess s) && (not (isWaiting s) && not (eqb (numberOf s) 25))
+refusing s = not (isSuccess s) && not (isWaiting s)
 
 abbrev pub refuses : Check → Bool
 refuses c = refusing (c .status)
@@ -61,18 +60,6 @@ module _ (m : List ℕ) (d : Manager) (cs : List Check) (act : Result) (e : soun
       → P (answered m d cs act)
   by-answer P h f g = rw answered-sound (by-checks P cs (refused m d) act h f g)
 
--- a status of another number is not 25; so a refusal never is
-pub sound-status : (s : Status) → eqb (numberOf s) 25 ≡ false → ¬ (s ≡ InternalError)
-sound-status s n e =
-    let f : eqb (numberOf InternalError) 25 ≡ false = subst (λ (u : Status). eqb (numberOf u) 25 ≡ false) e n in
-    let z : _≡_ {A = ℕ} 0 1 = cc in
-    omega arith
-
-pub refusing-sound : (s : Status) → refusing s ≡ true → ¬ (s ≡ InternalError)
-refusing-sound s r =
-    sound-status s (not-true (eqb (numberOf s) 25)
-    (and-second (not (isWaiting s)) (not (eqb (numberOf s) 25)) (and-second (not (isSuccess s)) (not (isWaiting s) && not (eqb (numberOf s) 25)) r)))
-
 -- what a call that is answered without notices enters
 module _ (c : Call) (m : List ℕ) (d : Manager) (t : Receipts) where
   pub note-done : (v : ℕ) (s : Status) → isSuccess s ≡ true → note c (replyOf (replied m d s v)) t ≡ entered c v t
@@ -87,24 +74,29 @@ module _ (c : Call) (m : List ℕ) (d : Manager) (t : Receipts) where
   unfolding note allNoticed
   note-other v s e f = rw (e, f)
 
--- WHAT A DIRECTIVE KEEPS: the invariant, with the receipts noted; and it never answers 25
-pub record Kept (c : Call) (t : Receipts) (s : Result) : Type 0 where
+-- WHAT A DIRECTIVE KEEPS: the invariant, with the receipts noted, and the words of clients
+pub record Kept (c : Call) (m : List ℕ) (t : Receipts) (s : Result) : Type 0 where
   pub inv : Inv (s .memory) (s .manager) (note c (replyOf s) t)
-  pub sound : ¬ (s .status ≡ InternalError)
+  pub stays : Stays t (note c (replyOf s) t) m (s .memory)
 
 module _ (c : Call) (m : List ℕ) (d : Manager) (t : Receipts) (v : Inv m d t) where
+  -- where it changes only the map of a live region
+  pub kept-map : (id : ℕ) (e : RegionEntry) → t .regions id ≡ some e → (s : Result) → OnlyMap e m (s .memory)
+      → Inv (s .memory) (s .manager) (note c (replyOf s) t) → Kept c m t s
+  kept-map id e q s o v′ = record { inv = v′; stays = λ w h h′. map-stays m d t v id e q m (s .memory) o w h }
+
+  -- where it changes no word
+  pub kept-words : (s : Result) → s .memory ≡ m → Inv (s .memory) (s .manager) (note c (replyOf s) t) → Kept c m t s
+  kept-words s e v = record { inv = v; stays = λ w o h. ap (λ (l : List ℕ). getD l w 0) e }
+
   -- a refusal keeps it, with whatever value
-  pub kept-refused : (s : Status) (n : ℕ) → refusing s ≡ true → Kept c t (replied m d s n)
+  pub kept-refused : (s : Status) (n : ℕ) → refusing s ≡ true → Kept c m t (replied m d s n)
   kept-refused s n r =
-      let a = and-first (not (isSuccess s)) (not (isWaiting s) && not (eqb (numberOf s) 25)) r in
-      let b = and-second (not (isSuccess s)) (not (isWaiting s) && not (eqb (numberOf s) 25)) r in
-      let w = and-first (not (isWaiting s)) (not (eqb (numberOf s) 25)) b in
-      record {
-        inv = rw (note-other c m d t n s (not-true (isSuccess s) a) (not-true (isWaiting s) w)) v;
-        sound = refusing-sound s r;
-      }
+      let a = not-true (isSuccess s) (and-first (not (isSuccess s)) (not (isWaiting s)) r) in
+      let w = not-true (isWaiting s) (and-second (not (isSuccess s)) (not (isWaiting s)) r) in
+      kept-words (replied m d s n) refl (rw (note-other c m d t n s a w) v)
 
   -- a directive keeps it where its action does
-  pub kept-checked : (cs : List Check) (act : Result) → sound m d ≡ true → every refuses cs ≡ true → (Passed cs → Kept c t act)
-      → Kept c t (answered m d cs act)
-  kept-checked cs act e h k = by-answer m d cs act e (Kept c t) h (λ s r. kept-refused s 0 r) k
+  pub kept-checked : (cs : List Check) (act : Result) → sound m d ≡ true → every refuses cs ≡ true → (Passed cs → Kept c m t act)
+      → Kept c m t (answered m d cs act)
+  kept-checked cs act e h k = by-answer m d cs act e (Kept c m t) h (λ s r. kept-refused s 0 r) k

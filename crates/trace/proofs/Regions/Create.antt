@@ -24,16 +24,19 @@ use Rattle.manager.specs.declared.Order.{Order}
 use Rattle.manager.specs.declared.Call.{Call}
 use Rattle.manager.specs.declared.Call.the-variants.{CreateRegion}
 use Rattle.manager.specs.declared.Status.the-variants.{Successful}
+use Rattle.trace.specs.Loans.{inPages}
 use Rattle.trace.specs.Receipts.{Receipts, RegionEntry, unit, pagesIn, put}
-use Rattle.trace.specs.Trace.{region, partition}
+use Rattle.trace.specs.Trace.{region, partition, Owned}
 use Rattle.trace.proofs.Invariant.{Only, regionFor, RegionIs, RegionSlot, live, Inv, Picture, with-waits}
-use Rattle.trace.proofs.Frame.{unit-least, map-fits, map-stored, map-only, parts-inside}
+use Rattle.trace.proofs.Frame.{unit-least, map-fits, map-stored, map-words-only, map-only, parts-inside}
+use Rattle.trace.proofs.Clients.{OnlyMap, map-stays}
 use Rattle.trace.proofs.Areas.{areaFor, overlaps-clear, region-there, region-elsewhere, areas-new-region, region-kept, partition-kept}
 use Rattle.trace.proofs.Loans.Tests.{by-eqb}
+use Rattle.trace.proofs.Loans.Addresses.{atPages}
 use Rattle.trace.proofs.Loans.Words.{drawn-new, ordered-new}
-use Rattle.trace.proofs.Regions.Checks.{Passed, note-done, Kept, kept-checked, sound-status}
+use Rattle.trace.proofs.Regions.Checks.{Passed, note-done, Kept, kept-checked}
 use Rattle.trace.proofs.Regions.Live.{law, slot-none}
-use Rattle.trace.proofs.Regions.Picture.{words-same}
+use Rattle.trace.proofs.Regions.Picture.{put-here, words-same}
 use Rattle.trace.proofs.Regions.Lending.{none-there, registering, waits-put}
 use Rattle.trace.proofs.Regions.Queue.{sound-inv}
 
@@ -65,6 +68,7 @@ module _ (m : List ℕ) (e : RegionEntry) (fresh : e .loans ≡ []) (named : ¬ 
   new-only = map-only m (regionFor e) (draw (free+ (pagesIn e) [])) some-unit some-page new-size
 
   new-is : RegionIs (withSegments m (regionFor e) (free+ (pagesIn e) [])) e
+  unfolding inPages atPages
   new-is =
       record {
         named = named;
@@ -73,6 +77,7 @@ module _ (m : List ℕ) (e : RegionEntry) (fresh : e .loans ≡ []) (named : ¬ 
         page-some = page-some;
         page-most = page-most;
         some-page = some-page;
+        placed = rw fresh;
         ordered = rw fresh (ordered-new (pagesIn e));
         map = rw (fresh, drawn-new (pagesIn e)) (map-stored m (regionFor e) (draw (free+ (pagesIn e) [])) new-size fits);
       }
@@ -124,16 +129,20 @@ module _ (m : List ℕ) (d : Manager) (t : Receipts) (v : Inv m d t) (name start
           areas = areas-new-region d (v .picture .region-slots) (v .picture .partition-slots) slot within (v .picture .areas) (regionFor asked) clear;
         }
 
-    act-kept : Kept asks t (done memory manager (idOf slot))
-    act-kept =
+    act-kept : OnlyMap asked m memory → Kept asks m t (done memory manager (idOf slot))
+    act-kept words =
+        let u = registering (idOf slot) (some asked) t in
+        let n = note-done asks memory manager t (idOf slot) Successful refl in
+        let after : Inv memory manager u =
+        with-waits picture (waits-put t (idOf slot) (some asked) d manager refl (none-there t (idOf slot) (t .waits) (v .waits .all) not-there) (v .waits)) in
         record {
-          inv = rw (note-done asks memory manager t (idOf slot) Successful refl)
-              (with-waits picture (waits-put t (idOf slot) (some asked) d manager refl (none-there t (idOf slot) (t .waits) (v .waits .all) not-there) (v .waits)));
-          sound = sound-status Successful refl;
+          inv = rw n after;
+          stays = λ w h h′. map-stays memory manager u after (idOf slot) asked (put-here (idOf slot) (some asked) (t .regions)) m memory words w
+              (subst (λ (x : Receipts). Owned x w) n h′);
         }
 
   -- A CREATE KEEPS THE PICTURE
-  pub keeps-create : Kept asks t (createRegion m d name start bytes page order)
+  pub keeps-create : Kept asks m t (createRegion m d name start bytes page order)
   unfolding createRegion lists.every Passed
   keeps-create =
       kept-checked asks m d t v _ _ (sound-inv m d t v) refl
@@ -146,4 +155,5 @@ module _ (m : List ℕ) (d : Manager) (t : Receipts) (v : Inv m d t) (name start
       act-kept (leb-false slots slot (c .1 .1 .1 .1 .1 .1 .1 .0))
       (new-only m asked refl named started upto page-some page-most some-page)
       (new-is m asked refl named started upto page-some page-most some-page)
-      (c .1 .1 .1 .1 .1 .1 .0))
+      (c .1 .1 .1 .1 .1 .1 .0)
+      (map-words-only m (regionFor asked) (draw (free+ (pagesIn asked) [])) (new-size m asked refl named started upto page-some page-most some-page)))

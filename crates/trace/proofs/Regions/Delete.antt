@@ -14,7 +14,7 @@ use Rattle.manager.specs.declared.Manager.{Manager}
 use Rattle.manager.specs.declared.Region.{Region}
 use Rattle.manager.specs.declared.Call.the-variants.{DeleteRegion}
 use Rattle.manager.specs.declared.Status.the-variants.{Successful}
-use Rattle.trace.specs.Receipts.{Receipts, RegionEntry, put}
+use Rattle.trace.specs.Receipts.{Receipts, RegionEntry, pageLoans, put}
 use Rattle.trace.specs.Claims.{waitsIn}
 use Rattle.trace.proofs.Invariant.{regionFor, RegionSlot, empty, Inv, Picture, with-waits}
 use Rattle.trace.proofs.Areas.{OfSlot, region-slot, region-there, region-elsewhere, areas-no-region}
@@ -22,10 +22,10 @@ use Rattle.trace.proofs.Clients.{RegionAt}
 use Rattle.trace.proofs.Loans.Tests.{by-eqb}
 use Rattle.trace.proofs.Loans.Lawful.{none-held}
 use Rattle.trace.proofs.Loans.Pages.{pages}
-use Rattle.trace.proofs.Regions.Checks.{Passed, note-done, Kept, kept-checked, sound-status}
+use Rattle.trace.proofs.Regions.Checks.{Passed, note-done, Kept, kept-words, kept-checked}
 use Rattle.trace.proofs.Regions.Live.{law, slot-entry, map-drawing}
 use Rattle.trace.proofs.Regions.Lending.{none-lent, registering, waits-put}
-use Rattle.trace.proofs.Regions.Queue.{sound-inv}
+use Rattle.trace.proofs.Regions.Queue.{no-loans, sound-inv}
 
 module _ (m : List ℕ) (d : Manager) (t : Receipts) (v : Inv m d t) (id : ℕ) where
   module _ (e : RegionEntry) (q : t .regions id ≡ some e) (at : RegionAt m (regionOf d id) e) (h : anyHeld m (regionFor e) ≡ false) where
@@ -35,7 +35,7 @@ module _ (m : List ℕ) (d : Manager) (t : Receipts) (v : Inv m d t) (id : ℕ) 
         (subst (λ (r : Region). ¬ (r .name ≡ 0)) (sym (at .region)) (at .is .named))
 
     nobody : waitsIn id (t .waits) ≡ []
-    nobody = none-lent t id e (t .waits) (v .waits .all) q (none-held _ pages (law (regionFor e)) (e .loans) (map-drawing m e (at .is)) h)
+    nobody = none-lent t id e (t .waits) (v .waits .all) q (no-loans m e (at .is) (none-held _ pages (law (regionFor e)) (pageLoans e) (map-drawing m e (at .is)) h))
 
     slot-at : (j : ℕ) → RegionSlot m (regionOf (withRegion d (slotOf id) noRegion) j) (put id none (t .regions) j)
     slot-at j =
@@ -58,16 +58,14 @@ module _ (m : List ℕ) (d : Manager) (t : Receipts) (v : Inv m d t) (id : ℕ) 
           areas = areas-no-region d (v .picture .region-slots) (v .picture .partition-slots) (slotOf id) (slot .within) (v .picture .areas);
         }
 
-    act-kept : Kept (DeleteRegion id) t (done m (withRegion d (slotOf id) noRegion) 0)
+    act-kept : Kept (DeleteRegion id) m t (done m (withRegion d (slotOf id) noRegion) 0)
     act-kept =
-        record {
-          inv = rw (note-done (DeleteRegion id) m (withRegion d (slotOf id) noRegion) t 0 Successful refl)
-              (with-waits picture (waits-put t id none d (withRegion d (slotOf id) noRegion) refl nobody (v .waits)));
-          sound = sound-status Successful refl;
-        }
+        kept-words (DeleteRegion id) m d t v (done m (withRegion d (slotOf id) noRegion) 0) refl
+        (rw (note-done (DeleteRegion id) m (withRegion d (slotOf id) noRegion) t 0 Successful refl)
+        (with-waits picture (waits-put t id none d (withRegion d (slotOf id) noRegion) refl nobody (v .waits))))
 
   -- A DELETE KEEPS THE PICTURE
-  pub keeps-delete : Kept (DeleteRegion id) t (deleteRegion m d id)
+  pub keeps-delete : Kept (DeleteRegion id) m t (deleteRegion m d id)
   unfolding deleteRegion lists.every Passed
   keeps-delete =
       kept-checked (DeleteRegion id) m d t v _ _ (sound-inv m d t v) refl

@@ -2,23 +2,21 @@
 use mathlib.Core.Path.{_≡_, refl, sym, ap, _∙_, subst}
 use mathlib.Core.Bool.{true}
 use mathlib.Core.List.{List, [], _∷_, _++_}
-use mathlib.Core.Logic.{_⊎_, inl, inr, _↔_}
+use mathlib.Core.Logic.{inl}
 use mathlib.Core.Option.{some}
 use Prim.Native.Nat.{ℕ, _≤_, _<_}
 use native.Mathlib.Omega.{arith}
-use borrow.Author.Tests.{eqb-false, ne-eqb, ltb-false, le-ltb}
+use borrow.Author.Tests.{eqb-false, ltb-false}
 use Rattle.arith.specs.Round.{pagesFor}
 use Rattle.arith.specs.Round.Laws.{pages-some}
 use Rattle.manager.specs.Record.{tasks, regionOf}
-use Rattle.manager.specs.Result.{Result, done, replied, refused}
+use Rattle.manager.specs.Result.{Result, done, replied}
 use Rattle.manager.specs.Lists.{every}
 use Rattle.manager.specs.Map.{Segment}
-use Rattle.manager.specs.Region.{kind, pagesOf, addressOf, segments, withSegments, pagesAsked}
+use Rattle.manager.specs.Region.{pagesOf, addressOf, withSegments, pagesAsked}
 use Rattle.manager.specs.Queue.{enqueue}
 use Rattle.manager.specs.Serve.{onPlace, placed, taken}
 use Rattle.manager.specs.Regions.{waitChecks, unplaced, getSegment}
-use Rattle.manager.specs.Perform.{perform}
-use Rattle.manager.specs.Sound.{sound}
 use Rattle.manager.specs.declared.Manager.{Manager}
 use Rattle.manager.specs.declared.Region.{Region}
 use Rattle.manager.specs.declared.Waiter.{Waiter}
@@ -28,18 +26,17 @@ use Rattle.manager.specs.declared.Wait.the-variants.{No, Yes}
 use Rattle.manager.specs.declared.Call.{Call}
 use Rattle.manager.specs.declared.Call.the-variants.{GetSegment}
 use Rattle.manager.specs.declared.Status.the-variants.{Successful, Unsatisfied, Waiting}
-use Rattle.trace.specs.Loans.{Loan, enter, Held, Run, Lowest}
-use Rattle.trace.specs.Receipts.{Receipts, RegionEntry, Wait, unit, pagesIn, addressIn, lend, withLoans}
-use Rattle.trace.proofs.Invariant.{regionFor, RegionIs, WaitIs, Inv, with-waits}
+use Rattle.trace.specs.Loans.{Loan, enter, inPages, Held, Run}
+use Rattle.trace.specs.Receipts.{Receipts, RegionEntry, Wait, unit, pagesIn, addressIn, byPage, pageLoans, lend, withLoans}
+use Rattle.trace.proofs.Invariant.{regionFor, lentPages, RegionIs, WaitIs, Inv, with-waits}
 use Rattle.trace.proofs.Frame.{region-unit}
-use Rattle.trace.proofs.Clients.{RegionAt, region-at}
-use Rattle.trace.proofs.Held.{page-address}
+use Rattle.trace.proofs.Held.{regular, entered-at}
 use Rattle.trace.proofs.Loans.Lawful.{Drawing, Gets, given, nothing}
 use Rattle.trace.proofs.Loans.Pages.{pages}
 use Rattle.trace.proofs.Queue.Enter.{new-waiter, new-time}
-use Rattle.trace.proofs.Regions.Checks.{Passed, refuses, acts, note-done, note-waiting, Kept, kept-refused, kept-checked, sound-status}
-use Rattle.trace.proofs.Regions.Live.{law, slot-entry, not-dead, map-drawing}
-use Rattle.trace.proofs.Regions.Picture.{lending, on-region, any-queue, changed-map}
+use Rattle.trace.proofs.Regions.Checks.{Passed, refuses, note-done, note-waiting, Kept, kept-map, kept-words, kept-refused, kept-checked}
+use Rattle.trace.proofs.Regions.Live.{law, slot-entry, map-drawing}
+use Rattle.trace.proofs.Regions.Picture.{on-region, any-queue, changed-map, changed-words}
 use Rattle.trace.proofs.Regions.Lending.{waits-lent, enter-some}
 use Rattle.trace.proofs.Regions.Queue.{sound-inv, wait-inv}
 
@@ -60,8 +57,8 @@ wait-refuses d Yes task priority = refl
 
 -- what a get at an address enters
 pub lend-page : (m : List ℕ) (e : RegionEntry) → RegionIs m e → (p size : ℕ)
-    → lend (addressIn e p) size e ≡ withLoans (enter p (pagesFor size (unit e)) (e .loans)) e
-lend-page m e is p size = ap (λ (q : ℕ). withLoans (enter q (pagesFor size (unit e)) (e .loans)) e) (page-address m e is p)
+    → lend (addressIn e p) size e ≡ lentPages (enter p (pagesFor size (unit e)) (pageLoans e)) e
+lend-page m e is p size = ap (λ (l : List Loan). withLoans l e) (entered-at e (regular m e is) p (pagesFor size (unit e)))
 
 module _ (m : List ℕ) (d : Manager) (t : Receipts) (v : Inv m d t) (id size : ℕ) (wait : asking.Wait) (task priority ticks : ℕ) where
   abbrev asks : Call
@@ -81,14 +78,14 @@ module _ (m : List ℕ) (d : Manager) (t : Receipts) (v : Inv m d t) (id size : 
     abbrev entry : Wait
     entry = record { task = task; id = id; size = size; priority = priority; ticks = ticks; since = 0 }
 
-    module _ (no-run : (p : ℕ) → ¬ Run (pagesIn e) (e .loans) wants p) where
+    module _ (no-run : (p : ℕ) → ¬ Run (pagesIn e) (pageLoans e) wants p) where
       entry-is : Passed (waitChecks d Yes task priority) → WaitIs t entry
-      unfolding Passed
+      unfolding Passed inPages
       entry-is c =
           record {
             entry = e;
             found = q;
-            lending = λ (n : e .loans ≡ []). no-run 0 (empty-run (pagesIn e) wants (e .loans) n some-wanted h);
+            lending = λ (n : e .loans ≡ []). no-run 0 (empty-run (pagesIn e) wants (pageLoans e) (ap (byPage e) n) some-wanted h);
             task-some = let y = eqb-false task 0 (c .0) in omega arith;
             task-most = ltb-false tasks task (c .1 .0);
             size-some = z;
@@ -99,105 +96,43 @@ module _ (m : List ℕ) (d : Manager) (t : Receipts) (v : Inv m d t) (id size : 
           }
 
       -- the task waits
-      waits-kept : Passed (waitChecks d Yes task priority) → Kept asks t (replied m (enqueue d waiter) Waiting 0)
+      waits-kept : Passed (waitChecks d Yes task priority) → Kept asks m t (replied m (enqueue d waiter) Waiting 0)
       unfolding Passed enqueue
       waits-kept c =
-          record {
-            inv = rw (note-waiting asks m (enqueue d waiter) t 0 Waiting refl refl)
-                (with-waits (any-queue m d t (enqueue d waiter .waiters) (t .waits ++ (entry ∷ [])) (v .picture))
-                (rw (new-waiter task id size priority ticks) at (wait-inv m d t v entry (entry-is c) (c .1 .1 .1 .1 .0))));
-            sound = sound-status Waiting refl;
-          }
+          kept-words asks m d t v (replied m (enqueue d waiter) Waiting 0) refl
+          (rw (note-waiting asks m (enqueue d waiter) t 0 Waiting refl refl)
+          (with-waits (any-queue m d t (enqueue d waiter .waiters) (t .waits ++ (entry ∷ [])) (v .picture))
+          (rw (new-waiter task id size priority ticks) at (wait-inv m d t v entry (entry-is c) (c .1 .1 .1 .1 .0)))))
 
-      unplaced-kept : (w : asking.Wait) → Passed (waitChecks d w task priority) → Kept asks t (unplaced m d w waiter)
+      unplaced-kept : (w : asking.Wait) → Passed (waitChecks d w task priority) → Kept asks m t (unplaced m d w waiter)
       unplaced-kept No c = kept-refused asks m d t v Unsatisfied 0 refl
       unplaced-kept Yes c = waits-kept c
 
     -- a run: its pages are lent
-    placed-kept : (p : ℕ) (s : List Segment) → Drawing pages (pagesIn e) (enter p wants (e .loans)) s
-        → Kept asks t (done (withSegments m (regionFor e) s) d (addressIn e p))
+    placed-kept : (p : ℕ) (s : List Segment) → Drawing pages (pagesIn e) (enter p wants (pageLoans e)) s
+        → Kept asks m t (done (withSegments m (regionFor e) s) d (addressIn e p))
     placed-kept p s w =
-        record {
-          inv = rw (
-            note-done asks (withSegments m (regionFor e) s) d t (addressIn e p) Successful refl,
-            on-region id e t (lend (addressIn e p) size) (enter p wants (e .loans)) q (lend-page m e is p size),
-          )
-              (with-waits (changed-map m d t (v .picture) id e q (enter p wants (e .loans)) s w)
-              (waits-lent t id e q (enter p wants (e .loans)) d (v .waits) (inl (enter-some p wants (e .loans)))));
-          sound = sound-status Successful refl;
-        }
+        let l = enter p wants (pageLoans e) in
+        kept-map asks m d t v id e q (done (withSegments m (regionFor e) s) d (addressIn e p)) (changed-words m d t (v .picture) id e q l s w)
+        (rw (note-done asks (withSegments m (regionFor e) s) d t (addressIn e p) Successful refl, on-region id e t (lend (addressIn e p) size) l q (lend-page m e is p size))
+        (with-waits (changed-map m d t (v .picture) id e q l s w)
+        (waits-lent t id e q l d (v .waits) (inl (enter-some p wants (pageLoans e))))))
 
-    got-kept : (g : Place) (s : List Segment) → Gets pages (pagesIn e) (e .loans) wants g s → Passed (waitChecks d wait task priority)
-        → Kept asks t (onPlace g (λ p. done (withSegments m (regionFor e) s) d (addressOf (regionFor e) p)) (unplaced m d wait waiter))
+    got-kept : (g : Place) (s : List Segment) → Gets pages (pagesIn e) (pageLoans e) wants g s → Passed (waitChecks d wait task priority)
+        → Kept asks m t (onPlace g (λ p. done (withSegments m (regionFor e) s) d (addressOf (regionFor e) p)) (unplaced m d wait waiter))
     got-kept g s (given p w low) c = placed-kept p s w
     got-kept g s (nothing w no-run) c = unplaced-kept no-run wait c
 
-    act-kept : Passed (waitChecks d wait task priority) → Kept asks t (getting m d wait waiter (regionFor e) wants)
+    act-kept : Passed (waitChecks d wait task priority) → Kept asks m t (getting m d wait waiter (regionFor e) wants)
     act-kept = got-kept (placed m (regionFor e) wants) _ (law (regionFor e) .got (map-drawing m e is) wants some-wanted)
 
   -- A GET KEEPS THE PICTURE
-  pub keeps-get : Kept asks t (getSegment m d id size wait task priority ticks)
+  pub keeps-get : Kept asks m t (getSegment m d id size wait task priority ticks)
   unfolding getSegment every Passed
   keeps-get =
       kept-checked asks m d t v _ _ (sound-inv m d t v) (wait-refuses d wait task priority)
       (λ c. let s = slot-entry m (regionOf d id) (t .regions id) (v .picture .regions id) (c .1 .0) in
-      subst (λ (r : Region). Kept asks t (getting m d wait waiter r (pagesAsked r size))) (sym (s .2 .region))
+      subst (λ (r : Region). Kept asks m t (getting m d wait waiter r (pagesAsked r size))) (sym (s .2 .region))
       (act-kept (s .0) (s .1) (s .2 .is) (let y = eqb-false size 0 (c .0) in omega arith)
       (subst (λ (r : Region). pagesAsked r size ≤ pagesOf r) (s .2 .region) (ltb-false (pagesOf (regionOf d id)) (pagesAsked (regionOf d id) size) (c .1 .1 .0)))
       (c .1 .1 .1)))
-
--- ---- what a get that won't wait is answered
-
-module _ (m : List ℕ) (d : Manager) (t : Receipts) (v : Inv m d t) (ok : sound m d ≡ true) (id : ℕ) (e : RegionEntry) (q : t .regions id ≡ some e)
-    (size task priority ticks : ℕ) (z : 0 < size) (h : pagesFor size (unit e) ≤ pagesIn e) where
-  abbrev at-once : Result
-  at-once = perform m d (GetSegment id size No task priority ticks)
-
-  region-is : RegionAt m (regionOf d id) e
-  region-is = region-at m (regionOf d id) (t .regions id) e (v .picture .regions id) q
-
-  gets : Gets pages (pagesIn e) (e .loans) (pagesFor size (unit e)) (placed m (regionFor e) (pagesFor size (unit e)))
-      (kind (regionFor e) .take (pagesFor size (unit e)) (segments m (regionFor e)))
-  gets =
-      law (regionFor e) .got (map-drawing m e (region-is .is)) (pagesFor size (unit e))
-      (pages-some size (unit e) (region-unit m e (region-is .is)) z)
-
-  got-is : at-once
-      ≡ getting m d No (record { task = task; region = id; size = size; priority = priority; ticks = ticks }) (regionFor e) (pagesFor size (unit e))
-  unfolding perform getSegment Passed
-  got-is =
-      acts m d _ _ ok (
-        ne-eqb size 0 (omega arith),
-        (
-          rw (region-is .region) (not-dead m e (region-is .is)),
-          (rw (region-is .region) (le-ltb (pagesIn e) (pagesFor size (unit e)) h), tt),
-        ),
-      )
-      ∙ ap (λ (r : Region). getting m d No (record { task = task; region = id; size = size; priority = priority; ticks = ticks }) r (pagesAsked r size))
-      (region-is .region)
-
-  -- 13 EXACTLY WHEN NO RUN IS LONG ENOUGH
-  abbrev answers : Place → Result
-  answers g =
-      onPlace g (λ p. done (taken m (regionFor e) (pagesFor size (unit e))) d (addressIn e p))
-      (refused m d Unsatisfied)
-
-  pub get-unsatisfied : (at-once .status ≡ Unsatisfied) ↔ ((p : ℕ) → ¬ Run (pagesIn e) (e .loans) (pagesFor size (unit e)) p)
-  get-unsatisfied = rw got-is (by _ _ gets)
-    where
-      by : (g : Place) (s : List Segment) → Gets pages (pagesIn e) (e .loans) (pagesFor size (unit e)) g s
-          → (answers g .status ≡ Unsatisfied) ↔ ((p : ℕ) → ¬ Run (pagesIn e) (e .loans) (pagesFor size (unit e)) p)
-      by g s (given p w low) =
-          (λ (x : Successful ≡ Unsatisfied). let y : _≡_ {A = ℕ} 0 1 = cc in absurd (omega arith), λ n. absurd (n p (low .run)))
-      by g s (nothing w no-run) = (λ x. no-run, λ n. refl)
-
-  -- ELSE THE ADDRESS IS THE LOWEST THAT FITS
-  pub get-lowest : (at-once .status ≡ Unsatisfied)
-      ⊎ ((p : ℕ) × Lowest (pagesIn e) (e .loans) (pagesFor size (unit e)) p × (at-once .status ≡ Successful) × (at-once .value ≡ addressIn e p))
-  get-lowest = rw got-is (by _ _ gets)
-    where
-      by : (g : Place) (s : List Segment) → Gets pages (pagesIn e) (e .loans) (pagesFor size (unit e)) g s
-          → (answers g .status ≡ Unsatisfied)
-          ⊎ ((p : ℕ) × Lowest (pagesIn e) (e .loans) (pagesFor size (unit e)) p × (answers g .status ≡ Successful) × (answers g .value ≡ addressIn e p))
-      by g s (given p w low) = inr (p, low, refl, refl)
-      by g s (nothing w no-run) = inl refl

@@ -13,10 +13,11 @@ use Rattle.manager.specs.Record.{slots, idOf}
 use Rattle.manager.specs.declared.Manager.{Manager}
 use Rattle.manager.specs.declared.Order.{Order}
 use Rattle.trace.specs.Loans.{Loan, loan, enter, Lent}
-use Rattle.trace.specs.Receipts.{Receipts, RegionEntry, Wait, put, withLoans}
+use Rattle.trace.specs.Receipts.{Receipts, RegionEntry, Wait, unit, firstIn, put}
 use Rattle.trace.specs.Claims.{waitsIn, arranged, behind, urgentThan}
-use Rattle.trace.proofs.Invariant.{WaitIs, AllWaits, Waits, queueAt, queuesFrom}
+use Rattle.trace.proofs.Invariant.{atAddresses, lentPages, WaitIs, AllWaits, Waits, queueAt, queuesFrom}
 use Rattle.trace.proofs.Loans.Tests.{by-eqb, by-leb}
+use Rattle.trace.proofs.Loans.Addresses.{none-at}
 use Rattle.trace.proofs.Queue.Order.{no-waits}
 use Rattle.trace.proofs.Queue.Tasks.{all-in, wait-moved, wait-same}
 use Rattle.trace.proofs.Regions.Picture.{put-here, put-else, lending}
@@ -90,9 +91,9 @@ module _ (t : Receipts) (id : ℕ) where
 
 module _ (t : Receipts) (id : ℕ) (e : RegionEntry) (q : t .regions id ≡ some e) (l : List Loan) where
   -- the queues are as they were
-  queue-at : (j : ℕ) → queueAt j (put id (some (withLoans l e)) (t .regions) j) (lending id e l t) ≡ queueAt j (t .regions j) t
+  queue-at : (j : ℕ) → queueAt j (put id (some (lentPages l e)) (t .regions) j) (lending id e l t) ≡ queueAt j (t .regions j) t
   queue-at j =
-      by-eqb j id (λ (b : Bool). queueAt j (cond b (some (withLoans l e)) (t .regions j)) (lending id e l t) ≡ queueAt j (t .regions j) t)
+      by-eqb j id (λ (b : Bool). queueAt j (cond b (some (lentPages l e)) (t .regions j)) (lending id e l t) ≡ queueAt j (t .regions j) t)
       (λ h. rw (h, q)) (λ h. other (t .regions j))
     where
       other : (o : Option RegionEntry) → queueAt j o (lending id e l t) ≡ queueAt j o t
@@ -113,8 +114,9 @@ module _ (t : Receipts) (id : ℕ) (e : RegionEntry) (q : t .regions id ≡ some
           let s : w .id ≡ id = eqb-true (w .id) id f in
           let r : t .regions id ≡ some (a .entry) = subst (λ (j : ℕ). t .regions j ≡ some (a .entry)) s (a .found) in
           let g : a .entry ≡ e = cc in
-          wait-moved t (lending id e l t) w (w .since) l a (rw (s, put-here id (some (withLoans l e)) (t .regions), g)) (h s) (a .time)
-      go false f = wait-same t (lending id e l t) w a (put-else id (some (withLoans l e)) (t .regions) (w .id) (eqb-false (w .id) id f))
+          wait-moved t (lending id e l t) w (w .since) (atAddresses e l) a (rw (s, put-here id (some (lentPages l e)) (t .regions), g))
+          (λ (n : atAddresses e l ≡ []). h s (none-at (firstIn e) (unit e) l n)) (a .time)
+      go false f = wait-same t (lending id e l t) w a (put-else id (some (lentPages l e)) (t .regions) (w .id) (eqb-false (w .id) id f))
 
   all-lent : (ws : List Wait) → AllWaits t ws → (¬ (l ≡ [])) ⊎ (waitsIn id ws ≡ []) → AllWaits (lending id e l t) ws
   unfolding AllWaits

@@ -16,16 +16,16 @@ use Rattle.manager.specs.declared.Manager.{Manager}
 use Rattle.manager.specs.declared.Region.{Region}
 use Rattle.manager.specs.declared.Waiter.{Waiter}
 use Rattle.trace.specs.Loans.{Loan, Ordered, drawn}
-use Rattle.trace.specs.Receipts.{Receipts, RegionEntry, Wait, pagesIn, put, mapOption, onRegion, withLoans, withWaits}
+use Rattle.trace.specs.Receipts.{Receipts, RegionEntry, Wait, pagesIn, put, mapOption, onRegion, withWaits}
 use Rattle.trace.specs.Trace.{Object, region, partition}
-use Rattle.trace.proofs.Invariant.{Only, regionFor, RegionSlot, live, Picture}
-use Rattle.trace.proofs.Frame.{map-only, region-redrawn, region-unit}
+use Rattle.trace.proofs.Invariant.{Only, regionFor, lentPages, RegionSlot, live, Picture}
+use Rattle.trace.proofs.Frame.{map-words-only, map-only, region-redrawn, region-unit}
 use Rattle.trace.proofs.Areas.{areaFor, areaIn, Clear, sound-clear, region-kept, partition-kept}
 use Rattle.trace.proofs.Loans.Tests.{by-eqb}
 use Rattle.trace.proofs.Loans.Words.{size}
 use Rattle.trace.proofs.Loans.Lawful.{Drawing}
 use Rattle.trace.proofs.Loans.Pages.{pages}
-use Rattle.trace.proofs.Clients.{RegionAt, region-at}
+use Rattle.trace.proofs.Clients.{RegionAt, region-at, OnlyMap}
 
 -- ---- an entry under an id
 
@@ -44,25 +44,25 @@ module _ {A : Type 0} (id : ℕ) (e : Option A) (f : ℕ → Option A) where
   put-same q =
       fun-ext (λ j. by-eqb j id (λ (b : Bool). cond b e (f j) ≡ f j) (λ h. rw h (sym q)) (λ h. refl))
 
--- the receipts with other loans of the region under an id
+-- the receipts with other loans of the region under an id, by their pages
 abbrev pub lending : ℕ → RegionEntry → List Loan → Receipts → Receipts
-lending id e l t = record { regions = put id (some (withLoans l e)) (t .regions); partitions = t .partitions; waits = t .waits }
+lending id e l t = record { regions = put id (some (lentPages l e)) (t .regions); partitions = t .partitions; waits = t .waits }
 
 module _ (id : ℕ) (e : RegionEntry) (t : Receipts) where
-  pub on-region : (g : RegionEntry → RegionEntry) (l : List Loan) → t .regions id ≡ some e → g e ≡ withLoans l e → onRegion id g t ≡ lending id e l t
+  pub on-region : (g : RegionEntry → RegionEntry) (l : List Loan) → t .regions id ≡ some e → g e ≡ lentPages l e → onRegion id g t ≡ lending id e l t
   on-region g l q h =
       ap (λ (o : Option RegionEntry). record { regions = put id o (t .regions); partitions = t .partitions; waits = t .waits })
       (ap (mapOption g) q ∙ ap some h)
 
-  pub lending-again : (l k : List Loan) → lending id (withLoans l e) k (lending id e l t) ≡ lending id e k t
+  pub lending-again : (l k : List Loan) → lending id (lentPages l e) k (lending id e l t) ≡ lending id e k t
   lending-again l k =
       ap (λ (f : ℕ → Option RegionEntry). record { regions = f; partitions = t .partitions; waits = t .waits })
-      (put-again id (some (withLoans k e)) (t .regions) (some (withLoans l e)))
+      (put-again id (some (lentPages k e)) (t .regions) (some (lentPages l e)))
 
-  pub lending-same : t .regions id ≡ some e → lending id e (e .loans) t ≡ t
-  lending-same q =
+  pub lending-same : (l : List Loan) → t .regions id ≡ some (lentPages l e) → lending id e l t ≡ t
+  lending-same l q =
       ap (λ (f : ℕ → Option RegionEntry). record { regions = f; partitions = t .partitions; waits = t .waits })
-      (put-same id (some e) (t .regions) q)
+      (put-same id (some (lentPages l e)) (t .regions) q)
 
 -- ---- the picture
 
@@ -99,11 +99,11 @@ module _ (m : List ℕ) (d : Manager) (t : Receipts) (v : Picture m d t) (id : �
     clear : (x : Object) → ¬ (region id ≡ x) → Clear (areaFor (regionFor e)) (areaIn d x)
     clear x n = subst (λ (r : Region). Clear (areaFor r) (areaIn d x)) (live-at .region) (sound-clear d (v .region-slots) (v .partition-slots) (v .areas) (region id) x n)
 
-    slot-at : (j : ℕ) → RegionSlot m′ (regionOf d j) (put id (some (withLoans l e)) (t .regions) j)
+    slot-at : (j : ℕ) → RegionSlot m′ (regionOf d j) (put id (some (lentPages l e)) (t .regions) j)
     unfolding m′
     slot-at j =
-        by-eqb j id (λ (b : Bool). RegionSlot m′ (regionOf d j) (cond b (some (withLoans l e)) (t .regions j)))
-        (λ h. rw (h, live-at .region) (live (withLoans l e) (region-redrawn m e (live-at .is) l o)))
+        by-eqb j id (λ (b : Bool). RegionSlot m′ (regionOf d j) (cond b (some (lentPages l e)) (t .regions j)))
+        (λ h. rw (h, live-at .region) (live (lentPages l e) (region-redrawn m e (live-at .is) l o)))
         (λ h. region-kept m m′ (areaFor (regionFor e)) (regionOf d j) (t .regions j) only
         (clear (region j) (λ (p : region id ≡ region j). h (let s : id ≡ j = cc in sym s))) (v .regions j))
 
@@ -124,3 +124,7 @@ module _ (m : List ℕ) (d : Manager) (t : Receipts) (v : Picture m d t) (id : �
   pub changed-map : (l : List Loan) (s : List Segment) → Drawing pages (pagesIn e) l s → Picture (withSegments m (regionFor e) s) d (lending id e l t)
   changed-map l s w =
       subst (λ (x : List Segment). Picture (withSegments m (regionFor e) x) d (lending id e l t)) (sym (w .is)) (redrawn l (w .ordered))
+
+  -- of which only the map's words differ
+  pub changed-words : (l : List Loan) (s : List Segment) → Drawing pages (pagesIn e) l s → OnlyMap e m (withSegments m (regionFor e) s)
+  changed-words l s w = map-words-only m (regionFor e) (draw s) (ap (λ (x : List Segment). length (draw x)) (w .is) ∙ size (pagesIn e) l (w .ordered))

@@ -14,13 +14,14 @@ use Rattle.manager.specs.Sound.{sound}
 use Rattle.manager.specs.declared.Manager.{Manager}
 use Rattle.manager.specs.declared.Region.{Region}
 use Rattle.trace.specs.Loans.{Loan, loan}
-use Rattle.trace.specs.Receipts.{Receipts, RegionEntry, Wait, withLoans, withWaits, pagesIn}
+use Rattle.trace.specs.Receipts.{Receipts, RegionEntry, Wait, withWaits, pagesIn, pageLoans}
 use Rattle.trace.specs.Claims.{waitsIn, queueOf, waiterOf, waitersOf, waitersFor}
-use Rattle.trace.proofs.Invariant.{regionFor, RegionIs, WaitIs, Waits, Inv, Picture}
+use Rattle.trace.proofs.Invariant.{regionFor, atAddresses, lentPages, RegionIs, WaitIs, Waits, Inv, Picture}
 use Rattle.trace.proofs.Areas.{region-slot}
 use Rattle.trace.proofs.Clients.{region-at}
 use Rattle.trace.proofs.Sound.{inv-sound}
 use Rattle.trace.proofs.Loans.Tests.{by-eqb}
+use Rattle.trace.proofs.Loans.Addresses.{atPages}
 use Rattle.trace.proofs.Loans.Lawful.{Drawing}
 use Rattle.trace.proofs.Loans.Pages.{pages}
 use Rattle.trace.proofs.Queue.Line.{In, line, length-line, true-false}
@@ -45,12 +46,17 @@ pub lending-ids : (t : Receipts) (id : ℕ) (e : RegionEntry) (l : List Loan) �
 lending-ids t id e l i q j f p =
     by-eqb j id (λ (b : Bool). (1 ≤ j) × (j ≤ slots))
     (λ h. subst (λ (k : ℕ). (1 ≤ k) × (k ≤ slots)) (sym h) (i id e q))
-    (λ h. i j f (sym (put-else id (some (withLoans l e)) (t .regions) j h) ∙ p))
+    (λ h. i j f (sym (put-else id (some (lentPages l e)) (t .regions) j h) ∙ p))
 
 -- ---- the queue is sound
 
+-- no loan at an address where there is none by pages
+pub no-loans : (m : List ℕ) (e : RegionEntry) → RegionIs m e → pageLoans e ≡ [] → e .loans ≡ []
+unfolding atPages
+no-loans m e is n = is .placed ∙ ap (atAddresses e) n
+
 -- something is held where something is lent
-any-held : (m : List ℕ) (e : RegionEntry) → RegionIs m e → (l : List Loan) → e .loans ≡ l → ¬ (l ≡ []) → anyHeld m (regionFor e) ≡ true
+any-held : (m : List ℕ) (e : RegionEntry) → RegionIs m e → (l : List Loan) → pageLoans e ≡ l → ¬ (l ≡ []) → anyHeld m (regionFor e) ≡ true
 any-held m e is [] q n = absurd (n refl)
 any-held m e is (loan a k ∷ l) q n =
     law (regionFor e) .any-some (subst (λ (j : List Loan). Drawing pages (pagesIn e) j (segments m (regionFor e))) q (map-drawing m e is))
@@ -63,7 +69,7 @@ module _ (m : List ℕ) (d : Manager) (t : Receipts) (v : Inv m d t) where
       record {
         alive = rw (r .region) (not-dead m (a .entry) (r .is));
         order = ap (λ (x : Region). x .order) (r .region) ∙ ap orderIn (sym (a .found));
-        held = rw (r .region) (any-held m (a .entry) (r .is) (a .entry .loans) refl (a .lending));
+        held = rw (r .region) (any-held m (a .entry) (r .is) (pageLoans (a .entry)) refl (λ (n : pageLoans (a .entry) ≡ []). a .lending (no-loans m (a .entry) (r .is) n)));
         fits = rw (r .region) (a .size-most);
       }
 

@@ -34,7 +34,7 @@ module _ (m : List ℕ) (a : ℕ) where
   read-is : (r : Region) (o : Option RegionEntry) → RegionSlot m r o
       → cond (dead r || eqb (heldAt m r a) 0) [] (take (heldAt m r a * r .page / 4) (drop (a / 4) m)) ≡ take (lentWords o a) (drop (a / 4) m)
   read-is r o empty = refl
-  read-is r o (live e is) = rw (not-dead m e is, pages-at m e is a) (no-words (pagesAt e a (e .loans)) (unit e) (drop (a / 4) m))
+  read-is r o (live e is) = rw (not-dead m e is, pages-at m e is a) (no-words (pagesAt a (e .loans)) (unit e) (drop (a / 4) m))
 
 module _ (m : List ℕ) (d : Manager) (t : Receipts) (v : Inv m d t) where
   pub replies-write : (id a first : ℕ) (words : List ℕ) → replyOf (writeSegment m d id a first words) ≡ writeByReceipts t id a first words

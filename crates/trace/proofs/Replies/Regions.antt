@@ -24,7 +24,7 @@ use Rattle.trace.proofs.Regions.Queue.{sound-inv}
 use Rattle.trace.proofs.Regions.Resize.{resized, resizing}
 use Rattle.trace.proofs.Replies.Checks.{rest, same, test, acted, agree, answers, at-region}
 use Rattle.trace.proofs.Replies.Ids.{past-slots, new-region, region-id, area-asked}
-use Rattle.trace.proofs.Replies.Held.{any-lent, pages-at, none-at, lent-at, most-pages}
+use Rattle.trace.proofs.Replies.Held.{any-lent, pages-at, none-at, most-pages}
 
 module _ (m : List ℕ) (d : Manager) (t : Receipts) (v : Inv m d t) where
   pub replies-ident : (name : ℕ) → replyOf (identRegion m d name) ≡ byReceipts (length m) t (IdentRegion name)
@@ -83,4 +83,4 @@ module _ (m : List ℕ) (d : Manager) (t : Receipts) (v : Inv m d t) where
       (λ r. check (eqb (heldAt m r a) 0) InvalidAddress ∷ []) (λ r. resizing m d a r (pagesAsked r size)) _
       (λ e is q p. agree (test (none-at m e is a) (λ h. acted
       (resized-by e a (pagesOver e size) (leb (pagesOver e size) (kind (regionFor e) .reach (pageIn e a) (segments m (regionFor e))))
-      ∙ rw (pages-at m e is a, most-pages m e is a (pageIn e a) (sym (lent-at m e is a h .at)))))))))))
+      ∙ rw (pages-at m e is a, most-pages m e is (pageIn e a))))))))))

@@ -3,8 +3,7 @@ use mathlib.Core.Path.{_≡_, refl, sym, ap, _∙_, subst}
 use mathlib.Core.Bool.{Bool, true, false, _||_}
 use mathlib.Core.List.{List, [], _∷_}
 use mathlib.Core.Logic.{inl, inr}
-use mathlib.Core.Option.{some}
-use Prim.Native.Nat.{ℕ, _-_, _<_}
+use Prim.Native.Nat.{ℕ, _-_}
 use native.Mathlib.Omega.{arith}
 use lib.ListN.{length, replicate}
 use lib.Dec.{eqb, ltb}
@@ -12,7 +11,6 @@ use borrow.Author.Tests.{eqb-true, eqb-false, eq-eqb}
 use Rattle.arith.specs.Round.Laws.{pages-some}
 use Rattle.manager.specs.Record.{slots, tasks, noWaiter, regionOf}
 use Rattle.manager.specs.Result.{Result, check, checked, done}
-use Rattle.manager.specs.Map.{Segment}
 use Rattle.manager.specs.Region.{pagesOf, addressOf, heldAt, pagesAsked}
 use Rattle.manager.specs.Queue.{waiting}
 use Rattle.manager.specs.Queue.Parts.{by-case}
@@ -27,25 +25,23 @@ use Rattle.manager.specs.declared.Wait as asking
 use Rattle.manager.specs.declared.Wait.the-variants.{No, Yes}
 use Rattle.manager.specs.declared.Call.the-variants.{GetSegment, ReturnSegment, Tick}
 use Rattle.manager.specs.declared.Status.the-variants.{InvalidSize, InvalidAddress}
-use Rattle.trace.specs.Loans.{Loan, enter, Ordered, Run, Lowest}
-use Rattle.trace.specs.Receipts.{Receipts, RegionEntry, Wait, Reply, Within, replyOf, unit, pagesIn, addressIn, pageIn}
-use Rattle.trace.specs.Claims.{waitersOf, Grants, all, stop, grant}
-use Rattle.trace.specs.Replies.{yes, tells, noRun, lowestRun, pagesOver, grantsIn, waitsAlready, waitingChecks, queueOf, byReceipts}
+use Rattle.trace.specs.Loans.{Loan}
+use Rattle.trace.specs.Receipts.{Receipts, RegionEntry, Wait, Reply, Within, replyOf, unit, addressIn}
+use Rattle.trace.specs.Claims.{waitersOf}
+use Rattle.trace.specs.Replies.{yes, tells, noRun, pagesOver, grantsIn, waitsAlready, waitingChecks, queueOf, byReceipts}
 use Rattle.trace.proofs.Invariant.{regionFor, tasksOf, queuesFrom, Inv}
 use Rattle.trace.proofs.Frame.{region-unit}
-use Rattle.trace.proofs.Loans.Get.{Got, gave, none, got-from}
-use Rattle.trace.proofs.Queue.Line.{In, true-false, in-line, in-append}
-use Rattle.trace.proofs.Queue.Order.{goes, orders, in-waits, queue-of}
+use Rattle.trace.proofs.Queue.Line.{In, true-false, in-append}
 use Rattle.trace.proofs.Queue.Places.{in-some, in-replicate}
-use Rattle.trace.proofs.Queue.Tasks.{all-in, in-tasks}
+use Rattle.trace.proofs.Queue.Tasks.{in-tasks}
 use Rattle.trace.proofs.Queue.Shown.{Queued, queued, in-queues, in-waiters, task-waits}
 use Rattle.trace.proofs.Queue.Ticks.{tick-notices}
-use Rattle.trace.proofs.Regions.Live.{law, map-drawing}
+use Rattle.trace.proofs.Clients.{RegionAt}
 use Rattle.trace.proofs.Regions.Queue.{sound-inv, region-ids}
 use Rattle.trace.proofs.Regions.Get.{getting}
-use Rattle.trace.proofs.Regions.Return.{returning, outcome}
+use Rattle.trace.proofs.Regions.Return.{returning, outcome, rest-at}
 use Rattle.trace.proofs.Replies.Checks.{Agree, rest, same, test, acted, agree, answers, at-region}
-use Rattle.trace.proofs.Replies.Held.{none-at, lent-at, lowest-from, placed-lowest}
+use Rattle.trace.proofs.Replies.Held.{none-at, lent-at, placed-lowest}
 
 -- ---- a task waits
 
@@ -122,44 +118,9 @@ module _ (m : List ℕ) (d : Manager) (t : Receipts) (v : Inv m d t) where
       (placed-lowest m e is (pagesOver e size)
       (pages-some size (unit e) (region-unit m e is) (let y = eqb-false size 0 n in omega arith))))))))))))
 
--- ---- grants
-
--- the lowest run is where the search ends
-module _ (n k : ℕ) (l : List Loan) where
-  found-none : (g : Place) (s : List Segment) → Got n 0 l k g s → ((p : ℕ) → ¬ Run n l k p) → g ≡ Nowhere
-  found-none g s (gave p e i b run low) h = absurd (h p run)
-  found-none g s (none e no-run) h = refl
-
-  found-lowest : (g : Place) (s : List Segment) (p : ℕ) → Got n 0 l k g s → Lowest n l k p → (g ≡ At p) × Ordered n 0 (enter p k l)
-  found-lowest g s p (gave q e i b run low) x =
-      let f : q ≡ p = omega (arith, low p (omega arith) (x .run), x .first q run) in
-      (ap At f, subst (λ (j : ℕ). Ordered n 0 (enter j k l)) f i)
-  found-lowest g s p (none e no-run) x = absurd (no-run p (omega arith) (x .run))
-
-module _ (e : RegionEntry) where
-  got-run : (k : ℕ) (l : List Loan) → 0 < k → (o : Ordered (pagesIn e) 0 l) → (s : List Segment) × Got (pagesIn e) 0 l k (lowestRun (pagesIn e) k 0 l) s
-  got-run k l z o = (_, rw (lowest-from (pagesIn e) k 0 l z o) at (got-from (pagesIn e) k 0 l o z))
-
-  -- THE GRANTS ARE THOSE THAT THE RECEIPTS GIVE
-  pub grants-are : {l : List Loan} {ws : List Wait} {ns : List Notice} → Grants e l ws ns → Ordered (pagesIn e) 0 l
-      → ((w : Wait) → In w ws → 0 < pagesOver e (w .size)) → ns ≡ grantsIn e l ws
-  unfolding grantsIn In
-  grants-are all o h = refl
-  grants-are {l} (stop {w = w} no-run) o h =
-      let g = got-run (pagesOver e (w .size)) l (h w (inl refl)) o in
-      rw (found-none (pagesIn e) (pagesOver e (w .size)) l _ (g .0) (g .1) no-run)
-  grants-are {l} (grant {w = w} {p = p} low r) o h =
-      let g = got-run (pagesOver e (w .size)) l (h w (inl refl)) o in
-      let f = found-lowest (pagesIn e) (pagesOver e (w .size)) l _ (g .0) p (g .1) low in
-      rw (f .0, ← (grants-are r (f .1) (λ x i. h x (inr i))))
+-- ---- a return, and a tick
 
 module _ (m : List ℕ) (d : Manager) (t : Receipts) (v : Inv m d t) where
-  -- a region's queue is of waits
-  in-queue : (id : ℕ) (e : RegionEntry) → t .regions id ≡ some e → (w : Wait) → In w (queueOf id e t) → In w (t .waits)
-  unfolding In
-  in-queue id e q w i =
-      elim (in-line (goes (orders t)) w [] (t .waits) .0 (in-waits id w _ .0 (rw (queue-of id e t q) at i) .0)) [ inl z ↦ absurd z | inr z ↦ z ]
-
   pub replies-return : (id a : ℕ) → replyOf (returnSegment m d id a) ≡ byReceipts (length m) t (ReturnSegment id a)
   unfolding returnSegment byReceipts
   replies-return id a =
@@ -168,10 +129,9 @@ module _ (m : List ℕ) (d : Manager) (t : Receipts) (v : Inv m d t) where
       (λ r. check (eqb (heldAt m r a) 0) InvalidAddress ∷ []) (λ r. fromServed (returning m d id a r)) _
       (λ e is q p. agree (test (none-at m e is a) (λ h.
       let x = lent-at m e is a h in
+      let r : RegionAt m (regionOf d id) e = record { region = p; is = is } in
       acted (ap (λ (ns : List Notice). tells ns)
-      (grants-are e (outcome m d t v id a e q (record { region = p; is = is }) _ (x .lent) .grants)
-      (law (regionFor e) .returned (map-drawing m e is) (pageIn e a) _ (x .lent) .ordered)
-      (λ w i. pages-some (w .size) (unit e) (region-unit m e is) (all-in t (t .waits) (v .waits .all) w (in-queue id e q w i) .size-some))))))))
+      (outcome m d t v id a e q r _ x .grants ∙ ap (λ (l : List Loan). grantsIn e l (queueOf id e t)) (sym (rest-at m d t v id a e q r _ x))))))))
 
   pub replies-tick : replyOf (tick m d) ≡ byReceipts (length m) t Tick
   unfolding tick byReceipts checked

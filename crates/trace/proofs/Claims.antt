@@ -1,0 +1,170 @@
+-- The claims of demand 3 of one state in which the invariant holds, for any implementation that answers there as the receipts say: what
+-- the claims say of answers follows from the replies, and the rest is the invariant's. Assumes nothing.
+use mathlib.Core.Path.{_≡_, refl, sym, ap, _∙_, subst}
+use mathlib.Core.Bool.{true}
+use mathlib.Core.List.{List, []}
+use mathlib.Core.Logic.{_⊎_, inl, inr, _↔_, ⊎-elim}
+use mathlib.Core.Option.{some}
+use Prim.Native.Nat.{ℕ, zero, suc, _+_, _*_, _/_, _≤_, _<_}
+use native.Mathlib.Nat.{mul-le-mul}
+use native.Mathlib.Omega.{arith}
+use lib.ListN.{length, take, drop, length-take, length-drop}
+use Rattle.arith.specs.Round.Laws.{pages-some}
+use Rattle.manager.specs.Record.{slots, regionOf, partitionOf}
+use Rattle.manager.specs.Region.{segments}
+use Rattle.manager.specs.Partition.{isBuffer, follow, linked, nextOf, chain}
+use Rattle.manager.specs.Partition.Laws.{linked-buffer, linked-rest, linked-last, live-chain}
+use Rattle.manager.specs.Perform.{Implementation}
+use Rattle.manager.specs.declared.Call.{Call}
+use Rattle.manager.specs.declared.Call.the-variants.{GetSegment, ReturnSegment, SegmentSize, ResizeSegment, RegionInformation, GetBuffer, Tick}
+use Rattle.manager.specs.declared.Wait.the-variants.{No}
+use Rattle.manager.specs.declared.Notice.{Notice}
+use Rattle.manager.specs.declared.Partition.{Partition}
+use Rattle.manager.specs.declared.Status.{Status}
+use Rattle.manager.specs.declared.Status.the-variants.{Successful, Unsatisfied, InternalError}
+use Rattle.trace.specs.Loans.{Lent, Run, Lowest, Room, amend, loanPages, sum}
+use Rattle.trace.specs.Receipts.{Receipts, RegionEntry, PartitionEntry, Wait, Reply, replyOf, unit, pagesIn, firstIn, addressIn, pageIn, pageLoans, buffersIn, buffersFrom, Within}
+use Rattle.trace.specs.Replies.{pagesOver, byReceipts, readByReceipts}
+use Rattle.trace.specs.Trace.{State}
+use Rattle.trace.specs.Claims.{queueOf, dueFrom, freePages, Chained, none, next, RegionClaims, PartitionClaims}
+use Rattle.trace.proofs.Invariant.{regionFor, RegionIs, PartitionIs, Inv}
+use Rattle.trace.proofs.Frame.{unit-least, inside-parts, partition-shaped, buffer-lies, chained-buffer}
+use Rattle.trace.proofs.Buffers.{buffer-within, within-buffer}
+use Rattle.trace.proofs.Clients.{RegionAt, region-at, partition-at, SegmentLoan, segment-in, segment-some}
+use Rattle.trace.proofs.Held.{Regular, regular, loan-holds}
+use Rattle.trace.proofs.Loans.Addresses.{pages-at}
+use Rattle.trace.proofs.Queue.Line.{In, in-line}
+use Rattle.trace.proofs.Queue.Order.{goes, orders, in-waits, queue-of}
+use Rattle.trace.proofs.Queue.Tasks.{all-in}
+use Rattle.trace.proofs.Regions.Live.{law, map-drawing}
+use Rattle.trace.proofs.Regions.Queue.{queue-inv}
+use Rattle.trace.proofs.Partitions.Slot.{buffers-in, unlent-once}
+use Rattle.trace.proofs.Replies.Consequences.{pages-lent, unsatisfied-by, lowest-by, information-by, size-by, resize-by, return-by, buffer-unsatisfied, buffer-front}
+use Rattle.trace.proofs.Replies.Undamaged.{not-damaged, reply-sound}
+
+-- ---- a chain by word 0
+
+-- the buffers of a sound chain are met by word 0, up to 0
+chained-from : (m : List ℕ) (p : Partition) → ((a : ℕ) → isBuffer p a ≡ true → ¬ (a ≡ 0)) → (n before a : ℕ) → linked n m p before a ≡ true
+    → Chained m a (follow n m a)
+unfolding follow
+chained-from m p h zero before a l = subst (λ (b : ℕ). Chained m b []) (sym (linked-last m p before a l)) none
+chained-from m p h (suc n) before a l =
+    next (h a (linked-buffer m p n before a l)) (chained-from m p h n a (nextOf m a) (linked-rest m p n before a l))
+
+-- ---- what is claimed of answers
+
+module _ (i : Implementation) (s : State) (v : Inv (s .memory) (s .manager) (s .receipts))
+    (replies : (c : Call) → replyOf (i .call (s .memory) (s .manager) c) ≡ byReceipts (length (s .memory)) (s .receipts) c)
+    (reads : (id address : ℕ) → i .read (s .memory) (s .manager) id address ≡ readByReceipts (s .memory) (s .receipts) id address) where
+  -- a call's status, value and notices
+  status-by : (c : Call) → i .call (s .memory) (s .manager) c .status ≡ byReceipts (length (s .memory)) (s .receipts) c .status
+  status-by c = ap (λ (r : Reply). r .status) (replies c)
+
+  value-by : (c : Call) → i .call (s .memory) (s .manager) c .value ≡ byReceipts (length (s .memory)) (s .receipts) c .value
+  value-by c = ap (λ (r : Reply). r .value) (replies c)
+
+  notices-by : (c : Call) → i .call (s .memory) (s .manager) c .notices ≡ byReceipts (length (s .memory)) (s .receipts) c .notices
+  notices-by c = ap (λ (r : Reply). r .notices) (replies c)
+
+  -- NO ANSWER IS 25
+  pub sound-claim : (c : Call) → ¬ (i .call (s .memory) (s .manager) c .status ≡ InternalError)
+  sound-claim c e = not-damaged _ (reply-sound (length (s .memory)) (s .receipts) c) (sym (status-by c) ∙ e)
+
+  -- A TICK
+  pub tick-claim : i .call (s .memory) (s .manager) Tick .notices ≡ dueFrom slots 1 (s .receipts)
+  unfolding byReceipts
+  tick-claim = notices-by Tick
+
+  -- A REGION
+  module _ (id : ℕ) (e : RegionEntry) (q : s .receipts .regions id ≡ some e) where
+    at : RegionAt (s .memory) (regionOf (s .manager) id) e
+    at = region-at (s .memory) (regionOf (s .manager) id) (s .receipts .regions id) e (v .picture .regions id) q
+
+    loans : Regular e
+    loans = regular (s .memory) e (at .is)
+
+    -- a wait of its queue asks for a page
+    queue-asks : (w : Wait) → In w (queueOf id e (s .receipts)) → 0 < pagesOver e (w .size)
+    unfolding In
+    queue-asks w h =
+        let t = s .receipts in
+        let y : In w (t .waits) =
+        elim (in-line (goes (orders t)) w [] (t .waits) .0 (in-waits id w _ .0 (rw (queue-of id e t q) at h) .0)) [ inl z ↦ absurd z | inr z ↦ z ] in
+        pages-some (w .size) (unit e) (loans .some-unit) (all-in t (t .waits) (v .waits .all) w y .size-some)
+
+    -- a read of a loan has words
+    read-some : (a k : ℕ) → Lent (e .loans) a k → ¬ (i .read (s .memory) (s .manager) id a ≡ [])
+    read-some a k x h =
+        let m = s .memory in
+        let b = loan-holds e loans a k x in
+        let l : SegmentLoan e a (k * unit e) = record { p = pageIn e a; k = k; lent = b .lent; at = b .at; bytes = refl } in
+        let w = segment-in m e (at .is) a (k * unit e) l in
+        let u : 1 * 8 ≤ k * unit e = mul-le-mul (segment-some m e (at .is) a (k * unit e) l) (unit-least e (at .is .page-some)) in
+        let r : readByReceipts m (s .receipts) id a ≡ take (k * unit e / 4) (drop (a / 4) m) = rw (q, pages-lent e loans a k x) in
+        let z : length (take (k * unit e / 4) (drop (a / 4) m)) ≡ 0 = ap length (sym r ∙ sym (reads id a) ∙ h) in
+        let f = inside-parts m (e .start) (e .bytes) (at .is .inside) .upto in
+        omega (arith, w .upto, w .whole, length-take (k * unit e / 4) (drop (a / 4) m), length-drop (a / 4) m)
+
+    pub region-claims : RegionClaims i s id e
+    region-claims =
+        let n = length (s .memory) in
+        let t = s .receipts in
+        record {
+          placed = λ a k x. loan-holds e loans a k x .at;
+          ordered = loans .ordered;
+          map = at .is .map;
+          counted =
+              ap (λ (l : List ℕ). sum l + freePages (segments (s .memory) (regionFor e))) (ap loanPages (loans .placed) ∙ pages-at (firstIn e) (unit e) (pageLoans e))
+              ∙ law (regionFor e) .counted (map-drawing (s .memory) e (at .is));
+          unsatisfied = λ size task priority ticks z h. rw (status-by (GetSegment id size No task priority ticks))
+              (unsatisfied-by n t id e q loans size task priority ticks z h);
+          lowest = λ size task priority ticks z h. rw (status-by (GetSegment id size No task priority ticks), value-by (GetSegment id size No task priority ticks))
+              (lowest-by n t id e q loans size task priority ticks z h);
+          read = read-some;
+          information = ap (λ (r : Reply). r .information) (replies (RegionInformation id) ∙ information-by n t id e q loans);
+          size = λ a k x. ap (λ (r : Reply). r .value) (replies (SegmentSize id a) ∙ size-by n t id e q loans a k x);
+          resize = λ a k size x z. rw (status-by (ResizeSegment id a size), value-by (ResizeSegment id a size)) (resize-by n t id e q loans a k x size z);
+          queue = queue-inv (s .memory) (s .manager) t v id e q;
+          return = λ a k x. rw (status-by (ReturnSegment id a), notices-by (ReturnSegment id a)) (return-by n t id e q loans a k x queue-asks);
+        }
+
+  -- A PARTITION
+  module _ (id : ℕ) (e : PartitionEntry) (q : s .receipts .partitions id ≡ some e) where
+    abbrev partition : Partition
+    partition = partitionOf (s .manager) id
+
+    is : PartitionIs (s .memory) partition e
+    is = partition-at (s .memory) partition (s .receipts .partitions id) e (v .picture .partitions id) q
+
+    -- no buffer is at 0
+    not-null : (a : ℕ) → isBuffer partition a ≡ true → ¬ (a ≡ 0)
+    not-null a b z = omega (arith, buffer-lies (s .memory) partition e is a b .low, partition-shaped (s .memory) partition e is .start-in)
+
+    -- its buffers, as its entry asks for them
+    asked-within : (a : ℕ) → Within a (buffersFrom (buffersIn e) (e .size) (e .start)) ↔ (isBuffer partition a ≡ true)
+    asked-within a =
+        let h = partition-shaped (s .memory) partition e is in
+        rw (← buffers-in (s .memory) partition e is, ← is .size, ← is .start) (within-buffer partition h a, buffer-within partition h a)
+
+    counted : length (e .lent) + length (e .unlent) ≡ buffersIn e
+    counted = is .counted ∙ buffers-in (s .memory) partition e is
+
+    pub partition-claims : PartitionClaims i s id e
+    partition-claims =
+        let n = length (s .memory) in
+        let t = s .receipts in
+        record {
+          chained = subst (λ (l : List ℕ). Chained (s .memory) (partition .front) l) (is .chained)
+              (chained-from (s .memory) partition not-null (partition .free) 0 (partition .front) (live-chain (s .memory) partition (is .sound)));
+          chained-once = unlent-once (s .memory) partition e is;
+          once = is .once;
+          each = λ a. (
+            λ w. is .either a (asked-within a .0 w),
+            λ w. asked-within a .1 (⊎-elim (λ (l : Within a (e .lent)). is .buffer a l) (λ (l : Within a (e .unlent)). chained-buffer (s .memory) partition e is a l) w),
+          );
+          either = is .apart;
+          counted = counted;
+          unsatisfied = rw (status-by (GetBuffer id)) (buffer-unsatisfied n t id e q counted);
+          front = λ a u l. rw (status-by (GetBuffer id), value-by (GetBuffer id)) (buffer-front n t id e q counted a u l);
+        }
