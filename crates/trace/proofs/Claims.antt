@@ -12,22 +12,20 @@ use lib.ListN.{length, take, drop, length-take, length-drop}
 use Rattle.arith.specs.Round.Laws.{pages-some}
 use Rattle.manager.specs.Record.{slots, regionOf, partitionOf}
 use Rattle.manager.specs.Region.{segments}
-use Rattle.manager.specs.Partition.{isBuffer, follow, linked, nextOf, chain}
+use Rattle.manager.specs.Partition.{isBuffer, follow, linked, nextOf}
 use Rattle.manager.specs.Partition.Laws.{linked-buffer, linked-rest, linked-last, live-chain}
 use Rattle.manager.specs.Perform.{Implementation}
 use Rattle.manager.specs.declared.Call.{Call}
 use Rattle.manager.specs.declared.Call.the-variants.{GetSegment, ReturnSegment, SegmentSize, ResizeSegment, RegionInformation, GetBuffer, Tick}
 use Rattle.manager.specs.declared.Wait.the-variants.{No}
-use Rattle.manager.specs.declared.Notice.{Notice}
 use Rattle.manager.specs.declared.Partition.{Partition}
-use Rattle.manager.specs.declared.Status.{Status}
-use Rattle.manager.specs.declared.Status.the-variants.{Successful, Unsatisfied, InternalError}
-use Rattle.trace.specs.Loans.{Lent, Run, Lowest, Room, amend, loanPages, sum}
-use Rattle.trace.specs.Receipts.{Receipts, RegionEntry, PartitionEntry, Wait, Reply, replyOf, unit, pagesIn, firstIn, addressIn, pageIn, pageLoans, buffersIn, buffersFrom, Within}
-use Rattle.trace.specs.Replies.{pagesOver, byReceipts, readByReceipts}
+use Rattle.manager.specs.declared.Status.the-variants.{InternalError}
+use Rattle.trace.specs.Loans.{Lent, loanPages, sum}
+use Rattle.trace.specs.Receipts.{RegionEntry, PartitionEntry, Wait, Reply, replyOf, unit, firstIn, pageIn, pageLoans, buffersIn, buffersFrom, Within}
+use Rattle.trace.specs.Replies.{pagesOver, byReceipts, readByReceipts, queueOf, dueFrom}
 use Rattle.trace.specs.Trace.{State}
-use Rattle.trace.specs.Claims.{queueOf, dueFrom, freePages, Chained, none, next, RegionClaims, PartitionClaims}
-use Rattle.trace.proofs.Invariant.{regionFor, RegionIs, PartitionIs, Inv}
+use Rattle.trace.specs.Claims.{freePages, Chained, none, next, RegionClaims, PartitionClaims}
+use Rattle.trace.proofs.Invariant.{regionFor, PartitionIs, Inv}
 use Rattle.trace.proofs.Frame.{unit-least, inside-parts, partition-shaped, buffer-lies, chained-buffer}
 use Rattle.trace.proofs.Buffers.{buffer-within, within-buffer}
 use Rattle.trace.proofs.Clients.{RegionAt, region-at, partition-at, SegmentLoan, segment-in, segment-some}

@@ -1,6 +1,6 @@
 -- The lowest run and the grants by the receipts: what is computed is what demand 3 asks for. Laws over the receipts alone, with loans by
 -- their pages. Assumes nothing.
-use mathlib.Core.Path.{_≡_, refl, sym, ap, _∙_, subst}
+use mathlib.Core.Path.{_≡_, refl, sym, ap, subst}
 use mathlib.Core.List.{List, [], _∷_}
 use mathlib.Core.Logic.{inl, inr}
 use Prim.Native.Nat.{ℕ, _<_}
@@ -10,10 +10,9 @@ use Rattle.manager.specs.Serve.{onPlace}
 use Rattle.manager.specs.declared.Notice.{Notice}
 use Rattle.manager.specs.declared.Place.{Place}
 use Rattle.manager.specs.declared.Place.the-variants.{At, Nowhere}
-use Rattle.manager.specs.declared.Status.the-variants.{Successful}
 use Rattle.trace.specs.Loans.{Loan, enter, Ordered, Run, Lowest}
 use Rattle.trace.specs.Receipts.{RegionEntry, Wait, unit, pagesIn, firstIn, addressIn, byPage}
-use Rattle.trace.specs.Replies.{lowestRun, pagesOver, grantsIn}
+use Rattle.trace.specs.Replies.{lowestRun, pagesOver, grantTo, grantsIn}
 use Rattle.trace.specs.Claims.{Grants, all, stop, grant}
 use Rattle.trace.proofs.Invariant.{atAddresses}
 use Rattle.trace.proofs.Loans.Addresses.{pages-back, enter-at}
@@ -37,23 +36,19 @@ lowest-found n k l z o = subst (Found n l k) (lowest-from n k 0 l z o) (found-go
 
 -- ---- grants
 
--- a grant to a wait at a page
-abbrev pub granting : RegionEntry → Wait → ℕ → Notice
-granting e w p = record { task = w .task; status = Successful; address = addressIn e p }
-
 module _ (e : RegionEntry) (u : 0 < unit e) where
   -- the first grant, by the place that is found for it
   module _ (l : List Loan) (w : Wait) (ws : List Wait) where
     abbrev pub first-grant : Place → List Notice
-    first-grant g = onPlace g (λ p. granting e w p ∷ grantsIn e (atAddresses e (enter p (pagesOver e (w .size)) l)) ws) []
+    first-grant g = onPlace g (λ p. grantTo w (addressIn e p) ∷ grantsIn e (atAddresses e (enter p (pagesOver e (w .size)) l)) ws) []
 
     pub grants-first : grantsIn e (atAddresses e l) (w ∷ ws) ≡ first-grant (lowestRun (pagesIn e) (pagesOver e (w .size)) 0 l)
     unfolding grantsIn
     grants-first = rw (pages-back (firstIn e) (unit e) u l) (at-place (lowestRun (pagesIn e) (pagesOver e (w .size)) 0 l))
       where
         at-place : (g : Place)
-            → onPlace g (λ p. granting e w p ∷ grantsIn e (enter (addressIn e p) (pagesOver e (w .size)) (atAddresses e l)) ws) [] ≡ first-grant g
-        at-place (At p) = ap (λ (k : List Loan). granting e w p ∷ grantsIn e k ws) (enter-at (firstIn e) (unit e) u p (pagesOver e (w .size)) l)
+            → onPlace g (λ p. grantTo w (addressIn e p) ∷ grantsIn e (enter (addressIn e p) (pagesOver e (w .size)) (atAddresses e l)) ws) [] ≡ first-grant g
+        at-place (At p) = ap (λ (k : List Loan). grantTo w (addressIn e p) ∷ grantsIn e k ws) (enter-at (firstIn e) (unit e) u p (pagesOver e (w .size)) l)
         at-place Nowhere = refl
 
   -- THE GRANTS THAT ARE COMPUTED ARE THE GRANTS

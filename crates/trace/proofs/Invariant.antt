@@ -19,7 +19,8 @@ use Rattle.manager.specs.declared.Region.{Region}
 use Rattle.manager.specs.declared.Partition.{Partition}
 use Rattle.trace.specs.Loans.{Loan, Ordered, drawn}
 use Rattle.trace.specs.Receipts.{Receipts, RegionEntry, PartitionEntry, Wait, unit, pagesIn, firstIn, pageLoans, withLoans, Within, Distinct}
-use Rattle.trace.specs.Claims.{queueOf, waitersOf}
+use Rattle.trace.specs.Replies.{queueOf}
+use Rattle.trace.specs.Claims.{waitersOf}
 use Rattle.trace.proofs.Loans.Addresses.{atPages}
 
 -- word w lies wholly in the n bytes from a on

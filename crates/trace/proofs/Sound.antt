@@ -7,7 +7,7 @@ use mathlib.Core.Option.{Option}
 use Prim.Native.Nat.{ℕ, _%_, _≤_}
 use borrow.Author.Tests.{eq-eqb, ne-eqb, le-leb}
 use Rattle.manager.specs.Record.{noRegion, noPartition, idOf, regionOf, partitionOf}
-use Rattle.manager.specs.Sound.{inside, soundPage, liveRegion, soundRegion, soundPartition, soundQueue, sound}
+use Rattle.manager.specs.Sound.{soundPage, liveRegion, soundRegion, soundPartition, soundQueue, sound}
 use Rattle.manager.specs.declared.Manager.{Manager}
 use Rattle.manager.specs.declared.Region.{Region}
 use Rattle.manager.specs.declared.Partition.{Partition}

@@ -23,8 +23,7 @@ use Rattle.manager.specs.declared.Wait.the-variants.{No}
 use Rattle.manager.specs.declared.Status.the-variants.{Successful, Unsatisfied, InternalError}
 use Rattle.trace.specs.Loans.{Loan, Lent, Run, Lowest, Room, Ordered, drawn, loanPages, sum, enter, amend}
 use Rattle.trace.specs.Receipts.{Receipts, RegionEntry, PartitionEntry, Wait, replyOf, isSuccess, unit, pagesIn, addressIn, pageIn, byPage, pageLoans, buffersIn, buffersFrom, Within, Distinct}
-unfoldable pub use Rattle.trace.specs.Replies.{waitsIn, urgentThan, behind, arranged, queueOf, dueIn, dueOf, dueFrom, informationIn}
-use Rattle.trace.specs.Replies.{byReceipts, writeByReceipts, readByReceipts}
+use Rattle.trace.specs.Replies.{queueOf, dueFrom, informationIn, grantTo, byReceipts, writeByReceipts, readByReceipts}
 use Rattle.trace.specs.Trace.{Ask, call, read, write, State, after, Object, Loaned, Owned, Runs, start}
 
 -- a wait as the record keeps it: with the ticks that it has left
@@ -50,7 +49,7 @@ pub data Grants (e : RegionEntry) : List Loan → List Wait → List Notice → 
   stop : {l : List Loan} {w : Wait} {ws : List Wait} → ((p : ℕ) → ¬ Run (pagesIn e) (byPage e l) (pagesFor (w .size) (unit e)) p) → Grants e l (w ∷ ws) []
   grant : {l : List Loan} {w : Wait} {ws : List Wait} {ns : List Notice} {p : ℕ} → Lowest (pagesIn e) (byPage e l) (pagesFor (w .size) (unit e)) p
       → Grants e (enter (addressIn e p) (pagesFor (w .size) (unit e)) l) ws ns
-      → Grants e l (w ∷ ws) (record { task = w .task; status = Successful; address = addressIn e p } ∷ ns)
+      → Grants e l (w ∷ ws) (grantTo w (addressIn e p) ∷ ns)
 
 -- a region's map words in the memory: where they lie, and how many they are, follows from what create asked for
 abbrev pub mapIn : List ℕ → RegionEntry → List ℕ

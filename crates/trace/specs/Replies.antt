@@ -1,6 +1,5 @@
 -- Document 01 by the receipts: what every call is answered, from its arguments, the receipts and the memory's length. No word of the
 -- memory and no field of the record is looked at. Assumes nothing.
-use mathlib.Core.Path.{_≡_}
 use mathlib.Core.Bool.{Bool, true, false, cond, not, _&&_, _||_}
 use mathlib.Core.List.{List, [], _∷_, _++_}
 use mathlib.Core.Option.{Option, none, some}
@@ -176,12 +175,13 @@ abbrev pub runIn : RegionEntry → ℕ → List Loan → Place
 runIn e size l = lowestRun (pagesIn e) (pagesOver e size) 0 (byPage e l)
 
 -- GRANTS: to the first waits in order, each at the lowest run at that moment, up to the first wait that has none
+abbrev pub grantTo : Wait → ℕ → Notice
+grantTo w a = record { task = w .task; status = Successful; address = a }
+
 unfoldable pub grantsIn : RegionEntry → List Loan → List Wait → List Notice
 grantsIn e l [] = []
 grantsIn e l (w ∷ ws) =
-    onPlace (runIn e (w .size) l)
-    (λ p. record { task = w .task; status = Successful; address = addressIn e p } ∷ grantsIn e (enter (addressIn e p) (pagesOver e (w .size)) l) ws)
-    []
+    onPlace (runIn e (w .size) l) (λ p. grantTo w (addressIn e p) ∷ grantsIn e (enter (addressIn e p) (pagesOver e (w .size)) l) ws) []
 
 -- a task waits
 unfoldable pub waitsAlready : ℕ → List Wait → Bool

@@ -15,7 +15,7 @@ use Rattle.manager.specs.Paged.Laws.{free-join}
 use Rattle.trace.specs.Loans.{Loan, loan, loan+, amend, Lent, Held, drawn, Ordered, Room}
 use Rattle.trace.specs.Replies.{upTo, mostPagesAt}
 use Rattle.trace.proofs.Loans.Tests.{by-leb, by-eqb}
-use Rattle.trace.proofs.Loans.Drawn.{next, onward, drawn-next, lead-onward, rest-onward, ordered-next, ordered-end, ordered-from, held-after, next-held, lent-after, lent-some}
+use Rattle.trace.proofs.Loans.Drawn.{next, onward, drawn-next, lead-onward, rest-onward, ordered-next, ordered-end, ordered-from, held-after, next-held, lent-after}
 
 -- ---- past the free pages in front
 
@@ -91,13 +91,6 @@ held-some n at (loan a m ∷ l) p o x =
     (λ e y. inl (e, refl))
     (λ e y. inr (held-some n (a + m) l p (o .2) y))
     (rw (held-first n p at a m l o) at x))
-
-pub held-is : (n at : ℕ) (l : List Loan) (p j : ℕ) → Ordered n at l → heldFrom p at (drawn n at l) ≡ suc j → Lent l p (suc j)
-held-is n at l p j o e = rw e at (held-some n at l p o (omega arith))
-
--- where none are found there is no loan
-pub held-none : (n at : ℕ) (l : List Loan) (p : ℕ) → Ordered n at l → heldFrom p at (drawn n at l) ≡ 0 → (k : ℕ) → ¬ Lent l p k
-held-none n at l p o e k x = omega (arith, held-lent n at l p k o x, lent-some n at l p k o x)
 
 -- ---- the most that a loan can have
 

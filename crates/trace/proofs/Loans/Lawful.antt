@@ -73,10 +73,6 @@ pub record Lawful (K : Kind) (R : Reading) : Type 0 where
 
 -- WHAT FOLLOWS FOR EVERY LAWFUL KIND
 module _ (K : Kind) (R : Reading) (L : Lawful K R) where
-  -- no pages are found where there is no loan
-  pub held-none : {n : ℕ} {l : List Loan} {s : List Segment} → Drawing R n l s → (p : ℕ) → K .held p s ≡ 0 → (k : ℕ) → ¬ Lent l p k
-  held-none d p e k x = omega (arith, L .held d p k x, L .lent-some (d .ordered) p k x)
-
   -- from the words to the map
   pub drawing : (n : ℕ) (l : List Loan) (ws : List ℕ) → R .Ordered n l → ws ≡ draw (R .drawn n l) → Drawing R n l (decode ws)
   drawing n l ws o e =
@@ -90,8 +86,3 @@ module _ (K : Kind) (R : Reading) (L : Lawful K R) where
       let t : some isHeldSegment s ≡ true = L .any-some d in
       let z : _≡_ {A = ℕ} 0 1 = cc in
       absurd (omega arith)
-
-  pub lent-any : {n : ℕ} (l : List Loan) {s : List Segment} → Drawing R n l s → (p k : ℕ) → Lent l p k → some isHeldSegment s ≡ true
-  unfolding Lent
-  lent-any [] d p k x = absurd x
-  lent-any (loan a m ∷ l) d p k x = L .any-some d

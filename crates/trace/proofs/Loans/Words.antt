@@ -12,7 +12,7 @@ use Rattle.manager.specs.Map.{Segment, free, held, isHeldSegment, draw, decode,
 use Rattle.manager.specs.Map.Laws.{Well, sound-drawn, reread, well-decoded, length-draw, total-decoded}
 use Rattle.manager.specs.Paged.{free+}
 use Rattle.manager.specs.Paged.Laws.{free-join, total-free, well-free, free-front}
-use Rattle.trace.specs.Loans.{Loan, loan, Lent, run+, size+, drawn, runs, Ordered, loanPages, sum}
+use Rattle.trace.specs.Loans.{Loan, loan, run+, size+, drawn, runs, Ordered, loanPages, sum}
 use Rattle.trace.specs.Claims.{freePages}
 use Rattle.trace.proofs.Loans.Drawn.{next, onward, drawn-next, ordered-next, ordered-from}
 
@@ -107,18 +107,6 @@ any-none n at = ap (some isHeldSegment) (drawn-next n at []) ∙ any-free (n - a
 pub any-some : (n at a k : ℕ) (l : List Loan) → some isHeldSegment (drawn n at (loan a k ∷ l)) ≡ true
 unfolding some
 any-some n at a k l = ap (some isHeldSegment) (drawn-next n at (loan a k ∷ l)) ∙ any-free (a - at) (held k ∷ drawn n (a + k) l)
-
-pub none-held : (n at : ℕ) (l : List Loan) → some isHeldSegment (drawn n at l) ≡ false → l ≡ []
-none-held n at [] e = refl
-none-held n at (loan a k ∷ l) e =
-    let z : _≡_ {A = Bool} true false = sym (any-some n at a k l) ∙ e in
-    let y : _≡_ {A = ℕ} 0 1 = cc in
-    absurd (omega arith)
-
-pub lent-any : (n at : ℕ) (l : List Loan) (p k : ℕ) → Lent l p k → some isHeldSegment (drawn n at l) ≡ true
-unfolding Lent
-lent-any n at [] p k x = absurd x
-lent-any n at (loan a m ∷ l) p k x = any-some n at a m l
 
 -- ---- from a map to its loans
 

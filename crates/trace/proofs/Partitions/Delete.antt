@@ -5,7 +5,6 @@ use mathlib.Core.List.{List}
 use mathlib.Core.Option.{none}
 use Prim.Native.Nat.{ℕ}
 use Rattle.manager.specs.Record.{noPartition, partitionOf, slotOf, withPartition}
-use Rattle.manager.specs.Result.{done}
 use Rattle.manager.specs.Lists as lists
 use Rattle.manager.specs.Partitions.{deletePartition, identPartition}
 use Rattle.manager.specs.Sound.{sound}

@@ -7,7 +7,7 @@ use mathlib.Core.Logic.{_⊎_, inl, inr, ⊎-elim}
 use mathlib.Core.Option.{some}
 use Prim.Native.Nat.{ℕ}
 use native.Mathlib.Omega.{arith}
-use lib.ListN.{getD, length, length-append}
+use lib.ListN.{getD, length-append}
 use borrow.Author.Tests.{not-false}
 use Rattle.manager.specs.Record.{slotOf, partitionOf, withPartition}
 use Rattle.manager.specs.Result.{done}

@@ -18,7 +18,8 @@ use Rattle.manager.specs.Queue.Used.{length-pad}
 use Rattle.manager.specs.declared.Manager.{Manager}
 use Rattle.manager.specs.declared.Waiter.{Waiter}
 use Rattle.trace.specs.Receipts.{Receipts, RegionEntry, Wait, Distinct, withWaits, without, waitOf}
-use Rattle.trace.specs.Claims.{waitsIn, queueOf, waiterOf, waitersOf}
+use Rattle.trace.specs.Replies.{waitsIn, queueOf}
+use Rattle.trace.specs.Claims.{waiterOf, waitersOf}
 use Rattle.trace.proofs.Invariant.{Waits, tasksOf, queuesFrom}
 use Rattle.trace.proofs.Queue.Line.{In, keep, line, Sorted, in-append, in-keep, keep-append, keep-line}
 use Rattle.trace.proofs.Queue.Order.{goes, goes-strict, orders, queues-line, queue-of, waits-keep}

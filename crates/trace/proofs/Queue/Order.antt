@@ -15,7 +15,7 @@ use Rattle.manager.specs.declared.Order.{Order}
 use Rattle.manager.specs.declared.Order.the-variants.{Fifo, Priority}
 use Rattle.manager.specs.Queue.Parts.{by-case}
 use Rattle.trace.specs.Receipts.{Receipts, RegionEntry, Wait}
-use Rattle.trace.specs.Claims.{waitsIn, urgentThan, behind, arranged, queueOf}
+use Rattle.trace.specs.Replies.{waitsIn, urgentThan, behind, arranged, queueOf}
 use Rattle.trace.proofs.Invariant.{queueAt, queuesFrom}
 use Rattle.trace.proofs.Queue.Line.{true-false, In, keep, settle, line, Behind, Sorted, Strict, in-keep, in-settle, in-line, sorted-line, keep-line}
 

@@ -18,7 +18,8 @@ use Rattle.manager.specs.declared.Waiter.{Waiter}
 use Rattle.manager.specs.declared.Order.{Order}
 use Rattle.manager.specs.Queue.Parts.{by-case}
 use Rattle.trace.specs.Receipts.{Receipts, RegionEntry, Wait, Within, Distinct}
-use Rattle.trace.specs.Claims.{waitsIn, queueOf, waiterOf, waitersOf, waitersFor}
+use Rattle.trace.specs.Replies.{waitsIn, queueOf}
+use Rattle.trace.specs.Claims.{waiterOf, waitersOf, waitersFor}
 use Rattle.trace.proofs.Invariant.{Waits, tasksOf, queuesFrom}
 use Rattle.trace.proofs.Queue.Line.{In, keep, settle, in-line, in-append, keep-append, length-line}
 use Rattle.trace.proofs.Queue.Order.{goes, orders, Listed, queues-line, queue-of}

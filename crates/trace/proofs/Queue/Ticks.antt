@@ -21,7 +21,8 @@ use Rattle.manager.specs.declared.Notice.{Notice}
 use Rattle.manager.specs.declared.Status.the-variants.{Timeout}
 use Rattle.manager.specs.Queue.Parts.{by-case}
 use Rattle.trace.specs.Receipts.{Receipts, RegionEntry, Wait, Distinct, withWaits, without, later, allLater, allNoticed}
-use Rattle.trace.specs.Claims.{waiterOf, waitersOf, dueIn, dueOf, dueFrom}
+use Rattle.trace.specs.Replies.{dueIn, dueOf, dueFrom}
+use Rattle.trace.specs.Claims.{waiterOf, waitersOf}
 use Rattle.trace.proofs.Invariant.{WaitIs, Waits, tasksOf, queueAt, queuesFrom}
 use Rattle.trace.proofs.Loans.Tests.{by-eqb}
 use Rattle.trace.proofs.Queue.Line.{true-false, In, keep, settle, line, Sorted, in-keep, keep-line, keep-same, keep-all, keep-keep}

@@ -15,7 +15,7 @@ use Rattle.manager.specs.declared.Call.the-variants.{IdentRegion, SegmentSize, 
 use Rattle.manager.specs.declared.Status.the-variants.{Successful}
 use Rattle.trace.specs.Loans.{runs, loanPages, most, sum}
 use Rattle.trace.specs.Receipts.{Receipts, RegionEntry, unit, pagesIn, firstIn, pageLoans, entered, note, allNoticed}
-use Rattle.trace.specs.Claims.{informationIn}
+use Rattle.trace.specs.Replies.{informationIn}
 use Rattle.trace.proofs.Invariant.{regionFor, RegionIs, Inv}
 use Rattle.trace.proofs.Regions.Checks.{Kept, kept-words, kept-checked}
 use Rattle.trace.proofs.Loans.Addresses.{pages-at}

@@ -1,6 +1,6 @@
 -- A chain of checks: every check passes and the directive acts, or one refuses. A refusal leaves the memory, the record and the receipts
 -- as they were. Assumes nothing.
-use mathlib.Core.Path.{_≡_, refl, ap, _∙_}
+use mathlib.Core.Path.{_≡_, refl, ap}
 use mathlib.Core.Bool.{Bool, true, false, cond, not, _&&_}
 use mathlib.Core.List.{List, [], _∷_}
 use mathlib.Core.Option.{some}
@@ -42,19 +42,11 @@ by-checks P (c ∷ cs) refuse act h f g =
     (λ e. f (c .status) (and-first (refuses c) (every refuses cs) h))
     (λ e. by-checks P cs refuse act (and-second (refuses c) (every refuses cs) h) f (λ p. g (e, p)))
 
-pub all-pass : (cs : List Check) (refuse : Status → Result) (act : Result) → Passed cs → checked cs refuse act ≡ act
-unfolding checked Passed
-all-pass [] refuse act h = refl
-all-pass (c ∷ cs) refuse act h = rw (h .0) (all-pass cs refuse act (h .1))
-
 -- of sound books the first check passes
 module _ (m : List ℕ) (d : Manager) (cs : List Check) (act : Result) (e : sound m d ≡ true) where
   pub answered-sound : answered m d cs act ≡ checked cs (refused m d) act
   unfolding checked
   answered-sound = rw e
-
-  pub acts : Passed cs → answered m d cs act ≡ act
-  acts p = answered-sound ∙ all-pass cs (refused m d) act p
 
   pub by-answer : (P : Result → Type 0) → every refuses cs ≡ true → ((s : Status) → refusing s ≡ true → P (refused m d s)) → (Passed cs → P act)
       → P (answered m d cs act)

@@ -15,7 +15,7 @@ use Rattle.manager.specs.declared.Region.{Region}
 use Rattle.manager.specs.declared.Call.the-variants.{DeleteRegion}
 use Rattle.manager.specs.declared.Status.the-variants.{Successful}
 use Rattle.trace.specs.Receipts.{Receipts, RegionEntry, pageLoans, put}
-use Rattle.trace.specs.Claims.{waitsIn}
+use Rattle.trace.specs.Replies.{waitsIn}
 use Rattle.trace.proofs.Invariant.{regionFor, RegionSlot, empty, Inv, Picture, with-waits}
 use Rattle.trace.proofs.Areas.{OfSlot, region-slot, region-there, region-elsewhere, areas-no-region}
 use Rattle.trace.proofs.Clients.{RegionAt}

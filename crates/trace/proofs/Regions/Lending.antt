@@ -14,7 +14,7 @@ use Rattle.manager.specs.declared.Manager.{Manager}
 use Rattle.manager.specs.declared.Order.{Order}
 use Rattle.trace.specs.Loans.{Loan, loan, enter, Lent}
 use Rattle.trace.specs.Receipts.{Receipts, RegionEntry, Wait, unit, firstIn, put}
-use Rattle.trace.specs.Claims.{waitsIn, arranged, behind, urgentThan}
+use Rattle.trace.specs.Replies.{waitsIn, arranged, behind, urgentThan}
 use Rattle.trace.proofs.Invariant.{atAddresses, lentPages, WaitIs, AllWaits, Waits, queueAt, queuesFrom}
 use Rattle.trace.proofs.Loans.Tests.{by-eqb, by-leb}
 use Rattle.trace.proofs.Loans.Addresses.{none-at}

@@ -15,7 +15,8 @@ use Rattle.manager.specs.declared.Manager.{Manager}
 use Rattle.manager.specs.declared.Region.{Region}
 use Rattle.trace.specs.Loans.{Loan, loan}
 use Rattle.trace.specs.Receipts.{Receipts, RegionEntry, Wait, withWaits, pagesIn, pageLoans}
-use Rattle.trace.specs.Claims.{waitsIn, queueOf, waiterOf, waitersOf, waitersFor}
+use Rattle.trace.specs.Replies.{waitsIn, queueOf}
+use Rattle.trace.specs.Claims.{waiterOf, waitersOf, waitersFor}
 use Rattle.trace.proofs.Invariant.{regionFor, atAddresses, lentPages, RegionIs, WaitIs, Waits, Inv, Picture}
 use Rattle.trace.proofs.Areas.{region-slot}
 use Rattle.trace.proofs.Clients.{region-at}

@@ -1,5 +1,5 @@
 -- A return: the loan is struck, and then the region's queue is served. Assumes nothing.
-use mathlib.Core.Path.{_≡_, refl, sym, ap, _∙_, subst}
+use mathlib.Core.Path.{_≡_, refl, sym, ap, subst}
 use mathlib.Core.Bool.{false}
 use mathlib.Core.List.{List, []}
 use mathlib.Core.Logic.{inl}
@@ -17,7 +17,7 @@ use Rattle.manager.specs.declared.Region.{Region}
 use Rattle.manager.specs.declared.Call.the-variants.{ReturnSegment}
 use Rattle.trace.specs.Loans.{Loan, amend}
 use Rattle.trace.specs.Receipts.{Receipts, RegionEntry, pagesIn, pageIn, pageLoans, giveBack, onRegion, withLoans, note}
-use Rattle.trace.specs.Claims.{queueOf}
+use Rattle.trace.specs.Replies.{queueOf}
 use Rattle.trace.proofs.Invariant.{regionFor, atAddresses, lentPages, Inv}
 use Rattle.trace.proofs.Frame.{only-trans}
 use Rattle.trace.proofs.Clients.{RegionAt}

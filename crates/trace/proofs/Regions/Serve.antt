@@ -23,8 +23,8 @@ use Rattle.manager.specs.declared.Place.the-variants.{At, Nowhere}
 use Rattle.manager.specs.declared.Notice.{Notice}
 use Rattle.trace.specs.Loans.{Loan, loan, enter}
 use Rattle.trace.specs.Receipts.{Receipts, RegionEntry, Wait, unit, pagesIn, addressIn, lend, onRegion, put, withWaits, without, noticed, allNoticed}
-use Rattle.trace.specs.Replies.{lowestRun, grantsIn}
-use Rattle.trace.specs.Claims.{queueOf, waitsIn, waiterOf}
+use Rattle.trace.specs.Replies.{lowestRun, grantsIn, queueOf, waitsIn}
+use Rattle.trace.specs.Claims.{waiterOf}
 use Rattle.trace.proofs.Invariant.{regionFor, atAddresses, lentPages, WaitIs, Waits, Inv, Picture, with-waits}
 use Rattle.trace.proofs.Frame.{only-refl, only-trans, region-unit, lent-pages}
 use Rattle.trace.proofs.Clients.{RegionAt, region-at, OnlyMap}

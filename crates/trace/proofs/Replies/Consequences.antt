@@ -1,7 +1,7 @@
 -- What the replies by the receipts come to, in the words of demand 3. Laws over the receipts alone: a live region's loans are regular, and
 -- nothing is known of a memory or of a record. So of any implementation that answers as the receipts say, each field of the claims about
 -- an answer follows. Assumes nothing.
-use mathlib.Core.Path.{_≡_, refl, sym, ap, _∙_, subst}
+use mathlib.Core.Path.{_≡_, refl, sym, subst}
 use mathlib.Core.Bool.{Bool}
 use mathlib.Core.List.{List, [], _∷_}
 use mathlib.Core.Logic.{_⊎_, inl, inr, _↔_}
