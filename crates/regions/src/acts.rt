@@ -20,11 +20,11 @@ ghost use lib.Dec.{leb};
 ghost use Rattle.manager.specs.Record.{slots, idOf, regionOf, withRegion};
 ghost use Rattle.manager.specs.Result.{Performs, done, replied};
 ghost use Rattle.manager.specs.Paged.{free+, heldFrom, reachFrom, changeFrom};
-ghost use Rattle.manager.specs.Region.{pagesOf, pageAt, addressOf, segments, withSegments};
-ghost use Rattle.manager.specs.Serve.{onPlace, placed, taken, serve, fromServed};
+ghost use Rattle.manager.specs.Region.{pagesOf, pageAt, addressOf, segments, withSegments, placed, taken};
+ghost use Rattle.manager.specs.Serve.{onPlace, serve, fromServed};
 ghost use Rattle.manager.specs.Regions.{newRegion, createRegion, unplaced, getSegment, returnSegment, resizeSegment};
 ghost use Rattle.manager.specs.Sound.{sound};
-ghost use Rattle.manager.specs.Sound.Laws.{Laid, Sited};
+ghost use Rattle.manager.specs.Sound.{Laid, Sited};
 ghost use Rattle.manager.specs.declared.Status.the-variants.{Unsatisfied};
 ghost use Rattle.regions.specs.Serving.{Asking};
 

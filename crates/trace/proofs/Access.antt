@@ -12,7 +12,7 @@ use lib.Dec.{eqb, ltb}
 use borrow.Author.Tests.{eqb-false, ltb-false, not-true}
 use Rattle.manager.specs.Record.{regionOf}
 use Rattle.manager.specs.Lists.{every}
-use Rattle.manager.specs.Lists.Laws.{and-first}
+use Rattle.manager.proofs.Laws.Lists.{and-first}
 use Rattle.manager.specs.Result.{Result, refused}
 use Rattle.manager.specs.Region.{dead, heldAt}
 use Rattle.manager.specs.Sound.{sound}

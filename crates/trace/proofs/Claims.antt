@@ -9,11 +9,12 @@ use Prim.Native.Nat.{ℕ, zero, suc, _+_, _*_, _/_, _≤_, _<_}
 use native.Mathlib.Nat.{mul-le-mul}
 use native.Mathlib.Omega.{arith}
 use lib.ListN.{length, take, drop, length-take, length-drop}
-use Rattle.arith.specs.Round.Laws.{pages-some}
+use Rattle.arith.proofs.Laws.Round.{pages-some}
 use Rattle.manager.specs.Record.{slots, regionOf, partitionOf}
 use Rattle.manager.specs.Region.{segments}
 use Rattle.manager.specs.Partition.{isBuffer, follow, linked, nextOf}
-use Rattle.manager.specs.Partition.Laws.{linked-buffer, linked-rest, linked-last, live-chain}
+use Rattle.manager.proofs.Laws.Partition.Chain.{linked-buffer, linked-rest, linked-last}
+use Rattle.manager.proofs.Laws.Partition.Live.{live-chain}
 use Rattle.manager.specs.Perform.{Implementation}
 use Rattle.manager.specs.declared.Call.{Call}
 use Rattle.manager.specs.declared.Call.the-variants.{GetSegment, ReturnSegment, SegmentSize, ResizeSegment, RegionInformation, GetBuffer, Tick}

@@ -12,7 +12,9 @@ use Rattle.manager.specs.Record.{slotOf, partitionOf, withPartition}
 use Rattle.manager.specs.Result.{done}
 use Rattle.manager.specs.Lists as lists
 use Rattle.manager.specs.Partition.{isBuffer, chain, afterGet, gotten}
-use Rattle.manager.specs.Partition.Laws.{get-chain, get-buffer, get-length, get-outside, get-only, live-get, live-chain}
+use Rattle.manager.proofs.Laws.Partition.Links.{get-chain, get-buffer}
+use Rattle.manager.proofs.Laws.Partition.Area.{get-length, get-outside, get-only}
+use Rattle.manager.proofs.Laws.Partition.Live.{live-get, live-chain}
 use Rattle.manager.specs.Partitions.{getBuffer}
 use Rattle.manager.specs.Sound.{sound}
 use Rattle.manager.specs.declared.Manager.{Manager}

@@ -8,14 +8,14 @@ use Prim.Native.Nat.{ℕ, _≤_, _<_}
 use native.Mathlib.Omega.{arith}
 use borrow.Author.Tests.{eqb-false, ltb-false}
 use Rattle.arith.specs.Round.{pagesFor}
-use Rattle.arith.specs.Round.Laws.{pages-some}
+use Rattle.arith.proofs.Laws.Round.{pages-some}
 use Rattle.manager.specs.Record.{tasks, regionOf}
 use Rattle.manager.specs.Result.{Result, done, replied}
 use Rattle.manager.specs.Lists.{every}
 use Rattle.manager.specs.Map.{Segment}
-use Rattle.manager.specs.Region.{pagesOf, addressOf, withSegments, pagesAsked}
+use Rattle.manager.specs.Region.{pagesOf, addressOf, withSegments, pagesAsked, placed, taken}
 use Rattle.manager.specs.Queue.{enqueue}
-use Rattle.manager.specs.Serve.{onPlace, placed, taken}
+use Rattle.manager.specs.Serve.{onPlace}
 use Rattle.manager.specs.Regions.{waitChecks, unplaced, getSegment}
 use Rattle.manager.specs.declared.Manager.{Manager}
 use Rattle.manager.specs.declared.Region.{Region}

@@ -8,8 +8,7 @@ use Prim.Native.Nat.{ℕ, zero, suc, _<_}
 use native.Mathlib.Omega.{arith}
 use lib.Dec.{eqb}
 use Rattle.manager.specs.Paged.{reachFrom}
-use Rattle.manager.specs.Serve.{placed}
-use Rattle.manager.specs.Region.{kind, segments, heldAt, anyHeld}
+use Rattle.manager.specs.Region.{kind, segments, heldAt, anyHeld, placed}
 use Rattle.trace.specs.Loans.{Loan, loan, Lent, inPages}
 use Rattle.trace.specs.Receipts.{RegionEntry, pagesIn, pageLoans, byPage}
 use Rattle.trace.specs.Replies.{lendsAny, pagesAt, mostPagesAt, lowestRun}

@@ -1,0 +1,139 @@
+-- The page count is the largest number of pages that fits, and there is only one such number. A page takes a word and itself of what
+-- lies from the map's start on, so no more fit than the room divided by (page + 4); and one less than that always fits, since
+-- rounding the first page up costs less than a page. Assumes nothing.
+use Prim.Native.Nat.{ℕ, zero, suc, _+_, _*_, _/_, _≤_, _<_}
+use mathlib.Core.Path.{_≡_, refl, _∙_}
+use mathlib.Core.Logic.{⊎-elim}
+use mathlib.Core.Bool.{Bool, true, false, cond, true≢false}
+use native.Mathlib.Nat.{le-div-iff-mul-le, mul-add, zero-mul, mul-le-mul-left, le-trans, le-antisymm, eq-or-lt-of-le, eq-zero-or-pos}
+use native.Mathlib.Omega.{arith}
+use borrow.Author.Tests.{leb-true, le-leb, eq-eqb, ne-eqb}
+use Rattle.arith.proofs.Laws.Round.{round-ge, round-lt}
+use Rattle.arith.specs.Layout.{mapStart, firstPage, fits, largest, pageCount}
+
+-- one step of the search
+pick-passes : (t : ℕ → Bool) (k r : ℕ) (b : Bool) → t k ≡ b → (0 < r → t r ≡ true) → 0 < cond b k r
+    → t (cond b k r) ≡ true
+pick-passes t k r true e h g = e
+pick-passes t k r false e h g = h g
+
+pick-under : (k r : ℕ) (b : Bool) → r ≤ k → cond b (suc k) r ≤ suc k
+pick-under k r true h = omega arith
+pick-under k r false h = omega arith
+
+pick-most : (t : ℕ → Bool) (k r m : ℕ) (b : Bool) → t (suc k) ≡ b → (m ≤ k → m ≤ r) → m ≤ suc k → t m ≡ true
+    → m ≤ cond b (suc k) r
+pick-most t k r m true e h g p = g
+pick-most t k r m false e h g p =
+    ⊎-elim (λ (q : m ≡ suc k). let z : true ≡ false = cc in absurd (true≢false z))
+    (λ (l : m < suc k). h (omega arith))
+    (eq-or-lt-of-le g)
+
+-- the largest passes, where it is not 0
+pub largest-passes : (k : ℕ) (t : ℕ → Bool) → 0 < largest k t → t (largest k t) ≡ true
+unfolding largest
+largest-passes zero t h = absurd (omega arith)
+largest-passes (suc k) t h = pick-passes t (suc k) (largest k t) (t (suc k)) refl (largest-passes k t) h
+
+pub largest-under : (k : ℕ) (t : ℕ → Bool) → largest k t ≤ k
+unfolding largest
+largest-under zero t = omega arith
+largest-under (suc k) t = pick-under k (largest k t) (t (suc k)) (largest-under k t)
+
+-- none that passes is above it
+pub largest-most : (k : ℕ) (t : ℕ → Bool) (m : ℕ) → m ≤ k → t m ≡ true → m ≤ largest k t
+unfolding largest
+largest-most zero t m h p = h
+largest-most (suc k) t m h p = pick-most t k (largest k t) m (t (suc k)) refl (λ g. largest-most k t m g p) h p
+
+-- and it is the only number of which this holds
+pub largest-unique : (k : ℕ) (t : ℕ → Bool) (n : ℕ) → n ≤ k → (0 < n → t n ≡ true)
+    → ((m : ℕ) → 0 < m → m ≤ k → t m ≡ true → m ≤ n) → largest k t ≡ n
+largest-unique k t n u p q =
+    le-antisymm
+    (⊎-elim (λ (e : largest k t ≡ 0). omega arith)
+    (λ (h : 0 < largest k t). q (largest k t) h (largest-under k t) (largest-passes k t h))
+    (eq-zero-or-pos (largest k t)))
+    (⊎-elim (λ (e : n ≡ 0). omega arith) (λ (h : 0 < n). largest-most k t n u (p h)) (eq-zero-or-pos n))
+
+module _ (start length page : ℕ) where
+  -- the test as an order, and back
+  pub fits-le : (n : ℕ) → fits start length page n ≡ true → firstPage start page n + n * page ≤ start + length
+  fits-le n e = leb-true (firstPage start page n + n * page) (start + length) e
+
+  pub le-fits : (n : ℕ) → firstPage start page n + n * page ≤ start + length → fits start length page n ≡ true
+  le-fits n h = le-leb (firstPage start page n + n * page) (start + length) h
+
+  pub count-zero : page ≡ 0 → pageCount start length page ≡ 0
+  unfolding pageCount
+  count-zero e = rw (eq-eqb page 0 e)
+
+-- the map starts at or above the area's start, and within 3 bytes of it
+pub map-ge : (start : ℕ) → start ≤ mapStart start
+map-ge start = round-ge start 4 (omega arith)
+
+pub map-lt : (start : ℕ) → mapStart start < start + 4
+map-lt start = round-lt start 4 (omega arith)
+
+-- the pages start at or above the map's end, and within a page of it
+pub first-ge : (start page : ℕ) → 0 < page → (n : ℕ) → mapStart start + 4 * n ≤ firstPage start page n
+first-ge start page hp n = round-ge (mapStart start + 4 * n) page hp
+
+pub first-lt : (start page : ℕ) → 0 < page → (n : ℕ) → firstPage start page n < mapStart start + 4 * n + page
+first-lt start page hp n = round-lt (mapStart start + 4 * n) page hp
+
+-- the page count, for a page size that is not 0
+module _ (start length page : ℕ) (hp : 0 < page) where
+  -- what fits has a word and a page each
+  pub fits-room : (n : ℕ) → fits start length page n ≡ true → mapStart start + n * (page + 4) ≤ start + length
+  fits-room n e = rw (mul-add n page 4) (omega (arith, fits-le start length page n e, first-ge start page hp n))
+
+  pub fits-bound : (n : ℕ) → fits start length page n ≡ true → n ≤ length / (page + 4)
+  fits-bound n e =
+      le-div-iff-mul-le {k = page + 4} {x = n} {y = length} (omega arith) .1
+      (omega (arith, fits-room n e, map-ge start))
+
+  count-is : pageCount start length page ≡ largest (length / (page + 4)) (fits start length page)
+  unfolding pageCount
+  count-is = rw (ne-eqb page 0 (λ (e : page ≡ 0). omega arith))
+
+  -- the count fits, where it is not 0; none that fits is above it; and it is the only number of which both hold
+  pub count-fits : 0 < pageCount start length page → fits start length page (pageCount start length page) ≡ true
+  count-fits = rw count-is (largest-passes (length / (page + 4)) (fits start length page))
+
+  pub count-most : (m : ℕ) → fits start length page m ≡ true → m ≤ pageCount start length page
+  count-most m e = rw count-is (largest-most (length / (page + 4)) (fits start length page) m (fits-bound m e) e)
+
+  pub count-unique : (n : ℕ) → (0 < n → fits start length page n ≡ true)
+      → ((m : ℕ) → 0 < m → fits start length page m ≡ true → m ≤ n) → pageCount start length page ≡ n
+  count-unique n f m =
+      count-is ∙
+      largest-unique (length / (page + 4)) (fits start length page) n
+      (⊎-elim (λ (e : n ≡ 0). omega arith) (λ (h : 0 < n). fits-bound n (f h)) (eq-zero-or-pos n))
+      f (λ k h u e. m k h e)
+
+-- what the count's pages take: all within the area, the map before the pages, a word and a page each
+module _ (start length page : ℕ) where
+  pub count-map : 0 < page
+      → pageCount start length page * 4 + mapStart start ≤ firstPage start page (pageCount start length page)
+  count-map hp = omega (arith, first-ge start page hp (pageCount start length page))
+
+  pub count-end : 0 < page → 0 < pageCount start length page
+      → firstPage start page (pageCount start length page) + pageCount start length page * page ≤ start + length
+  count-end hp h = fits-le start length page (pageCount start length page) (count-fits start length page hp h)
+
+  pub count-room : pageCount start length page * (page + 4) ≤ length
+  count-room =
+      ⊎-elim (λ (e : pageCount start length page ≡ 0). rw (e, zero-mul) (omega arith))
+      (λ (h : 0 < pageCount start length page). ⊎-elim
+      (λ (e : page ≡ 0). absurd (omega (arith, count-zero start length page e)))
+      (λ (hp : 0 < page). let f = count-fits start length page hp h in
+      omega (arith, fits-room start length page hp (pageCount start length page) f, map-ge start))
+      (eq-zero-or-pos page))
+      (eq-zero-or-pos (pageCount start length page))
+
+  -- at the least page size of 8 that is 12 bytes for each page
+  pub count-small : 8 ≤ page → pageCount start length page ≤ length / 12
+  count-small h =
+      le-div-iff-mul-le {k = 12} {x = pageCount start length page} {y = length} (omega arith) .1
+      (le-trans (mul-le-mul-left {m = 12} {n = page + 4} (pageCount start length page) (omega arith)) count-room)

@@ -1,0 +1,115 @@
+-- The tests over a list, on lists that are made of others: appended, padded, with stronger tests; and neighbours against all pairs.
+-- Assumes nothing.
+use Prim.Native.Nat.{ℕ, zero, suc}
+use mathlib.Core.Path.{_≡_, refl, sym, ap, _∙_}
+use mathlib.Core.Bool.{Bool, true, false, cond, _&&_, _||_, and-true, and-assoc, or-assoc, or-false}
+use mathlib.Core.List.{List, [], _∷_, _++_}
+use native.Mathlib.Omega.{arith}
+use lib.ListN.{length, replicate}
+use Rattle.manager.specs.Lists.{every, some, indexOf, pairwise, adjacent}
+use Rattle.manager.proofs.Laws.Lists.{and-first, and-second}
+
+-- what holds of both outcomes of a test holds of the test
+pub by-case : (b : Bool) (Q : Bool → Type 0) → (b ≡ true → Q true) → (b ≡ false → Q false) → Q b
+by-case true Q f g = f refl
+by-case false Q f g = g refl
+
+pub and-both : (a b : Bool) → a ≡ true → b ≡ true → (a && b) ≡ true
+and-both a b e f = rw (e, f)
+
+pub or-first : (a b : Bool) → (a || b) ≡ false → a ≡ false
+or-first true b e = e
+or-first false b e = refl
+
+pub or-second : (a b : Bool) → (a || b) ≡ false → b ≡ false
+or-second true b e = absurd (let z : _≡_ {A = ℕ} 0 1 = cc in omega arith)
+or-second false b e = e
+
+module _ {A : Type 0} where
+  -- a weaker test
+  pub every-imp : (t u : A → Bool) → ((x : A) → t x ≡ true → u x ≡ true) → (l : List A) → every t l ≡ true → every u l ≡ true
+  unfolding every
+  every-imp t u f [] e = refl
+  every-imp t u f (x ∷ l) e =
+      and-both (u x) (every u l) (f x (and-first (t x) (every t l) e)) (every-imp t u f l (and-second (t x) (every t l) e))
+
+  -- the parts of a list
+  pub every-append : (t : A → Bool) (a b : List A) → every t (a ++ b) ≡ (every t a && every t b)
+  unfolding every
+  every-append t [] b = refl
+  every-append t (x ∷ a) b = ap (λ (v : Bool). t x && v) (every-append t a b) ∙ sym (and-assoc (t x) (every t a) (every t b))
+
+  pub some-append : (t : A → Bool) (a b : List A) → some t (a ++ b) ≡ (some t a || some t b)
+  unfolding some
+  some-append t [] b = refl
+  some-append t (x ∷ a) b = ap (λ (v : Bool). t x || v) (some-append t a b) ∙ sym (or-assoc (t x) (some t a) (some t b))
+
+  -- a list with z behind it, any number of times
+  pub every-same : (t : A → Bool) (z : A) → t z ≡ true → (k : ℕ) → every t (replicate k z) ≡ true
+  unfolding every
+  every-same t z e zero = refl
+  every-same t z e (suc k) = rw e (every-same t z e k)
+
+  pub every-behind : (t : A → Bool) (z : A) → t z ≡ true → (l : List A) (k : ℕ) → every t (l ++ replicate k z) ≡ every t l
+  every-behind t z e l k = every-append t l (replicate k z) ∙ rw (every-same t z e k) (and-true (every t l))
+
+  pub some-same : (t : A → Bool) (z : A) → t z ≡ false → (k : ℕ) → some t (replicate k z) ≡ false
+  unfolding some
+  some-same t z e zero = refl
+  some-same t z e (suc k) = rw e (some-same t z e k)
+
+  pub some-behind : (t : A → Bool) (z : A) → t z ≡ false → (l : List A) (k : ℕ) → some t (l ++ replicate k z) ≡ some t l
+  some-behind t z e l k = some-append t l (replicate k z) ∙ rw (some-same t z e k) (or-false (some t l))
+
+  -- the first that passes is found, or nothing is up to the end
+  pub index-there : (t : A → Bool) (l r : List A) → some t l ≡ true → indexOf t (l ++ r) ≡ indexOf t l
+  unfolding some indexOf
+  index-there t [] r e = absurd (let z : _≡_ {A = ℕ} 0 1 = cc in omega arith)
+  index-there t (x ∷ l) r e =
+      by-case (t x) (λ b. (b || some t l) ≡ true → cond b 0 (suc (indexOf t (l ++ r))) ≡ cond b 0 (suc (indexOf t l))) (λ h g. refl) (λ h g. ap suc (index-there t l r g)) e
+
+  pub index-beyond : (t : A → Bool) (l : List A) → some t l ≡ false → indexOf t l ≡ length l
+  unfolding some indexOf
+  index-beyond t [] e = refl
+  index-beyond t (x ∷ l) e = rw (or-first (t x) (some t l) e) (ap suc (index-beyond t l (or-second (t x) (some t l) e)))
+
+  -- z may stand behind each
+  module _ (t : A → A → Bool) (z : A) (behind : (x : A) → t x z ≡ true) where
+    pub pairwise-same : (k : ℕ) → pairwise t (replicate k z) ≡ true
+    unfolding pairwise
+    pairwise-same zero = refl
+    pairwise-same (suc k) = and-both _ _ (every-same (t z) z (behind z) k) (pairwise-same k)
+
+    pub pairwise-behind : (l : List A) (k : ℕ) → pairwise t (l ++ replicate k z) ≡ pairwise t l
+    unfolding pairwise
+    pairwise-behind [] k = pairwise-same k
+    pairwise-behind (x ∷ l) k = rw (every-behind (t x) z (behind x) l k, pairwise-behind l k)
+
+  pub pairwise-imp : (t u : A → A → Bool) → ((x y : A) → t x y ≡ true → u x y ≡ true) → (l : List A) → pairwise t l ≡ true → pairwise u l ≡ true
+  unfolding pairwise
+  pairwise-imp t u f [] e = refl
+  pairwise-imp t u f (x ∷ l) e =
+      and-both (every (u x) l) (pairwise u l) (every-imp (t x) (u x) (f x) l (and-first (every (t x) l) (pairwise t l) e))
+      (pairwise-imp t u f l (and-second (every (t x) l) (pairwise t l) e))
+
+  -- all pairs are in order where neighbours are
+  pub pairwise-adjacent : (t : A → A → Bool) (l : List A) → pairwise t l ≡ true → adjacent t l ≡ true
+  unfolding pairwise adjacent every
+  pairwise-adjacent t [] e = refl
+  pairwise-adjacent t (x ∷ []) e = refl
+  pairwise-adjacent t (x ∷ y ∷ l) e =
+      and-both (t x y) (adjacent t (y ∷ l))
+      (and-first (t x y) (every (t x) l) (and-first (every (t x) (y ∷ l)) (pairwise t (y ∷ l)) e))
+      (pairwise-adjacent t (y ∷ l) (and-second (every (t x) (y ∷ l)) (pairwise t (y ∷ l)) e))
+
+  pub adjacent-pairwise : (t : A → A → Bool) → ((x y z : A) → t x y ≡ true → t y z ≡ true → t x z ≡ true) → (l : List A)
+      → adjacent t l ≡ true → pairwise t l ≡ true
+  unfolding pairwise adjacent every
+  adjacent-pairwise t trans [] e = refl
+  adjacent-pairwise t trans (x ∷ []) e = refl
+  adjacent-pairwise t trans (x ∷ y ∷ l) e =
+      let xy : t x y ≡ true = and-first (t x y) (adjacent t (y ∷ l)) e in
+      let h : pairwise t (y ∷ l) ≡ true = adjacent-pairwise t trans (y ∷ l) (and-second (t x y) (adjacent t (y ∷ l)) e) in
+      and-both (every (t x) (y ∷ l)) (pairwise t (y ∷ l))
+      (and-both (t x y) (every (t x) l) xy (every-imp (t y) (t x) (λ z. trans x y z xy) l (and-first (every (t y) l) (pairwise t l) h)))
+      h

@@ -1,0 +1,328 @@
+-- Placing, taking and changing segments keep a map well formed and its pages in number, and what each does is one place of the list:
+-- the map before it, the segment, and the map behind it. Assumes nothing.
+use Prim.Native.Nat.{ℕ, zero, suc, _+_, _-_, _≤_, _<_}
+use mathlib.Core.Path.{_≡_, refl, sym, ap, _∙_}
+use mathlib.Core.Bool.{Bool, true, false, cond, _||_}
+use mathlib.Core.List.{List, [], _∷_, _++_, append-assoc}
+use mathlib.Core.Logic.{_⊎_, inl, inr, ⊎-elim}
+use native.Mathlib.Nat.{add-zero}
+use native.Mathlib.Omega.{arith}
+use lib.Dec.{eqb, leb}
+use lib.ListN.{length}
+use borrow.Author.Tests.{leb-true, leb-false, le-leb, lt-leb, eqb-true, eqb-false, eq-eqb, ne-eqb}
+use Rattle.manager.specs.Map.{Segment, free, held, isHeldSegment, wordsOf, draw, decode, soundMap, total}
+use Rattle.manager.specs.Map.{sizeOf}
+use Rattle.manager.proofs.Laws.Map.{Well, well-after, well-decoded, sound-drawn, reread, redraw, length-draw, total-decoded, total-cons}
+use Rattle.manager.specs.Paged.{free+, held+, lead, rest, placeFrom, take, heldFrom, reachFrom, changeFrom}
+use Rattle.manager.specs.declared.Place.{Place}
+use Rattle.manager.specs.declared.Place.the-variants.{At, Nowhere}
+
+-- ---- free pages in front of a map
+
+pub free-none : (s : List Segment) → free+ 0 s ≡ s
+unfolding free+
+free-none s = refl
+
+-- one after the other, or at once
+pub free-join : (a b : ℕ) (s : List Segment) → free+ a (free+ b s) ≡ free+ (a + b) s
+unfolding free+
+free-join zero b s = let e : zero + b ≡ b = omega arith in rw e
+free-join (suc a) zero s = let e : suc a + zero ≡ suc a = omega arith in rw e
+free-join (suc a) (suc b) [] = let e : suc a + suc b ≡ suc (a + suc b) = omega arith in rw e
+free-join (suc a) (suc b) (free n ∷ s) =
+    let e : suc a + suc b ≡ suc (a + suc b) = omega arith in
+    let f : suc a + (suc b + n) ≡ suc (a + suc b) + n = omega arith in
+    rw (e, f)
+free-join (suc a) (suc b) (held n ∷ s) = let e : suc a + suc b ≡ suc (a + suc b) = omega arith in rw e
+
+pub total-free : (m : ℕ) (s : List Segment) → total (free+ m s) ≡ m + total s
+unfolding free+ total
+total-free zero s = omega arith
+total-free (suc m) [] = refl
+total-free (suc m) (free n ∷ s) = omega arith
+total-free (suc m) (held n ∷ s) = refl
+
+pub well-free : (m : ℕ) (s : List Segment) → Well true s → Well true (free+ m s)
+unfolding free+
+well-free zero s w = w
+well-free (suc m) [] w = (omega arith, refl, tt)
+well-free (suc m) (free n ∷ s) w = (omega arith, refl, w .2)
+well-free (suc m) (held n ∷ s) w = (omega arith, refl, w)
+
+-- in front of a map that does not start with a free segment
+pub free-front : (m : ℕ) (s : List Segment) → Well false s → 1 ≤ m → free+ m s ≡ free m ∷ s
+unfolding free+
+free-front zero s w o = absurd (omega arith)
+free-front (suc m) [] w o = refl
+free-front (suc m) (free n ∷ s) w o = absurd (let z : _≡_ {A = ℕ} 0 1 = cc in omega arith)
+free-front (suc m) (held n ∷ s) w o = refl
+
+-- ---- the free segment that a map starts with
+
+pub lead-rest : (s : List Segment) → Well true s → free+ (lead s) (rest s) ≡ s
+unfolding lead rest free+
+lead-rest [] w = refl
+lead-rest (free n ∷ s) w = free-front n s (w .2) (w .0)
+lead-rest (held n ∷ s) w = refl
+
+pub total-lead : (s : List Segment) → total s ≡ lead s + total (rest s)
+unfolding lead rest total
+total-lead [] = refl
+total-lead (free n ∷ s) = refl
+total-lead (held n ∷ s) = omega arith
+
+pub well-rest : (s : List Segment) → Well true s → Well false (rest s)
+unfolding rest
+well-rest [] w = tt
+well-rest (free n ∷ s) w = w .2
+well-rest (held n ∷ s) w = w
+
+pub lead-none : (s : List Segment) → Well false s → lead s ≡ 0
+unfolding lead
+lead-none [] w = refl
+lead-none (free n ∷ s) w = absurd (let z : _≡_ {A = ℕ} 0 1 = cc in omega arith)
+lead-none (held n ∷ s) w = refl
+
+pub rest-none : (s : List Segment) → Well false s → rest s ≡ s
+unfolding rest
+rest-none [] w = refl
+rest-none (free n ∷ s) w = absurd (let z : _≡_ {A = ℕ} 0 1 = cc in omega arith)
+rest-none (held n ∷ s) w = refl
+
+-- ---- get
+
+pub well-take : (k : ℕ) (before : Bool) (s : List Segment) → 1 ≤ k → Well before s → Well before (take k s)
+unfolding take
+well-take k before [] o w = tt
+well-take k before (held n ∷ s) o w = (w .0, w .1, well-take k true s o (w .2))
+well-take k before (free n ∷ s) o w = go (leb k n) refl (well-take k false s o (w .2))
+  where
+    go : (b : Bool) → leb k n ≡ b → Well false (take k s) → Well before (cond b (held k ∷ free+ (n - k) s) (free n ∷ take k s))
+    go true e ih = (o, or-true before, well-free (n - k) s (well-after false s (w .2)))
+      where
+        or-true : (b : Bool) → (b || true) ≡ true
+        or-true true = refl
+        or-true false = refl
+    go false e ih = (w .0, w .1, ih)
+
+pub total-take : (k : ℕ) (s : List Segment) → total (take k s) ≡ total s
+unfolding take total
+total-take k [] = refl
+total-take k (held n ∷ s) = omega (arith, total-take k s)
+total-take k (free n ∷ s) = go (leb k n) refl (total-take k s)
+  where
+    go : (b : Bool) → leb k n ≡ b → total (take k s) ≡ total s → total (cond b (held k ∷ free+ (n - k) s) (free n ∷ take k s)) ≡ n + total s
+    go true e ih = omega (arith, total-free (n - k) s, leb-true k n e)
+    go false e ih = omega arith
+
+-- where nothing is placed, nothing is taken
+pub take-none : (k at : ℕ) (s : List Segment) → placeFrom k at s ≡ Nowhere → take k s ≡ s
+unfolding placeFrom take
+take-none k at [] e = refl
+take-none k at (held n ∷ s) e = ap (λ (t : List Segment). held n ∷ t) (take-none k (at + n) s e)
+take-none k at (free n ∷ s) e = go (leb k n) refl (λ e′. take-none k (at + n) s e′)
+  where
+    go : (b : Bool) → leb k n ≡ b → (placeFrom k (at + n) s ≡ Nowhere → take k s ≡ s) → cond (leb k n) (held k ∷ free+ (n - k) s) (free n ∷ take k s) ≡ free n ∷ s
+    go true f ih =
+        let a : At at ≡ Nowhere = rw f at e in
+        absurd (let z : _≡_ {A = ℕ} 0 1 = cc in omega arith)
+    go false f ih = rw f (ap (λ (t : List Segment). free n ∷ t) (ih (rw f at e)))
+
+-- where k pages are placed at page i: the map before, a free segment with room, and the map behind
+pub record Hit (k at i : ℕ) (s : List Segment) : Type 0 where
+  pub pre : List Segment
+  pub pages : ℕ
+  pub post : List Segment
+  pub is : s ≡ pre ++ (free pages ∷ post)
+  pub page : at + total pre ≡ i
+  pub room : k ≤ pages
+  pub gives : take k s ≡ pre ++ (held k ∷ free+ (pages - k) post)
+
+hit-past : {k at i : ℕ} {s : List Segment} (g : Segment) → take k (g ∷ s) ≡ g ∷ take k s → Hit k (at + sizeOf g) i s → Hit k at i (g ∷ s)
+hit-past {k} {at} {i} {s} g e h =
+    record {
+      pre = g ∷ h .pre;
+      pages = h .pages;
+      post = h .post;
+      is = ap (λ (t : List Segment). g ∷ t) (h .is);
+      page = omega (arith, h .page, total-cons g (h .pre));
+      room = h .room;
+      gives = e ∙ ap (λ (t : List Segment). g ∷ t) (h .gives);
+    }
+
+pub hit : (k at : ℕ) (s : List Segment) (i : ℕ) → placeFrom k at s ≡ At i → Hit k at i s
+unfolding placeFrom take total
+hit k at [] i e = absurd (let z : _≡_ {A = ℕ} 0 1 = cc in omega arith)
+hit k at (held n ∷ s) i e = hit-past (held n) refl (hit k (at + n) s i e)
+hit k at (free n ∷ s) i e = go (leb k n) refl (λ e′. hit k (at + n) s i e′)
+  where
+    go : (b : Bool) → leb k n ≡ b → (placeFrom k (at + n) s ≡ At i → Hit k (at + n) i s) → Hit k at i (free n ∷ s)
+    go true f ih =
+        let a : At at ≡ At i = rw f at e in
+        let ai : at ≡ i = cc in
+        record { pre = []; pages = n; post = s; is = refl; page = add-zero at ∙ ai; room = leb-true k n f; gives = rw f }
+    go false f ih = hit-past (free n) (rw f) (ih (rw f at e))
+
+-- ---- return and resize
+
+pub well-change : (p k at : ℕ) (s : List Segment) → Well true s → Well true (changeFrom p k at s)
+unfolding changeFrom
+well-change p k at [] w = tt
+well-change p k at (free n ∷ s) w = well-free n (changeFrom p k (at + n) s) (well-change p k (at + n) s (well-after false s (w .2)))
+well-change p k at (held n ∷ s) w = go (eqb at p) (well-change p k (at + n) s (w .2))
+  where
+    new : (k : ℕ) → Well true (held+ k (free+ (n + lead s - k) (rest s)))
+    new zero = well-free (n + lead s - zero) (rest s) (well-after false (rest s) (well-rest s (w .2)))
+    new (suc k) = (omega arith, refl, well-free (n + lead s - suc k) (rest s) (well-after false (rest s) (well-rest s (w .2))))
+
+    go : (b : Bool) → Well true (changeFrom p k (at + n) s)
+        → Well true (cond b (held+ k (free+ (n + lead s - k) (rest s))) (held n ∷ changeFrom p k (at + n) s))
+    go true ih = new k
+    go false ih = (w .0, refl, ih)
+
+total-held : (k : ℕ) (s : List Segment) → total (held+ k s) ≡ k + total s
+unfolding total
+total-held zero s = omega arith
+total-held (suc k) s = refl
+
+pub total-change : (p k at : ℕ) (s : List Segment) → k ≤ reachFrom p at s → total (changeFrom p k at s) ≡ total s
+unfolding changeFrom reachFrom total
+total-change p k at [] l = refl
+total-change p k at (free n ∷ s) l = omega (arith, total-free n (changeFrom p k (at + n) s), total-change p k (at + n) s l)
+total-change p k at (held n ∷ s) l = go (eqb at p) l (λ l′. total-change p k (at + n) s l′)
+  where
+    go : (b : Bool) → k ≤ cond b (n + lead s) (reachFrom p (at + n) s) → (k ≤ reachFrom p (at + n) s → total (changeFrom p k (at + n) s) ≡ total s)
+        → total (cond b (held+ k (free+ (n + lead s - k) (rest s))) (held n ∷ changeFrom p k (at + n) s)) ≡ n + total s
+    go true l′ ih = omega (arith, total-held k (free+ (n + lead s - k) (rest s)), total-free (n + lead s - k) (rest s), total-lead s)
+    go false l′ ih = omega (arith, ih l′)
+
+-- a map in front of another: a free segment at the seam is joined
+unfoldable pub onto : List Segment → List Segment → List Segment
+onto [] t = t
+onto (free n ∷ s) t = free+ n (onto s t)
+onto (held n ∷ s) t = held n ∷ onto s t
+
+pub onto-append : (a b t : List Segment) → onto (a ++ b) t ≡ onto a (onto b t)
+unfolding onto
+onto-append [] b t = refl
+onto-append (free n ∷ a) b t = ap (free+ n) (onto-append a b t)
+onto-append (held n ∷ a) b t = ap (λ (u : List Segment). held n ∷ u) (onto-append a b t)
+
+-- a map that does not start with a free segment
+abbrev pub Apart : List Segment → Type 0
+Apart [] = Unit {0}
+Apart (free n ∷ s) = ⊥
+Apart (held n ∷ s) = Unit {0}
+
+free-apart : (m : ℕ) (s : List Segment) → Apart s → 1 ≤ m → free+ m s ≡ free m ∷ s
+unfolding free+
+free-apart zero s a o = absurd (omega arith)
+free-apart (suc m) [] a o = refl
+free-apart (suc m) (free n ∷ s) a o = absurd a
+free-apart (suc m) (held n ∷ s) a o = refl
+
+-- what stood before a segment stays as it was, whatever comes behind one of the same mark
+apart-last : (s : List Segment) (g h : Segment) (t post : List Segment) → isHeldSegment h ≡ isHeldSegment g → Well false (s ++ (h ∷ post))
+    → Apart (s ++ onto (g ∷ []) t)
+unfolding onto
+apart-last [] (held n) h t post e w = tt
+apart-last [] (free n) h t post e w = absurd (let z : _≡_ {A = Bool} true false = cc in let y : _≡_ {A = ℕ} 0 1 = cc in omega arith)
+apart-last (held n ∷ s) g h t post e w = tt
+apart-last (free n ∷ s) g h t post e w = absurd (let z : _≡_ {A = ℕ} 0 1 = cc in omega arith)
+
+pub onto-last : (before : Bool) (s : List Segment) (g h : Segment) (t post : List Segment) → isHeldSegment h ≡ isHeldSegment g
+    → Well before (s ++ (h ∷ post)) → onto s (onto (g ∷ []) t) ≡ s ++ onto (g ∷ []) t
+unfolding onto
+onto-last before [] g h t post e w = refl
+onto-last before (held n ∷ s) g h t post e w = ap (λ (u : List Segment). held n ∷ u) (onto-last true s g h t post e (w .2))
+onto-last before (free n ∷ s) g h t post e w =
+    ap (free+ n) (onto-last false s g h t post e (w .2)) ∙ free-apart n (s ++ onto (g ∷ []) t) (apart-last s g h t post e (w .2)) (w .0)
+
+-- the held segment at page p: the map before, its pages, and the map behind
+pub record Spot (p at : ℕ) (s : List Segment) : Type 0 where
+  pub pre : List Segment
+  pub pages : ℕ
+  pub post : List Segment
+  pub is : s ≡ pre ++ (held pages ∷ post)
+  pub page : at + total pre ≡ p
+
+spot-past : {p at : ℕ} {s : List Segment} (g : Segment) → Spot p (at + sizeOf g) s → Spot p at (g ∷ s)
+spot-past {p} {at} {s} g h =
+    record {
+      pre = g ∷ h .pre;
+      pages = h .pages;
+      post = h .post;
+      is = ap (λ (t : List Segment). g ∷ t) (h .is);
+      page = omega (arith, h .page, total-cons g (h .pre));
+    }
+
+pub spot : (p at : ℕ) (s : List Segment) → 1 ≤ heldFrom p at s → Spot p at s
+unfolding heldFrom total
+spot p at [] l = absurd (omega arith)
+spot p at (free n ∷ s) l = spot-past (free n) (spot p (at + n) s l)
+spot p at (held n ∷ s) l = go (eqb at p) refl l (λ l′. spot p (at + n) s l′)
+  where
+    go : (b : Bool) → eqb at p ≡ b → 1 ≤ cond b n (heldFrom p (at + n) s) → (1 ≤ heldFrom p (at + n) s → Spot p (at + n) s) → Spot p at (held n ∷ s)
+    go true e l′ ih = record { pre = []; pages = n; post = s; is = refl; page = add-zero at ∙ eqb-true at p e }
+    go false e l′ ih = spot-past (held n) (ih l′)
+
+-- what is found there: the segment's pages, the most that it can have, and the map with k pages for it
+module _ (p k : ℕ) where
+  later : (at : ℕ) (g : Segment) (s : List Segment) → 1 ≤ sizeOf g → at + total (g ∷ s) ≡ p → eqb at p ≡ false
+  later at g s o e = ne-eqb at p (λ q. omega (arith, total-cons g s))
+
+  pub held-at : (before : Bool) (at : ℕ) (pre : List Segment) (n : ℕ) (post : List Segment) → Well before (pre ++ (held n ∷ post)) → at + total pre ≡ p
+      → heldFrom p at (pre ++ (held n ∷ post)) ≡ n
+  unfolding heldFrom total
+  held-at before at [] n post w e = rw (eq-eqb at p (omega arith))
+  held-at before at (free m ∷ pre) n post w e = held-at false (at + m) pre n post (w .2) (omega arith)
+  held-at before at (held m ∷ pre) n post w e = rw (later at (held m) pre (w .0) e) (held-at true (at + m) pre n post (w .2) (omega arith))
+
+  pub reach-at : (before : Bool) (at : ℕ) (pre : List Segment) (n : ℕ) (post : List Segment) → Well before (pre ++ (held n ∷ post)) → at + total pre ≡ p
+      → reachFrom p at (pre ++ (held n ∷ post)) ≡ n + lead post
+  unfolding reachFrom total
+  reach-at before at [] n post w e = rw (eq-eqb at p (omega arith))
+  reach-at before at (free m ∷ pre) n post w e = reach-at false (at + m) pre n post (w .2) (omega arith)
+  reach-at before at (held m ∷ pre) n post w e = rw (later at (held m) pre (w .0) e) (reach-at true (at + m) pre n post (w .2) (omega arith))
+
+  pub change-at : (before : Bool) (at : ℕ) (pre : List Segment) (n : ℕ) (post : List Segment) → Well before (pre ++ (held n ∷ post)) → at + total pre ≡ p
+      → changeFrom p k at (pre ++ (held n ∷ post)) ≡ onto pre (held+ k (free+ (n + lead post - k) (rest post)))
+  unfolding changeFrom total onto
+  change-at before at [] n post w e = rw (eq-eqb at p (omega arith))
+  change-at before at (free m ∷ pre) n post w e = ap (free+ m) (change-at false (at + m) pre n post (w .2) (omega arith))
+  change-at before at (held m ∷ pre) n post w e =
+      rw (later at (held m) pre (w .0) e) (ap (λ (u : List Segment). held m ∷ u) (change-at true (at + m) pre n post (w .2) (omega arith)))
+
+-- ---- of whole maps
+
+-- a get keeps a sound map sound and its length
+module _ (ws : List ℕ) (ok : soundMap ws ≡ true) where
+  pub sound-take : (k : ℕ) → 1 ≤ k → soundMap (draw (take k (decode ws))) ≡ true
+  sound-take k o = sound-drawn (take k (decode ws)) (well-take k true (decode ws) o (well-decoded ws ok))
+
+  pub reread-take : (k : ℕ) → 1 ≤ k → decode (draw (take k (decode ws))) ≡ take k (decode ws)
+  reread-take k o = reread (take k (decode ws)) (well-take k true (decode ws) o (well-decoded ws ok))
+
+  pub length-take-drawn : (k : ℕ) → length (draw (take k (decode ws))) ≡ length ws
+  length-take-drawn k = length-draw (take k (decode ws)) ∙ total-take k (decode ws) ∙ total-decoded ws ok
+
+  -- a return and a resize do
+  pub sound-change : (p k : ℕ) → soundMap (draw (changeFrom p k 0 (decode ws))) ≡ true
+  sound-change p k = sound-drawn (changeFrom p k 0 (decode ws)) (well-change p k 0 (decode ws) (well-decoded ws ok))
+
+  pub reread-change : (p k : ℕ) → decode (draw (changeFrom p k 0 (decode ws))) ≡ changeFrom p k 0 (decode ws)
+  reread-change p k = reread (changeFrom p k 0 (decode ws)) (well-change p k 0 (decode ws) (well-decoded ws ok))
+
+  pub length-change-drawn : (p k : ℕ) → k ≤ reachFrom p 0 (decode ws) → length (draw (changeFrom p k 0 (decode ws))) ≡ length ws
+  length-change-drawn p k l = length-draw (changeFrom p k 0 (decode ws)) ∙ total-change p k 0 (decode ws) l ∙ total-decoded ws ok
+
+-- a new map is one free segment
+pub sound-new : (n : ℕ) → soundMap (draw (free+ n [])) ≡ true
+sound-new n = sound-drawn (free+ n []) (well-free n [] tt)
+
+pub reread-new : (n : ℕ) → decode (draw (free+ n [])) ≡ free+ n []
+reread-new n = reread (free+ n []) (well-free n [] tt)
+
+pub length-new : (n : ℕ) → length (draw (free+ n [])) ≡ n
+unfolding total
+length-new n = length-draw (free+ n []) ∙ total-free n [] ∙ add-zero n

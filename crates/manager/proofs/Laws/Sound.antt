@@ -1,0 +1,159 @@
+-- What sound books say of a live region: its page size, its map within the memory and its pages below 65,536; and that another sound
+-- map drawn in its place leaves all that so. Assumes nothing.
+use Prim.Native.Nat.{ℕ, zero, suc, _+_, _-_, _*_, _/_, _%_, _≤_, _<_}
+use mathlib.Core.Path.{_≡_, refl, sym, ap, _∙_}
+use mathlib.Core.Bool.{Bool, true, false, cond, not, _&&_}
+use mathlib.Core.List.{List, [], _∷_, _++_, append-assoc}
+use native.Mathlib.Omega.{arith}
+use native.Mathlib.Nat.{mul-le-mul-right, add-mul}
+use lib.ListN.{length, take, drop, getD, length-append, length-drop, take-append-drop, List·getD-eq-default}
+use lib.Seq.{drop-drop, sets, length-sets, sets-eq, take-at, drop-at, length-take-le}
+use lib.Dec.{eqb, leb, ltb}
+use borrow.Author.Tests.{leb-true, ltb-true, ltb-false}
+use Rattle.arith.specs.Layout.{mapStart, firstPage, pageCount}
+use Rattle.arith.proofs.Laws.Layout.{count-map, count-end}
+use Rattle.manager.specs.Record.{mostWords, noRegion, regionOf, slotOf}
+use Rattle.manager.specs.Lists.{every, pairwise}
+use Rattle.manager.proofs.Laws.Lists.{and-first, and-second, every-at}
+use Rattle.manager.specs.Map.{Segment, decode, draw, soundMap, total}
+use Rattle.manager.proofs.Laws.Map.{Well, redraw, reread, sound-drawn, length-draw, total-decoded, well-decoded}
+use Rattle.manager.specs.Region.{dead, pagesOf, baseOf, mapAt, mapWords, segments, withSegments, addressOf}
+use Rattle.manager.specs.Sound.{Laid, Sited, sound, soundLength, inside, soundPage, liveRegion, soundRegion, emptyRegion, soundPartition, soundAreas, soundQueue}
+use Rattle.manager.specs.declared.Manager.{Manager}
+use Rattle.manager.specs.declared.Region.{Region}
+
+-- the clauses of sound books
+module _ (m : List ℕ) (d : Manager) (ok : sound m d ≡ true) where
+  tail : (every (soundRegion m) (d .regions) && (every (soundPartition m) (d .partitions) && (soundAreas d && soundQueue m d))) ≡ true
+  unfolding sound
+  tail = and-second (soundLength m) _ ok
+
+  pub sound-words : length m ≤ 16384
+  unfolding sound
+  sound-words = leb-true (length m) mostWords (and-second (leb 1 (length m)) _ (and-first (soundLength m) _ ok))
+
+  pub sound-some : 1 ≤ length m
+  unfolding sound
+  sound-some = leb-true 1 (length m) (and-first (leb 1 (length m)) _ (and-first (soundLength m) _ ok))
+
+  pub sound-regions : every (soundRegion m) (d .regions) ≡ true
+  sound-regions = and-first (every (soundRegion m) (d .regions)) _ tail
+
+  pub sound-queue : soundQueue m d ≡ true
+  sound-queue = and-second (soundAreas d) _ (and-second (every (soundPartition m) (d .partitions)) _ (and-second (every (soundRegion m) (d .regions)) _ tail))
+
+-- of one slot
+live-of : (m : List ℕ) (r : Region) → soundRegion m r ≡ true → dead r ≡ false → liveRegion m r ≡ true
+unfolding soundRegion
+live-of m r e f = rw f at e
+
+sited-of : (m : List ℕ) (r : Region) → length m ≤ 16384 → liveRegion m r ≡ true → Sited m r
+unfolding liveRegion
+sited-of m r w e =
+    let a = and-first (inside m (r .start) (r .length)) _ e in
+    let b = and-second (inside m (r .start) (r .length)) _ e in
+    let c = and-first (soundPage (r .page)) _ b in
+    let f = and-second (soundPage (r .page)) _ b in
+    record {
+      laid = record {
+        words = w;
+        inside = leb-true (r .start + r .length) (4 * length m) (and-second (not (eqb (r .start) 0)) _ a);
+        page-low = leb-true 8 (r .page) (and-first (leb 8 (r .page)) _ c);
+        page-high = leb-true (r .page) 4096 (and-first (leb (r .page) 4096) _ (and-second (leb 8 (r .page)) _ c));
+        some = leb-true 1 (pagesOf r) (and-first (leb 1 (pagesOf r)) _ f);
+      };
+      sound = and-second (leb 1 (pagesOf r)) _ f;
+    }
+
+-- an empty slot is not live
+empty-dead : (r : Region) → r ≡ noRegion → dead r ≡ false → ⊥
+empty-dead r e f = let z : _≡_ {A = Bool} true false = rw e at f in let y : _≡_ {A = ℕ} 0 1 = cc in omega arith
+
+-- LIVE REGIONS of sound books
+pub sited : (m : List ℕ) (d : Manager) (id : ℕ) → sound m d ≡ true → dead (regionOf d id) ≡ false → Sited m (regionOf d id)
+sited m d id ok f = go (ltb (slotOf id) (length (d .regions))) refl
+  where
+    go : (b : Bool) → ltb (slotOf id) (length (d .regions)) ≡ b → Sited m (regionOf d id)
+    go true e =
+        let h = every-at (soundRegion m) (d .regions) (slotOf id) noRegion (sound-regions m d ok) (ltb-true (slotOf id) (length (d .regions)) e) in
+        sited-of m (regionOf d id) (sound-words m d ok) (live-of m (regionOf d id) h f)
+    go false e =
+        absurd (empty-dead (regionOf d id) (List·getD-eq-default (d .regions) noRegion (ltb-false (slotOf id) (length (d .regions)) e)) f)
+
+module _ (m : List ℕ) (r : Region) (s : Laid m r) where
+  -- its map lies within the memory
+  pub map-in : mapAt r + pagesOf r ≤ length m
+  map-in =
+      let a = count-map (r .start) (r .length) (r .page) (omega (arith, s .page-low)) in
+      let b = count-end (r .start) (r .length) (r .page) (omega (arith, s .page-low)) (s .some) in
+      omega (arith, s .inside)
+
+  pub map-long : length (mapWords m r) ≡ pagesOf r
+  map-long = length-take-le (pagesOf r) (drop (mapAt r) m) (omega (arith, length-drop (mapAt r) m, map-in))
+
+  pub pages-few : pagesOf r ≤ 16384
+  pages-few = omega (arith, map-in, s .words)
+
+  -- and so do its pages
+  pub pages-end : baseOf r + pagesOf r * r .page ≤ 65536
+  pages-end =
+      let b = count-end (r .start) (r .length) (r .page) (omega (arith, s .page-low)) (s .some) in
+      omega (arith, s .inside, s .words)
+
+  pub address-in : (p k : ℕ) → p + k ≤ pagesOf r → addressOf r p + k * r .page ≤ 65536
+  address-in p k h = omega (arith, mul-le-mul-right (r .page) h, add-mul p k (r .page), pages-end)
+
+  -- other segments drawn in its map
+  module _ (t : List Segment) (e : total t ≡ pagesOf r) where
+    drawn-long : length (draw t) ≡ pagesOf r
+    drawn-long = length-draw t ∙ e
+
+    pub with-is : withSegments m r t ≡ take (mapAt r) m ++ (draw t ++ drop (mapAt r + pagesOf r) m)
+    with-is =
+        sets-eq (draw t) m (mapAt r) (omega (arith, map-in, drawn-long))
+        ∙ append-assoc (take (mapAt r) m) (draw t) (drop (mapAt r + length (draw t)) m)
+        ∙ ap (λ (n : ℕ). take (mapAt r) m ++ (draw t ++ drop (mapAt r + n) m)) drawn-long
+
+    pub read-with : mapWords (withSegments m r t) r ≡ draw t
+    read-with =
+        let l : length (take (mapAt r) m) ≡ mapAt r = length-take-le (mapAt r) m (omega (arith, map-in)) in
+        ap (λ (w : List ℕ). mapWords w r) with-is
+        ∙ ap (take (pagesOf r)) (drop-at (take (mapAt r) m) (draw t ++ drop (mapAt r + pagesOf r) m) (mapAt r) l)
+        ∙ take-at (draw t) (drop (mapAt r + pagesOf r) m) (pagesOf r) drawn-long
+
+    pub length-with : length (withSegments m r t) ≡ length m
+    length-with = length-sets m (mapAt r) (draw t)
+
+    module _ (w : Well true t) where
+      pub segments-with : segments (withSegments m r t) r ≡ t
+      segments-with = ap decode read-with ∙ reread t w
+
+      pub sited-with : Sited (withSegments m r t) r
+      sited-with =
+          record {
+            laid = record {
+              words = omega (arith, length-with, s .words);
+              inside = omega (arith, length-with, s .inside);
+              page-low = s .page-low;
+              page-high = s .page-high;
+              some = s .some;
+            };
+            sound = ap soundMap read-with ∙ sound-drawn t w;
+          }
+
+-- the segments of a live region
+module _ (m : List ℕ) (r : Region) (s : Sited m r) where
+  pub well-segments : Well true (segments m r)
+  well-segments = well-decoded (mapWords m r) (s .sound)
+
+  pub total-segments : total (segments m r) ≡ pagesOf r
+  total-segments = total-decoded (mapWords m r) (s .sound) ∙ map-long m r (s .laid)
+
+  -- drawn again, they leave the memory as it was
+  pub same-segments : withSegments m r (segments m r) ≡ m
+  same-segments =
+      with-is m r (s .laid) (segments m r) total-segments
+      ∙ ap (λ (w : List ℕ). take (mapAt r) m ++ (w ++ drop (mapAt r + pagesOf r) m)) (redraw (mapWords m r) (s .sound))
+      ∙ ap (λ (w : List ℕ). take (mapAt r) m ++ (mapWords m r ++ w)) (sym (drop-drop (pagesOf r) (mapAt r) m))
+      ∙ ap (λ (w : List ℕ). take (mapAt r) m ++ w) (take-append-drop (pagesOf r) (drop (mapAt r) m))
+      ∙ take-append-drop (mapAt r) m
