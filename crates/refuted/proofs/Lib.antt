@@ -3,3 +3,4 @@ pub mod Calls
 pub mod Wrong
 pub mod Answers
 pub mod Effects
+pub mod Contents
