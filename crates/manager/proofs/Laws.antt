@@ -9,5 +9,3 @@ pub mod Sound
 pub mod Partition
 pub mod Queue
 pub mod Used
-pub mod Entry
-pub mod Room

@@ -5,7 +5,7 @@ use Prim.Native.Nat.{ℕ, zero, suc, _+_, _*_, _/_, _≤_, _<_}
 use mathlib.Core.Path.{_≡_, refl, _∙_}
 use mathlib.Core.Logic.{⊎-elim}
 use mathlib.Core.Bool.{Bool, true, false, cond, true≢false}
-use native.Mathlib.Nat.{le-div-iff-mul-le, mul-add, zero-mul, mul-le-mul-left, le-trans, le-antisymm, eq-or-lt-of-le, eq-zero-or-pos}
+use native.Mathlib.Nat.{le-div-iff-mul-le, mul-add, le-antisymm, eq-or-lt-of-le, eq-zero-or-pos}
 use native.Mathlib.Omega.{arith}
 use borrow.Author.Tests.{leb-true, le-leb, eq-eqb, ne-eqb}
 use Rattle.arith.proofs.Laws.Round.{round-ge, round-lt}
@@ -72,9 +72,6 @@ module _ (start length page : ℕ) where
 pub map-ge : (start : ℕ) → start ≤ mapStart start
 map-ge start = round-ge start 4 (omega arith)
 
-pub map-lt : (start : ℕ) → mapStart start < start + 4
-map-lt start = round-lt start 4 (omega arith)
-
 -- the pages start at or above the map's end, and within a page of it
 pub first-ge : (start page : ℕ) → 0 < page → (n : ℕ) → mapStart start + 4 * n ≤ firstPage start page n
 first-ge start page hp n = round-ge (mapStart start + 4 * n) page hp
@@ -101,9 +98,6 @@ module _ (start length page : ℕ) (hp : 0 < page) where
   pub count-fits : 0 < pageCount start length page → fits start length page (pageCount start length page) ≡ true
   count-fits = rw count-is (largest-passes (length / (page + 4)) (fits start length page))
 
-  pub count-most : (m : ℕ) → fits start length page m ≡ true → m ≤ pageCount start length page
-  count-most m e = rw count-is (largest-most (length / (page + 4)) (fits start length page) m (fits-bound m e) e)
-
   pub count-unique : (n : ℕ) → (0 < n → fits start length page n ≡ true)
       → ((m : ℕ) → 0 < m → fits start length page m ≡ true → m ≤ n) → pageCount start length page ≡ n
   count-unique n f m =
@@ -121,19 +115,3 @@ module _ (start length page : ℕ) where
   pub count-end : 0 < page → 0 < pageCount start length page
       → firstPage start page (pageCount start length page) + pageCount start length page * page ≤ start + length
   count-end hp h = fits-le start length page (pageCount start length page) (count-fits start length page hp h)
-
-  pub count-room : pageCount start length page * (page + 4) ≤ length
-  count-room =
-      ⊎-elim (λ (e : pageCount start length page ≡ 0). rw (e, zero-mul) (omega arith))
-      (λ (h : 0 < pageCount start length page). ⊎-elim
-      (λ (e : page ≡ 0). absurd (omega (arith, count-zero start length page e)))
-      (λ (hp : 0 < page). let f = count-fits start length page hp h in
-      omega (arith, fits-room start length page hp (pageCount start length page) f, map-ge start))
-      (eq-zero-or-pos page))
-      (eq-zero-or-pos (pageCount start length page))
-
-  -- at the least page size of 8 that is 12 bytes for each page
-  pub count-small : 8 ≤ page → pageCount start length page ≤ length / 12
-  count-small h =
-      le-div-iff-mul-le {k = 12} {x = pageCount start length page} {y = length} (omega arith) .1
-      (le-trans (mul-le-mul-left {m = 12} {n = page + 4} (pageCount start length page) (omega arith)) count-room)

@@ -1,10 +1,10 @@
 -- What rounding up gives: the least multiple at or above, and the least number of whole pages. All follows from the two bounds on
 -- a quotient: n / p * p ≤ n < n / p * p + p. Assumes nothing.
 use Prim.Native.Nat.{ℕ, _+_, _-_, _*_, _/_, _%_, _≤_, _<_}
-use mathlib.Core.Path.{_≡_, refl}
+use mathlib.Core.Path.{_≡_}
 use mathlib.Core.Logic.{⊎-elim}
 use native.Mathlib.Nat.{div-mul-le-self, lt-div-mul-add, div-lt-iff-lt-mul, le-div-iff-mul-le, div-zero, mul-zero, mul-mod-left, suc-mul}
-use native.Mathlib.Nat.{eq-zero-or-pos, le-antisymm, le-refl, le-trans, le-mul-of-pos-right, mul-le-mul-right}
+use native.Mathlib.Nat.{eq-zero-or-pos, le-mul-of-pos-right, mul-le-mul-right}
 use native.Mathlib.Numerals.{add-one}
 use native.Mathlib.Omega.{arith}
 use Rattle.arith.specs.Round.{roundUp, pagesFor}
@@ -27,10 +27,6 @@ round-lt x p h = omega (arith, div-mul-le-self (x + (p - 1)) p)
 pub round-multiple : (x p : ℕ) → roundUp x p % p ≡ 0
 round-multiple x p = mul-mod-left ((x + (p - 1)) / p) p
 
--- the multiple itself: as many times p as pages hold x
-pub round-pages : (x p : ℕ) → roundUp x p ≡ pagesFor x p * p
-round-pages x p = refl
-
 -- k pages of p bytes hold what is at most k * p
 pub pages-least : (x p k : ℕ) → 0 < p → x ≤ k * p → pagesFor x p ≤ k
 pages-least x p k h g =
@@ -40,18 +36,6 @@ pages-least x p k h g =
 -- no multiple of p at or above x is below it
 pub round-least : (x p k : ℕ) → 0 < p → x ≤ k * p → roundUp x p ≤ k * p
 round-least x p k h g = mul-le-mul-right p (pages-least x p k h g)
-
--- rounding keeps the order
-pub round-le : (x y p : ℕ) → 0 < p → x ≤ y → roundUp x p ≤ roundUp y p
-round-le x y p h g = round-least x p (pagesFor y p) h (le-trans g (round-ge y p h))
-
--- a multiple stays as it is
-pub round-fixed : (k p : ℕ) → 0 < p → roundUp (k * p) p ≡ k * p
-round-fixed k p h = le-antisymm (round-least (k * p) p k h (le-refl (k * p))) (round-ge (k * p) p h)
-
--- the pages hold the bytes
-pub pages-hold : (bytes page : ℕ) → 0 < page → bytes ≤ pagesFor bytes page * page
-pages-hold bytes page h = round-ge bytes page h
 
 -- no pages of no size
 pub pages-zero : (bytes page : ℕ) → page ≡ 0 → pagesFor bytes page ≡ 0
@@ -67,13 +51,3 @@ pages-under bytes page =
     ⊎-elim (λ (e : page ≡ 0). omega (arith, pages-zero bytes page e))
     (λ (h : 0 < page). pages-least bytes page bytes h (le-mul-of-pos-right bytes h))
     (eq-zero-or-pos page)
-
--- k whole pages are k
-pub pages-whole : (k page : ℕ) → 0 < page → pagesFor (k * page) page ≡ k
-pages-whole k page h =
-    le-antisymm (pages-least (k * page) page k h (le-refl (k * page)))
-    (le-div-iff-mul-le {k = page} {x = k} {y = k * page + (page - 1)} h .1 (omega arith))
-
--- more bytes need no fewer pages
-pub pages-le : (x y page : ℕ) → 0 < page → x ≤ y → pagesFor x page ≤ pagesFor y page
-pages-le x y page h g = pages-least x page (pagesFor y page) h (le-trans g (round-ge y page h))

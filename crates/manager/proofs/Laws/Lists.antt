@@ -7,7 +7,7 @@ use mathlib.Core.Bool.{Bool, true, false, cond, _&&_, _||_}
 use mathlib.Core.List.{List, [], _∷_}
 use native.Mathlib.Numerals.{add-one}
 use native.Mathlib.Omega.{arith}
-use lib.ListN.{length, getD, drop, set, drop-of-length-le, length-drop}
+use lib.ListN.{length, getD, drop, drop-of-length-le, length-drop}
 use lib.Seq.{drop-cons}
 use Rattle.manager.specs.Lists.{every, some, indexOf, pairwise, adjacent}
 
@@ -222,24 +222,6 @@ module _ {A : Type 0} where
   every-at t [] i z e h = absurd (omega arith)
   every-at t (x ∷ l) zero z e h = and-first (t x) (every t l) e
   every-at t (x ∷ l) (suc i) z e h = every-at t l i z (and-second (t x) (every t l) e) (omega arith)
-
-  -- and after one is replaced by another that passes
-  pub every-set : (t : A → Bool) (l : List A) (i : ℕ) (x : A) → every t l ≡ true → t x ≡ true → every t (set l i x) ≡ true
-  unfolding every
-  every-set t [] i x e g = refl
-  every-set t (y ∷ l) zero x e g = rw g (and-second (t y) (every t l) e)
-  every-set t (y ∷ l) (suc i) x e g =
-      rw (and-first (t y) (every t l) e) (every-set t l i x (and-second (t y) (every t l) e) g)
-
-  -- the first that passes is at most the length
-  pub index-within : (t : A → Bool) (l : List A) → indexOf t l ≤ length l
-  unfolding indexOf
-  index-within t [] = omega arith
-  index-within t (x ∷ l) = step (t x) (index-within t l)
-    where
-      step : (b : Bool) → indexOf t l ≤ length l → cond b 0 (suc (indexOf t l)) ≤ suc (length l)
-      step true h = omega arith
-      step false h = omega arith
 
 -- the laws of a loop, for `search`
 pub ruleset every-loop = (every-start, every-from, every-next, every-fail, every-passed, every-failed, every-end)

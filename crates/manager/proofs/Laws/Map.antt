@@ -4,11 +4,10 @@ use Prim.Native.Nat.{ℕ, zero, suc, _+_, _-_, _*_, _/_, _%_, _≤_, _<_, zero-l
 use mathlib.Core.Path.{_≡_, refl, sym, ap, _∙_}
 use mathlib.Core.Bool.{Bool, true, false, cond, _&&_, _||_}
 use mathlib.Core.List.{List, [], _∷_, _++_, append-assoc}
-use native.Mathlib.Nat.{add-zero}
 use native.Mathlib.Omega.{arith}
 use native.Mathlib.Numerals.{add-one, sub-one}
 use lib.ListN.{length, replicate, getD, drop, length-append, length-replicate, length-drop}
-use lib.Seq.{drop-cons, drop-drop, drop-length, getD-at, drop-at}
+use lib.Seq.{drop-cons, drop-drop, drop-length}
 use lib.Dec.{eqb, leb}
 use borrow.Author.Tests.{leb-true, le-leb, eqb-true, ne-eqb}
 use Rattle.manager.specs.Map.{sizeOf, Segment, free, held, isHeldSegment, wordsOf, draw, isHeld, segmentOf, decode, soundFrom, soundMap, total}
@@ -252,15 +251,6 @@ total-decoded ws e = sym (length-draw (decode ws)) ∙ ap length (redraw ws e)
 pub well-after : (before : Bool) (s : List Segment) → Well before s → Well true s
 well-after before [] w = tt
 well-after before (g ∷ s) w = (w .0, refl, w .2)
-
--- the parts of a well-formed list
-pub well-front : (before : Bool) (s t : List Segment) → Well before (s ++ t) → Well before s
-well-front before [] t w = tt
-well-front before (g ∷ s) t w = (w .0, w .1, well-front (isHeldSegment g) s t (w .2))
-
-pub well-back : (before : Bool) (s t : List Segment) → Well before (s ++ t) → Well true t
-well-back before [] t w = well-after before t w
-well-back before (g ∷ s) t w = well-back (isHeldSegment g) s t (w .2)
 
 -- a segment somewhere in one, with what is behind it
 pub well-at : (before : Bool) (s : List Segment) (g : Segment) (t : List Segment) → Well before (s ++ (g ∷ t)) → (1 ≤ sizeOf g) × Well (isHeldSegment g) t

@@ -1,20 +1,17 @@
 -- Placing, taking and changing segments keep a map well formed and its pages in number, and what each does is one place of the list:
 -- the map before it, the segment, and the map behind it. Assumes nothing.
-use Prim.Native.Nat.{ℕ, zero, suc, _+_, _-_, _≤_, _<_}
-use mathlib.Core.Path.{_≡_, refl, sym, ap, _∙_}
+use Prim.Native.Nat.{ℕ, zero, suc, _+_, _-_, _≤_}
+use mathlib.Core.Path.{_≡_, refl, ap, _∙_}
 use mathlib.Core.Bool.{Bool, true, false, cond, _||_}
-use mathlib.Core.List.{List, [], _∷_, _++_, append-assoc}
-use mathlib.Core.Logic.{_⊎_, inl, inr, ⊎-elim}
+use mathlib.Core.List.{List, [], _∷_, _++_}
 use native.Mathlib.Nat.{add-zero}
 use native.Mathlib.Omega.{arith}
 use lib.Dec.{eqb, leb}
-use lib.ListN.{length}
-use borrow.Author.Tests.{leb-true, leb-false, le-leb, lt-leb, eqb-true, eqb-false, eq-eqb, ne-eqb}
-use Rattle.manager.specs.Map.{Segment, free, held, isHeldSegment, wordsOf, draw, decode, soundMap, total}
+use borrow.Author.Tests.{leb-true, eqb-true, eq-eqb, ne-eqb}
+use Rattle.manager.specs.Map.{Segment, free, held, isHeldSegment, draw, decode, soundMap, total}
 use Rattle.manager.specs.Map.{sizeOf}
-use Rattle.manager.proofs.Laws.Map.{Well, well-after, well-decoded, sound-drawn, reread, redraw, length-draw, total-decoded, total-cons}
+use Rattle.manager.proofs.Laws.Map.{Well, well-after, well-decoded, sound-drawn, total-cons}
 use Rattle.manager.specs.Paged.{free+, held+, lead, rest, placeFrom, take, heldFrom, reachFrom, changeFrom}
-use Rattle.manager.specs.declared.Place.{Place}
 use Rattle.manager.specs.declared.Place.the-variants.{At, Nowhere}
 
 -- ---- free pages in front of a map
@@ -299,30 +296,3 @@ module _ (p k : ℕ) where
 module _ (ws : List ℕ) (ok : soundMap ws ≡ true) where
   pub sound-take : (k : ℕ) → 1 ≤ k → soundMap (draw (take k (decode ws))) ≡ true
   sound-take k o = sound-drawn (take k (decode ws)) (well-take k true (decode ws) o (well-decoded ws ok))
-
-  pub reread-take : (k : ℕ) → 1 ≤ k → decode (draw (take k (decode ws))) ≡ take k (decode ws)
-  reread-take k o = reread (take k (decode ws)) (well-take k true (decode ws) o (well-decoded ws ok))
-
-  pub length-take-drawn : (k : ℕ) → length (draw (take k (decode ws))) ≡ length ws
-  length-take-drawn k = length-draw (take k (decode ws)) ∙ total-take k (decode ws) ∙ total-decoded ws ok
-
-  -- a return and a resize do
-  pub sound-change : (p k : ℕ) → soundMap (draw (changeFrom p k 0 (decode ws))) ≡ true
-  sound-change p k = sound-drawn (changeFrom p k 0 (decode ws)) (well-change p k 0 (decode ws) (well-decoded ws ok))
-
-  pub reread-change : (p k : ℕ) → decode (draw (changeFrom p k 0 (decode ws))) ≡ changeFrom p k 0 (decode ws)
-  reread-change p k = reread (changeFrom p k 0 (decode ws)) (well-change p k 0 (decode ws) (well-decoded ws ok))
-
-  pub length-change-drawn : (p k : ℕ) → k ≤ reachFrom p 0 (decode ws) → length (draw (changeFrom p k 0 (decode ws))) ≡ length ws
-  length-change-drawn p k l = length-draw (changeFrom p k 0 (decode ws)) ∙ total-change p k 0 (decode ws) l ∙ total-decoded ws ok
-
--- a new map is one free segment
-pub sound-new : (n : ℕ) → soundMap (draw (free+ n [])) ≡ true
-sound-new n = sound-drawn (free+ n []) (well-free n [] tt)
-
-pub reread-new : (n : ℕ) → decode (draw (free+ n [])) ≡ free+ n []
-reread-new n = reread (free+ n []) (well-free n [] tt)
-
-pub length-new : (n : ℕ) → length (draw (free+ n [])) ≡ n
-unfolding total
-length-new n = length-draw (free+ n []) ∙ total-free n [] ∙ add-zero n

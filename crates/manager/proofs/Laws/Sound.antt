@@ -1,24 +1,23 @@
 -- What sound books say of a live region: its page size, its map within the memory and its pages below 65,536; and that another sound
 -- map drawn in its place leaves all that so. Assumes nothing.
-use Prim.Native.Nat.{ℕ, zero, suc, _+_, _-_, _*_, _/_, _%_, _≤_, _<_}
+use Prim.Native.Nat.{ℕ, _+_, _-_, _*_, _≤_}
 use mathlib.Core.Path.{_≡_, refl, sym, ap, _∙_}
-use mathlib.Core.Bool.{Bool, true, false, cond, not, _&&_}
-use mathlib.Core.List.{List, [], _∷_, _++_, append-assoc}
+use mathlib.Core.Bool.{Bool, true, false, not, _&&_}
+use mathlib.Core.List.{List, _++_, append-assoc}
 use native.Mathlib.Omega.{arith}
 use native.Mathlib.Nat.{mul-le-mul-right, add-mul}
-use lib.ListN.{length, take, drop, getD, length-append, length-drop, take-append-drop, List·getD-eq-default}
-use lib.Seq.{drop-drop, sets, length-sets, sets-eq, take-at, drop-at, length-take-le}
+use lib.ListN.{length, take, drop, length-drop, take-append-drop, List·getD-eq-default}
+use lib.Seq.{drop-drop, length-sets, sets-eq, take-at, drop-at, length-take-le}
 use lib.Dec.{eqb, leb, ltb}
 use borrow.Author.Tests.{leb-true, ltb-true, ltb-false}
-use Rattle.arith.specs.Layout.{mapStart, firstPage, pageCount}
 use Rattle.arith.proofs.Laws.Layout.{count-map, count-end}
 use Rattle.manager.specs.Record.{mostWords, noRegion, regionOf, slotOf}
-use Rattle.manager.specs.Lists.{every, pairwise}
+use Rattle.manager.specs.Lists.{every}
 use Rattle.manager.proofs.Laws.Lists.{and-first, and-second, every-at}
 use Rattle.manager.specs.Map.{Segment, decode, draw, soundMap, total}
 use Rattle.manager.proofs.Laws.Map.{Well, redraw, reread, sound-drawn, length-draw, total-decoded, well-decoded}
 use Rattle.manager.specs.Region.{dead, pagesOf, baseOf, mapAt, mapWords, segments, withSegments, addressOf}
-use Rattle.manager.specs.Sound.{Laid, Sited, sound, soundLength, inside, soundPage, liveRegion, soundRegion, emptyRegion, soundPartition, soundAreas, soundQueue}
+use Rattle.manager.specs.Sound.{Laid, Sited, sound, soundLength, inside, soundPage, liveRegion, soundRegion, soundPartition, soundAreas, soundQueue}
 use Rattle.manager.specs.declared.Manager.{Manager}
 use Rattle.manager.specs.declared.Region.{Region}
 
@@ -31,10 +30,6 @@ module _ (m : List ℕ) (d : Manager) (ok : sound m d ≡ true) where
   pub sound-words : length m ≤ 16384
   unfolding sound
   sound-words = leb-true (length m) mostWords (and-second (leb 1 (length m)) _ (and-first (soundLength m) _ ok))
-
-  pub sound-some : 1 ≤ length m
-  unfolding sound
-  sound-some = leb-true 1 (length m) (and-first (leb 1 (length m)) _ (and-first (soundLength m) _ ok))
 
   pub sound-regions : every (soundRegion m) (d .regions) ≡ true
   sound-regions = and-first (every (soundRegion m) (d .regions)) _ tail

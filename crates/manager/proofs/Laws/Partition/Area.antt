@@ -11,12 +11,12 @@ use lib.Seq.{getD-set-other}
 use lib.Dec.{eqb}
 use Rattle.manager.specs.Lists.{some}
 use Rattle.manager.specs.Partition.{buffers, bufferAt, isBuffer, nextOf, setNext, link, follow, chain, isFree, linked, soundChain, linkAll, afterGet, afterReturn}
-use Rattle.manager.proofs.Laws.Distinct.{On, Off, either, same-or-not, on-off, on-head, on-tail}
+use Rattle.manager.proofs.Laws.Distinct.{On, Off, same-or-not, on-off, on-head, on-tail}
 use Rattle.manager.specs.declared.Partition.{Partition}
 use Rattle.manager.proofs.Laws.Partition.Buffers.{Shaped, Buffer, buffer-of, buffer-at, placed, words-clear}
-use Rattle.manager.proofs.Laws.Partition.Chain.{linked-rest, linked-last, linked-on, rear-on}
+use Rattle.manager.proofs.Laws.Partition.Chain.{linked-rest, linked-last, rear-on}
 use Rattle.manager.proofs.Laws.Partition.Repeats.{chain-buffer}
-use Rattle.manager.proofs.Laws.Partition.Links.{Same, follow-same, chain-front, after-last, after-get, return-first, return-behind}
+use Rattle.manager.proofs.Laws.Partition.Links.{Same, chain-front, after-last, after-get, return-first, return-behind}
 use Rattle.manager.proofs.Laws.Partition.Created.{link-length, all-clear}
 
 -- a word that is not wholly within the partition's area
@@ -133,14 +133,6 @@ module _ (m : List ℕ) (p : Partition) (s : Shaped p) (e : soundChain m p ≡ t
       held-clear x q =
           words-clear p s b x (buffer-of p s b ib) (free-buffer x q) (λ r. on-off x (chain m p) q (subst (λ (y : ℕ). Off y (chain m p)) r ob)) i h k
 
-      pub get-held : 0 < p .free → getD (afterGet m p) i 0 ≡ getD m i 0
-      get-held l = get-only held-clear l
-
-      pub return-held : (a : ℕ) → isBuffer p a ≡ true → (b ≡ a → ⊥) → getD (afterReturn m p a) i 0 ≡ getD m i 0
-      return-held a q n =
-          let u = words-clear p s b a (buffer-of p s b ib) (buffer-of p s a q) n i h k in
-          return-only a held-clear (u .0) (u .1)
-
 -- A CHAIN RESTS ON THE WORDS OF ITS AREA ALONE
 pub record Agree (p : Partition) (m m′ : List ℕ) : Type 0 where
   pub word : (i : ℕ) → p .start / 4 ≤ i → i < (p .start + p .length) / 4 → getD m′ i 0 ≡ getD m i 0
@@ -153,24 +145,3 @@ module _ (p : Partition) (s : Shaped p) (m m′ : List ℕ) (h : Agree p m m′)
         next = h .word (x / 4) (omega (arith, q .low)) (omega (arith, q .high, s .big));
         before = h .word (x / 4 + 1) (omega (arith, q .low)) (omega (arith, q .high, s .big));
       }
-
-  agree-linked : (n before a : ℕ) → linked n m′ p before a ≡ linked n m p before a
-  unfolding linked
-  agree-linked zero before a = refl
-  agree-linked (suc n) before a =
-      ⊎-elim
-      (λ (e : isBuffer p a ≡ true).
-      let t = agree-same a (buffer-of p s a e) in
-      rw (e, t .before, t .next, agree-linked n a (nextOf m a)))
-      (λ (e : isBuffer p a ≡ false). rw e)
-      (either (isBuffer p a))
-
-  pub agree-sound : soundChain m′ p ≡ soundChain m p
-  agree-sound = agree-linked (p .free) 0 (p .front)
-
-  pub agree-chain : soundChain m p ≡ true → chain m′ p ≡ chain m p
-  agree-chain e =
-      follow-same m m′ (p .free) (p .front) (λ x q. agree-same x (buffer-of p s x (linked-on m p (p .free) 0 (p .front) x e q)) .next)
-
-  pub agree-free : soundChain m p ≡ true → (x : ℕ) → isFree m′ p x ≡ isFree m p x
-  agree-free e x = ap (some (eqb x)) (agree-chain e)

@@ -11,7 +11,7 @@ use Rattle.manager.specs.Partition.{buffers, bufferAt, isBuffer, nextOf,
 use Rattle.manager.proofs.Laws.Distinct.{On, Off, either, on-off, on-nil, off-nil, on-head, on-tail, on-cases, off-head, off-tail, off-by, distinct, distinct-cons, few}
 use Rattle.manager.specs.declared.Partition.{Partition}
 use Rattle.manager.proofs.Laws.Partition.Buffers.{Shaped, Buffer, buffer-of, not-zero}
-use Rattle.manager.proofs.Laws.Partition.Chain.{linked-buffer, linked-before, linked-rest, linked-on, follow-length, lastOf, follow-last}
+use Rattle.manager.proofs.Laws.Partition.Chain.{linked-buffer, linked-before, linked-rest, linked-on, follow-length}
 
 -- the buffers passed, the last one first: each leads back to the one behind it on this list, the last to 0
 abbrev latest : List ℕ → ℕ
@@ -86,9 +86,6 @@ module _ (m : List ℕ) (p : Partition) (s : Shaped p) where
 
     pub chain-buffer : (x : ℕ) → isFree m p x ≡ true → isBuffer p x ≡ true
     chain-buffer x q = linked-on m p (p .free) 0 (p .front) x e q
-
-    pub chain-last : lastOf 0 (chain m p) ≡ p .rear
-    chain-last = follow-last (p .free) m p 0 (p .front) e
 
     pub chain-length : length (chain m p) ≡ p .free
     chain-length = follow-length (p .free) m (p .front)
