@@ -13,7 +13,7 @@ use Rattle.manager.specs.Result.{Result, answerOf, pad}
 use Rattle.manager.specs.Status.{numberOf}
 use Rattle.manager.specs.Access.{readSegment, writeSegment}
 use Rattle.manager.specs.Perform.{perform, defined}
-use Rattle.manager.proofs.Laws.Used.{length-pad}
+use Rattle.manager.proofs.Laws.Queue.{length-pad}
 use Rattle.manager.specs.declared.Manager.{Manager}
 use Rattle.manager.specs.declared.Call.{Call}
 use Rattle.trace.specs.Receipts.{Receipts, Reply, replyOf, note}

@@ -8,4 +8,3 @@ pub mod Paged
 pub mod Sound
 pub mod Partition
 pub mod Queue
-pub mod Used

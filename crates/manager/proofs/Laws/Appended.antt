@@ -2,11 +2,11 @@
 -- Assumes nothing.
 use Prim.Native.Nat.{ℕ, zero, suc}
 use mathlib.Core.Path.{_≡_, refl, sym, ap, _∙_}
-use mathlib.Core.Bool.{Bool, true, false, cond, _&&_, _||_, and-true, and-assoc, or-assoc, or-false}
+use mathlib.Core.Bool.{Bool, true, false, _&&_, _||_, and-true, and-assoc, or-assoc, or-false}
 use mathlib.Core.List.{List, [], _∷_, _++_}
 use native.Mathlib.Omega.{arith}
 use lib.ListN.{length, replicate}
-use Rattle.manager.specs.Lists.{every, some, indexOf, pairwise, adjacent}
+use Rattle.manager.specs.Lists.{every, some, indexOf, pairwise}
 use Rattle.manager.proofs.Laws.Lists.{and-first, and-second}
 
 -- what holds of both outcomes of a test holds of the test
@@ -61,13 +61,6 @@ module _ {A : Type 0} where
   pub some-behind : (t : A → Bool) (z : A) → t z ≡ false → (l : List A) (k : ℕ) → some t (l ++ replicate k z) ≡ some t l
   some-behind t z e l k = some-append t l (replicate k z) ∙ rw (some-same t z e k) (or-false (some t l))
 
-  -- the first that passes is found, or nothing is up to the end
-  pub index-there : (t : A → Bool) (l r : List A) → some t l ≡ true → indexOf t (l ++ r) ≡ indexOf t l
-  unfolding some indexOf
-  index-there t [] r e = absurd (let z : _≡_ {A = ℕ} 0 1 = cc in omega arith)
-  index-there t (x ∷ l) r e =
-      by-case (t x) (λ b. (b || some t l) ≡ true → cond b 0 (suc (indexOf t (l ++ r))) ≡ cond b 0 (suc (indexOf t l))) (λ h g. refl) (λ h g. ap suc (index-there t l r g)) e
-
   pub index-beyond : (t : A → Bool) (l : List A) → some t l ≡ false → indexOf t l ≡ length l
   unfolding some indexOf
   index-beyond t [] e = refl
@@ -79,37 +72,3 @@ module _ {A : Type 0} where
     unfolding pairwise
     pairwise-same zero = refl
     pairwise-same (suc k) = and-both _ _ (every-same (t z) z (behind z) k) (pairwise-same k)
-
-    pub pairwise-behind : (l : List A) (k : ℕ) → pairwise t (l ++ replicate k z) ≡ pairwise t l
-    unfolding pairwise
-    pairwise-behind [] k = pairwise-same k
-    pairwise-behind (x ∷ l) k = rw (every-behind (t x) z (behind x) l k, pairwise-behind l k)
-
-  pub pairwise-imp : (t u : A → A → Bool) → ((x y : A) → t x y ≡ true → u x y ≡ true) → (l : List A) → pairwise t l ≡ true → pairwise u l ≡ true
-  unfolding pairwise
-  pairwise-imp t u f [] e = refl
-  pairwise-imp t u f (x ∷ l) e =
-      and-both (every (u x) l) (pairwise u l) (every-imp (t x) (u x) (f x) l (and-first (every (t x) l) (pairwise t l) e))
-      (pairwise-imp t u f l (and-second (every (t x) l) (pairwise t l) e))
-
-  -- all pairs are in order where neighbours are
-  pub pairwise-adjacent : (t : A → A → Bool) (l : List A) → pairwise t l ≡ true → adjacent t l ≡ true
-  unfolding pairwise adjacent every
-  pairwise-adjacent t [] e = refl
-  pairwise-adjacent t (x ∷ []) e = refl
-  pairwise-adjacent t (x ∷ y ∷ l) e =
-      and-both (t x y) (adjacent t (y ∷ l))
-      (and-first (t x y) (every (t x) l) (and-first (every (t x) (y ∷ l)) (pairwise t (y ∷ l)) e))
-      (pairwise-adjacent t (y ∷ l) (and-second (every (t x) (y ∷ l)) (pairwise t (y ∷ l)) e))
-
-  pub adjacent-pairwise : (t : A → A → Bool) → ((x y z : A) → t x y ≡ true → t y z ≡ true → t x z ≡ true) → (l : List A)
-      → adjacent t l ≡ true → pairwise t l ≡ true
-  unfolding pairwise adjacent every
-  adjacent-pairwise t trans [] e = refl
-  adjacent-pairwise t trans (x ∷ []) e = refl
-  adjacent-pairwise t trans (x ∷ y ∷ l) e =
-      let xy : t x y ≡ true = and-first (t x y) (adjacent t (y ∷ l)) e in
-      let h : pairwise t (y ∷ l) ≡ true = adjacent-pairwise t trans (y ∷ l) (and-second (t x y) (adjacent t (y ∷ l)) e) in
-      and-both (every (t x) (y ∷ l)) (pairwise t (y ∷ l))
-      (and-both (t x y) (every (t x) l) xy (every-imp (t y) (t x) (λ z. trans x y z xy) l (and-first (every (t y) l) (pairwise t l) h)))
-      h

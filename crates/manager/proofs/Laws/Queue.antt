@@ -1,104 +1,27 @@
--- What entering, leaving and the tick keep of the queue: its order, that a task waits once, and what is said of every place. The order
--- is transitive, so neighbours in order are the same as all pairs in order, and pairs are kept by leaving out or putting in. Assumes
--- nothing.
-use Prim.Native.Nat.{ℕ, zero, suc, _-_, _≤_}
+-- What entering, leaving and the tick do to the queue's array, read as a list with unused places behind it (`pad`); and what is said of
+-- every place stays so. Assumes nothing.
+use Prim.Native.Nat.{ℕ, zero, suc, _-_, _≤_, _+_, _<_}
 use mathlib.Core.Path.{_≡_, refl, ap, _∙_}
-use mathlib.Core.Bool.{Bool, true, false, cond, _&&_, _||_, not}
-use mathlib.Core.List.{List, [], _∷_}
-use native.Mathlib.Omega.{arith}
-use borrow.Author.Tests.{eq-eqb, ne-eqb, eqb-true, eqb-false, le-ltb, ltb-false, not-true}
-use lib.Dec.{eqb, ltb}
-use lib.ListN.{length}
-use Rattle.manager.specs.Record.{tasks, noWaiter, regionOf}
-use Rattle.manager.specs.Lists.{every, some, pairwise, adjacent}
+use mathlib.Core.Bool.{Bool, true, cond}
+use mathlib.Core.List.{List, [], _∷_, _++_, append-nil, append-assoc}
+use borrow.Author.Tests.{eqb-true}
+use lib.Dec.{eqb}
+use lib.ListN.{length, replicate, length-append, length-replicate, replicate-append-replicate}
+use Rattle.manager.specs.Record.{noWaiter}
+use Rattle.manager.specs.Lists.{every}
 use Rattle.manager.proofs.Laws.Lists.{and-first, and-second}
-use Rattle.manager.specs.Queue.{urgent, goesBefore, push, insert, removeAt, enqueue, dequeue, aged, staying, afterTick}
-use Rattle.manager.proofs.Laws.Appended.{by-case, and-both, or-first, or-second, every-imp, every-behind}
-use Rattle.manager.specs.Sound.{soundWaiter, soundPlace, otherTask, inOrder, soundQueue}
+use Rattle.manager.specs.Queue.{removeAt, dequeue, aged, staying, expired, leaving, goesBefore, push, insert}
+use Rattle.manager.proofs.Laws.Appended.{by-case, and-both, every-behind}
+use Rattle.manager.specs.Sound.{soundPlace, soundQueue, emptyWaiter}
 use Rattle.manager.specs.declared.Manager.{Manager}
 use Rattle.manager.specs.declared.Waiter.{Waiter}
+use native.Mathlib.Omega.{arith}
+use Rattle.manager.specs.Result.{pad}
+use Rattle.manager.specs.declared.Notice.{Notice}
 use Rattle.manager.specs.declared.Order.{Order}
-use Rattle.manager.specs.declared.Order.the-variants.{Fifo, Priority}
 
--- THE ORDER
-urgent-trans : (o : Order) (p q r : ℕ) → urgent o p q ≡ false → urgent o q r ≡ false → urgent o p r ≡ false
-urgent-trans Fifo p q r e f = refl
-urgent-trans Priority p q r e f = le-ltb p r (omega (arith, ltb-false p q e, ltb-false q r f))
-
--- w does not go before x: x is used, of no later region, and in the same region w is not more urgent
-pub record NotBefore (o : Order) (w x : Waiter) : Type 0 where
-  pub used : x .task ≡ 0 → ⊥
-  pub region : x .region ≤ w .region
-  pub urgency : w .region ≡ x .region → urgent o (w .priority) (x .priority) ≡ false
-
-module _ (o : Order) (w x : Waiter) where
-  pub not-before : goesBefore o w x ≡ false → NotBefore o w x
-  unfolding goesBefore
-  not-before e =
-      let f = or-second (eqb (x .task) 0) _ e in
-      record {
-        used = eqb-false _ _ (or-first (eqb (x .task) 0) _ e);
-        region = ltb-false _ _ (or-first (ltb (w .region) (x .region)) _ f);
-        urgency = λ q. rw (eq-eqb _ _ q) at (or-second (ltb (w .region) (x .region)) _ f);
-      }
-
-  pub before-not : NotBefore o w x → goesBefore o w x ≡ false
-  unfolding goesBefore
-  before-not n =
-      rw (ne-eqb _ _ (n .used), le-ltb _ _ (n .region))
-      (by-case (eqb (w .region) (x .region)) (λ b. (b && urgent o (w .priority) (x .priority)) ≡ false)
-      (λ e. n .urgency (eqb-true _ _ e)) (λ e. refl))
-
-module _ (d : Manager) where
-  abbrev pub orderAt : Waiter → Order
-  orderAt w = regionOf d (w .region) .order
-
-  same-order : (w x : Waiter) → w .region ≡ x .region → orderAt w ≡ orderAt x
-  same-order w x e = ap (λ (r : ℕ). regionOf d r .order) e
-
-  -- the one behind does not go before the one in front
-  pub in-order : (w x : Waiter) → inOrder d w x ≡ true → (x .task ≡ 0 → ⊥) → NotBefore (orderAt x) x w
-  in-order w x e n = not-before (orderAt x) x w (not-true _ (rw (ne-eqb _ _ n) at e))
-
-  pub order-in : (w x : Waiter) → NotBefore (orderAt x) x w → inOrder d w x ≡ true
-  order-in w x n = rw (before-not (orderAt x) x w n) (by-case (eqb (x .task) 0) (λ b. (b || true) ≡ true) (λ e. refl) (λ e. refl))
-
-  pub order-trans : (x y z : Waiter) → inOrder d x y ≡ true → inOrder d y z ≡ true → inOrder d x z ≡ true
-  order-trans x y z e f =
-      by-case (eqb (z .task) 0) (λ b. eqb (z .task) 0 ≡ b → inOrder d x z ≡ true) (λ t g. rw g)
-      (λ t g. (
-      let n : NotBefore (orderAt z) z y = in-order y z f (eqb-false _ _ g) in
-      let m : NotBefore (orderAt y) y x = in-order x y e (n .used) in
-      order-in x z
-      (record {
-        used = m .used;
-        region = omega (arith, n .region, m .region);
-        urgency = λ q. (
-            let yx : y .region ≡ x .region = omega (arith, n .region, m .region) in
-            let zy : z .region ≡ y .region = omega (arith, n .region, m .region) in
-            urgent-trans (orderAt z) (z .priority) (y .priority) (x .priority) (n .urgency zy) (rw (← (same-order z y zy)) at (m .urgency yx))
-            );
-      })
-      ))
-      refl
-
--- PUTTING IN
-pub every-push : (t : Waiter → Bool) (w : Waiter) (l : List Waiter) → t w ≡ true → every t l ≡ true → every t (push w l) ≡ true
-unfolding every push
-every-push t w [] e f = refl
-every-push t w (x ∷ l) e f =
-    and-both (t w) (every t (push x l)) e (every-push t x l (and-first (t x) (every t l) f) (and-second (t x) (every t l) f))
-
-module _ (o : Order) (w : Waiter) where
-  pub every-insert : (t : Waiter → Bool) (l : List Waiter) → t w ≡ true → every t l ≡ true → every t (insert o w l) ≡ true
-  unfolding every insert
-  every-insert t [] e f = refl
-  every-insert t (x ∷ l) e f =
-      by-case (goesBefore o w x) (λ b. every t (cond b (push w (x ∷ l)) (x ∷ insert o w l)) ≡ true) (λ g. every-push t w (x ∷ l) e f)
-      (λ g. and-both (t x) (every t (insert o w l)) (and-first (t x) (every t l) f) (every-insert t l e (and-second (t x) (every t l) f)))
-
--- TAKING OUT
-pub every-remove : (t : Waiter → Bool) → t noWaiter ≡ true → (i : ℕ) (l : List Waiter) → every t l ≡ true → every t (removeAt i l) ≡ true
+-- WHAT IS SAID OF EVERY PLACE
+every-remove : (t : Waiter → Bool) → t noWaiter ≡ true → (i : ℕ) (l : List Waiter) → every t l ≡ true → every t (removeAt i l) ≡ true
 unfolding every removeAt
 every-remove t z zero [] e = refl
 every-remove t z (suc i) [] e = refl
@@ -106,65 +29,115 @@ every-remove t z zero (x ∷ l) e = every-behind t noWaiter z l 1 ∙ and-second
 every-remove t z (suc i) (x ∷ l) e =
     and-both (t x) _ (and-first (t x) (every t l) e) (every-remove t z i l (and-second (t x) (every t l) e))
 
--- THE TICK
-pub every-stay : (t u : Waiter → Bool) → ((x : Waiter) → t x ≡ true → u (aged x) ≡ true) → (l : List Waiter) → every t l ≡ true
-    → every u (staying l) ≡ true
-unfolding every staying
-every-stay t u f [] e = refl
-every-stay t u f (x ∷ l) e =
-    let h : every u (staying l) ≡ true = every-stay t u f l (and-second (t x) (every t l) e) in
-    by-case (eqb (x .ticks) 1) (λ b. every u (cond b (staying l) (aged x ∷ staying l)) ≡ true) (λ g. h)
-    (λ g. and-both (u (aged x)) (every u (staying l)) (f x (and-first (t x) (every t l) e)) h)
-
-in-front : (d : Manager) (w x : Waiter) (l : List Waiter) → inOrder d w x ≡ true → every (inOrder d x) l ≡ true → every (inOrder d w) (x ∷ l) ≡ true
-unfolding every
-in-front d w x l h f = and-both (inOrder d w x) (every (inOrder d w) l) h (every-imp (inOrder d x) (inOrder d w) (λ y. order-trans d w x y h) l f)
-
--- a task that does not wait is another than each that does
-pub not-waiting : (t : ℕ) (l : List Waiter) → some (λ x. eqb (x .task) t) l ≡ false → every (λ x. not (eqb (x .task) t)) l ≡ true
-unfolding some every
-not-waiting t [] g = refl
-not-waiting t (x ∷ l) g =
-    and-both (not (eqb (x .task) t)) (every (λ y. not (eqb (y .task) t)) l)
-    (ap not (or-first (eqb (x .task) t) _ g)) (not-waiting t l (or-second (eqb (x .task) t) _ g))
-
--- entering
-module _ (d : Manager) (w : Waiter) where
-  pub enqueue-every : (t : Waiter → Bool) → t w ≡ true → every t (d .waiters) ≡ true → every t (enqueue d w .waiters) ≡ true
-  unfolding enqueue
-  enqueue-every t e f = every-insert (orderAt d w) w t (d .waiters) e f
-
--- leaving
 module _ (d : Manager) (i : ℕ) where
   pub dequeue-every : (t : Waiter → Bool) → t noWaiter ≡ true → every t (d .waiters) ≡ true → every t (dequeue d i .waiters) ≡ true
   unfolding dequeue
   dequeue-every t z e = every-remove t z i (d .waiters) e
 
--- the tick
-abbrev roomAfter : Manager → ℕ
-roomAfter d = tasks - length (staying (d .waiters))
+pub sound-every : (m : List ℕ) (d : Manager) → soundQueue m d ≡ true → every (soundPlace m d) (d .waiters) ≡ true
+unfolding soundQueue
+sound-every m d e = and-first (every (soundPlace m d) (d .waiters)) _ e
 
-module _ (d : Manager) where
-  pub tick-every : (t : Waiter → Bool) → t noWaiter ≡ true → ((x : Waiter) → t x ≡ true → t (aged x) ≡ true) → every t (d .waiters) ≡ true
-      → every t (afterTick d .waiters) ≡ true
-  unfolding afterTick
-  tick-every t z f e = every-behind t noWaiter z (staying (d .waiters)) (roomAfter d) ∙ every-stay t t f (d .waiters) e
+-- PADDED LISTS
+-- a list with unused places behind it, so many that they make up n, is the padded list
+pub padded : (n k : ℕ) (ws : List Waiter) → length ws + k ≡ n → ws ++ replicate k noWaiter ≡ pad n noWaiter ws
+padded n k ws e = let h : k ≡ n - length ws = omega arith in ap (λ (j : ℕ). ws ++ replicate j noWaiter) h
 
-module _ (m : List ℕ) (d : Manager) where
-  pub place-unused : soundPlace m d noWaiter ≡ true
-  unfolding soundPlace
-  place-unused = refl
+-- ENTERING, with an unused place left
+-- w in a list, before the first that it goes before
+unfoldable pub enter : Order → Waiter → List Waiter → List Waiter
+enter o w [] = w ∷ []
+enter o w (x ∷ xs) = cond (goesBefore o w x) (w ∷ x ∷ xs) (x ∷ enter o w xs)
 
-  pub sound-every : soundQueue m d ≡ true → every (soundPlace m d) (d .waiters) ≡ true
-  unfolding soundQueue
-  sound-every e = and-first (every (soundPlace m d) (d .waiters)) _ e
+push-room : (w : Waiter) (ws : List Waiter) (k : ℕ) → push w (ws ++ replicate (suc k) noWaiter) ≡ w ∷ ws ++ replicate k noWaiter
+unfolding push
+push-room w [] zero = refl
+push-room w [] (suc k) = ap (λ (l : List Waiter). w ∷ l) (push-room noWaiter [] k)
+push-room w (x ∷ ws) k = ap (λ (l : List Waiter). w ∷ l) (push-room x ws k)
 
-  pub sound-order : soundQueue m d ≡ true → adjacent (inOrder d) (d .waiters) ≡ true
-  unfolding soundQueue
-  sound-order e = and-second (pairwise otherTask (d .waiters)) _ (and-second (every (soundPlace m d) (d .waiters)) _ e)
+pub insert-room : (o : Order) (w : Waiter) (ws : List Waiter) (k : ℕ)
+    → insert o w (ws ++ replicate (suc k) noWaiter) ≡ enter o w ws ++ replicate k noWaiter
+unfolding insert enter goesBefore
+insert-room o w [] k = push-room w [] k
+insert-room o w (x ∷ ws) k =
+    let h = insert-room o w ws k in
+    by-case (goesBefore o w x)
+    (λ b. cond b (push w (x ∷ ws ++ replicate (suc k) noWaiter)) (x ∷ insert o w (ws ++ replicate (suc k) noWaiter)) ≡ cond b (w ∷ x ∷ ws) (x ∷ enter o w ws) ++ replicate k noWaiter)
+    (λ _. push-room w (x ∷ ws) k) (λ _. ap (λ (l : List Waiter). x ∷ l) h)
 
--- it stays sound
-module _ (m : List ℕ) (d : Manager) (e : soundQueue m d ≡ true) where
-  enqueue-places : (w : Waiter) → soundPlace m d w ≡ true → every (soundPlace m (enqueue d w)) (enqueue d w .waiters) ≡ true
-  unfolding enqueue soundPlace soundWaiter
-  enqueue-places w s = every-insert (orderAt d w) w (soundPlace m d) (d .waiters) s (sound-every m d e)
+pub length-enter : (o : Order) (w : Waiter) (ws : List Waiter) → length (enter o w ws) ≡ suc (length ws)
+unfolding enter
+length-enter o w [] = refl
+length-enter o w (x ∷ ws) =
+    let h = length-enter o w ws in
+    by-case (goesBefore o w x) (λ b. length (cond b (w ∷ x ∷ ws) (x ∷ enter o w ws)) ≡ suc (suc (length ws))) (λ _. refl) (λ _. ap suc h)
+
+pub insert-pad : (o : Order) (w : Waiter) (n : ℕ) (ws : List Waiter) → length ws < n → insert o w (pad n noWaiter ws) ≡ pad n noWaiter (enter o w ws)
+insert-pad o w n ws h =
+    let k : n - length ws ≡ suc (n - suc (length ws)) = omega arith in
+    ap (λ (j : ℕ). insert o w (ws ++ replicate j noWaiter)) k ∙ insert-room o w ws (n - suc (length ws))
+    ∙ padded n (n - suc (length ws)) (enter o w ws) (omega (arith, length-enter o w ws))
+
+-- THE TICK
+pub stay-append : (a b : List Waiter) → staying (a ++ b) ≡ staying a ++ staying b
+unfolding staying
+stay-append [] b = refl
+stay-append (w ∷ a) b =
+    let h = stay-append a b in
+    by-case (eqb (w .ticks) 1) (λ u. cond u (staying (a ++ b)) (aged w ∷ staying (a ++ b)) ≡ cond u (staying a) (aged w ∷ staying a) ++ staying b) (λ _. h)
+    (λ _. ap (λ (l : List Waiter). aged w ∷ l) h)
+
+pub stay-none : (k : ℕ) → staying (replicate k noWaiter) ≡ replicate k noWaiter
+unfolding staying
+stay-none zero = refl
+stay-none (suc k) = ap (λ (l : List Waiter). noWaiter ∷ l) (stay-none k)
+
+pub stay-length : (ws : List Waiter) → length (staying ws) ≤ length ws
+unfolding staying
+stay-length [] = omega arith
+stay-length (w ∷ ws) =
+    let h = stay-length ws in
+    by-case (eqb (w .ticks) 1) (λ u. length (cond u (staying ws) (aged w ∷ staying ws)) ≤ suc (length ws)) (λ _. omega arith) (λ _. omega arith)
+
+pub leave-append : (a b : List Waiter) → leaving (a ++ b) ≡ leaving a ++ leaving b
+unfolding leaving
+leave-append [] b = refl
+leave-append (w ∷ a) b =
+    let h = leave-append a b in
+    by-case (eqb (w .ticks) 1) (λ u. cond u (expired w ∷ leaving (a ++ b)) (leaving (a ++ b)) ≡ cond u (expired w ∷ leaving a) (leaving a) ++ leaving b)
+    (λ _. ap (λ (l : List Notice). expired w ∷ l) h) (λ _. h)
+
+pub leave-none : (k : ℕ) → leaving (replicate k noWaiter) ≡ []
+unfolding leaving
+leave-none zero = refl
+leave-none (suc k) = leave-none k
+
+pub pad-more : (n k : ℕ) (ws : List Waiter) → length ws + k ≤ n → pad n noWaiter (ws ++ replicate k noWaiter) ≡ pad n noWaiter ws
+pad-more n k ws h =
+    let e : length (ws ++ replicate k noWaiter) ≡ length ws + k = length-append ws (replicate k noWaiter) ∙ ap (λ (j : ℕ). length ws + j) (length-replicate k noWaiter) in
+    append-assoc ws (replicate k noWaiter) _
+    ∙ ap (λ (l : List Waiter). ws ++ l) (replicate-append-replicate k (n - length (ws ++ replicate k noWaiter)) noWaiter)
+    ∙ padded n (k + (n - length (ws ++ replicate k noWaiter))) ws (omega arith)
+
+pub tick-pad : (n : ℕ) (ws : List Waiter) → length ws ≤ n → pad n noWaiter (staying (pad n noWaiter ws)) ≡ pad n noWaiter (staying ws)
+tick-pad n ws h =
+    ap (pad n noWaiter) (stay-append ws _ ∙ ap (λ (l : List Waiter). staying ws ++ l) (stay-none (n - length ws)))
+    ∙ pad-more n (n - length ws) (staying ws) (omega (arith, stay-length ws))
+
+pub told-pad : (n : ℕ) (ws : List Waiter) → leaving (pad n noWaiter ws) ≡ leaving ws
+told-pad n ws = leave-append ws _ ∙ rw (leave-none (n - length ws)) (append-nil (leaving ws))
+
+pub length-pad : (n : ℕ) (ws : List Waiter) → length ws ≤ n → length (pad n noWaiter ws) ≡ n
+length-pad n ws h = length-append ws _ ∙ rw (length-replicate (n - length ws) noWaiter) (omega arith)
+
+-- AN UNUSED PLACE IS ALL ZEROS
+made : (a b c d e : ℕ) → a ≡ 0 → b ≡ 0 → c ≡ 0 → d ≡ 0 → e ≡ 0 → record { task = a; region = b; size = c; priority = d; ticks = e } ≡ noWaiter
+made a b c d e p q r s t = rw (p, q, r, s, t)
+
+pub empty-waiter : (w : Waiter) → emptyWaiter w ≡ true → w ≡ noWaiter
+empty-waiter w e =
+    let r = and-second (eqb (w .task) 0) _ e in
+    let s = and-second (eqb (w .region) 0) _ r in
+    let p = and-second (eqb (w .size) 0) _ s in
+    made _ _ _ _ _ (eqb-true _ _ (and-first (eqb (w .task) 0) _ e)) (eqb-true _ _ (and-first (eqb (w .region) 0) _ r))
+    (eqb-true _ _ (and-first (eqb (w .size) 0) _ s)) (eqb-true _ _ (and-first (eqb (w .priority) 0) _ p)) (eqb-true _ _ (and-second (eqb (w .priority) 0) _ p))

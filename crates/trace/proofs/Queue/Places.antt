@@ -12,7 +12,7 @@ use Rattle.manager.specs.Record.{noWaiter}
 use Rattle.manager.specs.Result.{pad}
 use Rattle.manager.specs.Lists.{every, some, indexOf, pairwise, adjacent}
 use Rattle.manager.specs.Queue.{goesBefore, insert, removeAt}
-use Rattle.manager.proofs.Laws.Used as places
+use Rattle.manager.proofs.Laws.Queue as places
 use Rattle.manager.specs.declared.Waiter.{Waiter}
 use Rattle.manager.specs.declared.Order.{Order}
 use Rattle.manager.proofs.Laws.Lists.{and-first, and-second}

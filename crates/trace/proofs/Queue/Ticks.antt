@@ -14,7 +14,7 @@ use Rattle.manager.specs.Result.{pad}
 use Rattle.manager.specs.Lists as Lists
 use Rattle.manager.proofs.Laws.Lists.{and-first, and-second}
 use Rattle.manager.specs.Queue.{leaving, staying, aged, afterTick}
-use Rattle.manager.proofs.Laws.Used.{told-pad, tick-pad}
+use Rattle.manager.proofs.Laws.Queue.{told-pad, tick-pad}
 use Rattle.manager.specs.declared.Manager.{Manager}
 use Rattle.manager.specs.declared.Waiter.{Waiter}
 use Rattle.manager.specs.declared.Notice.{Notice}

@@ -18,7 +18,7 @@ use Rattle.manager.specs.Record.{tasks, noWaiter, regionOf}
 use Rattle.manager.specs.Region.{baseOf, dead, pagesOf, pagesAsked, anyHeld, segments}
 use Rattle.manager.specs.Queue.{goesBefore}
 use Rattle.manager.specs.Sound.{unused, soundWaiter, soundPlace, otherTask, inOrder, liveRegion, soundRegion}
-use Rattle.manager.proofs.Laws.Used.{empty-waiter}
+use Rattle.manager.proofs.Laws.Queue.{empty-waiter}
 use Rattle.manager.proofs.Laws.Distinct.{either}
 use Rattle.manager.specs.declared.Manager.{Manager}
 use Rattle.manager.specs.declared.Region.{Region}

@@ -2,7 +2,7 @@
 use Prim.Native.Nat.{ℕ, zero, suc, _-_}
 use mathlib.Core.Path.{_≡_, refl, ap, sym}
 use mathlib.Core.Bool.{true}
-use mathlib.Core.List.{List, [], _∷_}
+use mathlib.Core.List.{List, []}
 use mathlib.Core.Logic.{_⊎_, ⊎-elim}
 use lib.ListN.{length}
 use lib.Dec.{eqb}
@@ -61,13 +61,3 @@ pub follow-length : (n : ℕ) (m : List ℕ) (a : ℕ) → length (follow n m a)
 unfolding follow
 follow-length zero m a = refl
 follow-length (suc n) m a = ap suc (follow-length n m (nextOf m a))
-
--- the last of a list, and of an empty one the number given
-unfoldable pub lastOf : ℕ → List ℕ → ℕ
-lastOf z [] = z
-lastOf z (x ∷ l) = lastOf x l
-
-pub follow-last : (n : ℕ) (m : List ℕ) (p : Partition) (before a : ℕ) → linked n m p before a ≡ true → lastOf before (follow n m a) ≡ p .rear
-unfolding follow lastOf
-follow-last zero m p before a e = linked-rear m p before a e
-follow-last (suc n) m p before a e = follow-last n m p a (nextOf m a) (linked-rest m p n before a e)

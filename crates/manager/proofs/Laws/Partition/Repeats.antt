@@ -1,6 +1,6 @@
 -- A chain has no repeats. A chain whose links agree both ways can't come back to a buffer that it passed, since the buffer before that
 -- one would be met twice too, down to the first. Assumes nothing.
-use Prim.Native.Nat.{ℕ, zero, suc, _-_, _≤_, _<_}
+use Prim.Native.Nat.{ℕ, zero, suc, _-_, _<_}
 use mathlib.Core.Path.{_≡_, refl, sym, _∙_}
 use mathlib.Core.Bool.{true, false}
 use mathlib.Core.List.{List, [], _∷_}
@@ -89,13 +89,6 @@ module _ (m : List ℕ) (p : Partition) (s : Shaped p) where
 
     pub chain-length : length (chain m p) ≡ p .free
     chain-length = follow-length (p .free) m (p .front)
-
-    -- at most as many are free as there are buffers; fewer, if one is not
-    pub free-most : p .free ≤ buffers p
-    free-most =
-        let u = few (bufferAt p) (buffers p) (chain m p) chain-distinct
-        (λ y q. let b = buffer-of p s y (chain-buffer y q) in (b .index, b .within, b .address)) in
-        omega (arith, u, chain-length)
 
     pub free-fewer : (a : ℕ) → isBuffer p a ≡ true → isFree m p a ≡ false → p .free < buffers p
     free-fewer a f g =
