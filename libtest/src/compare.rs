@@ -1,10 +1,10 @@
 //! Runs made-up calls through a library and compares every word with the
 //! model.
 //!
-//! The header leaves two things open, and both ways are accepted and counted:
-//! whether an answer that goes with status 25 is left as it was or cleared,
-//! and whether an answer of more than 55 words is a wrong length. The words
-//! past the 55th must be left in any case.
+//! Words past the 55th of an answer are left as they were. With status 25 the
+//! answer is cleared where the record and the memory are damaged, and left
+//! where the words can be no record, the answer is too short or a choice is
+//! none.
 
 use crate::call::{Buffers, Call, Directive, Library};
 use crate::damage::{self, Effect, State};
@@ -50,7 +50,7 @@ impl Guarded {
     }
 }
 
-/// What a call may return and leave behind.
+/// What a call returns and leaves behind.
 struct Expected<'a> {
     returned: usize,
     answer: Vec<u32>,
@@ -166,12 +166,11 @@ impl<'a, L: Library> Comparison<'a, L> {
         ]);
 
         let buffers = [&record[..], &memory, &before];
-        let is_long = uses_answer(call) && before.len() > ANSWER_WORDS;
         if is_internal_error(call, &answer) {
             self.check_refused(buffers, call)?;
             return Ok(answer);
         }
-        let done = Expected {
+        let expected = Expected {
             returned: match call {
                 Call::Read { .. } => answer.words.len(),
                 _ => answer.status as usize,
@@ -180,18 +179,10 @@ impl<'a, L: Library> Comparison<'a, L> {
             record: &record_after,
             memory: memory_after,
         };
-        if !is_long {
-            self.check(buffers, call, &[done])?;
-            return Ok(answer);
+        self.check(buffers, call, &expected)?;
+        if uses_answer(call) && before.len() > ANSWER_WORDS {
+            self.tally.long_answers += 1;
         }
-        let refused = Expected {
-            returned: status::INTERNAL_ERROR as usize,
-            answer: before.clone(),
-            record: &record,
-            memory: &memory,
-        };
-        let which = self.check(buffers, call, &[done, refused])?;
-        self.tally.add_long_answer(which == 0);
         Ok(answer)
     }
 
@@ -269,34 +260,34 @@ impl<'a, L: Library> Comparison<'a, L> {
             Call::Read { .. } => 0,
             _ => status::INTERNAL_ERROR as usize,
         };
-        let with = |answer: Vec<u32>| Expected {
+        let is_cleared = uses_answer(call)
+            && before.len() >= ANSWER_WORDS
+            && !call.has_wrong_choice()
+            && is_record(record);
+        let mut answer = before.to_vec();
+        if is_cleared {
+            answer[..ANSWER_WORDS].fill(0);
+        }
+        let expected = Expected {
             returned,
             answer,
             record,
             memory,
         };
-        let mut either = vec![with(before.to_vec())];
-        if uses_answer(call) && before.len() >= ANSWER_WORDS {
-            let mut cleared = before.to_vec();
-            cleared[..ANSWER_WORDS].fill(0);
-            either.push(with(cleared));
-        }
-        let which = self.check(buffers, call, &either)?;
+        self.check(buffers, call, &expected)?;
         if uses_answer(call) {
-            self.tally.add_internal_error(which == 0);
+            self.tally.add_internal_error(is_cleared);
         }
         Ok(())
     }
 
-    /// Makes a call by the library and compares all that it leaves. Gives
-    /// which of the outcomes it is; one that is not expected is set beside
-    /// the first.
+    /// Makes a call by the library and compares all that it leaves.
     fn check(
         &mut self,
         buffers: [&[u32]; 3],
         call: &Call,
-        either: &[Expected],
-    ) -> Result<usize, String> {
+        expected: &Expected,
+    ) -> Result<(), String> {
         let [mut record, mut memory, mut answer] = buffers.map(Guarded::new);
         let buffers = Buffers {
             record: record.inner_mut(),
@@ -317,13 +308,9 @@ impl<'a, L: Library> Comparison<'a, L> {
             }
         }
         let (record, memory, answer) = (record.inner(), memory.inner(), answer.inner());
-        let found = either
-            .iter()
-            .position(|expected| expected.is(returned, record, memory, answer));
-        if let (Some(which), true) = (found, problems.is_empty()) {
-            return Ok(which);
+        if problems.is_empty() && expected.is(returned, record, memory, answer) {
+            return Ok(());
         }
-        let expected = &either[0];
         if returned != expected.returned {
             let wanted = expected.returned;
             let _ = writeln!(problems, "  returned {returned}, expected {wanted}");

@@ -22,8 +22,8 @@ pub enum Effect {
     Sound,
     /// Either.
     Any,
-    /// The answer is too short or too long; the record and the memory are
-    /// sound.
+    /// The answer has fewer or more words than needed; the record and the
+    /// memory are sound.
     WrongAnswer,
 }
 

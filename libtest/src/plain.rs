@@ -35,13 +35,13 @@ impl Library for Plain {
 
 /// Any call but a read and a write.
 fn directive(record: &mut [u32], memory: &mut [u32], answer: &mut [u32], call: &Call) -> u32 {
-    let is_sound = answer.len() == ANSWER_WORDS
-        && !call.has_wrong_choice()
-        && sound::check(record, memory).is_ok();
-    if !is_sound {
+    if answer.len() < ANSWER_WORDS || call.has_wrong_choice() || !is_record(record) {
         return status::INTERNAL_ERROR;
     }
-    answer.fill(0);
+    answer[..ANSWER_WORDS].fill(0);
+    if sound::check(record, memory).is_err() {
+        return status::INTERNAL_ERROR;
+    }
     let mut state = State {
         record,
         memory,

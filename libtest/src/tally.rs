@@ -29,8 +29,8 @@ pub struct Tally {
     answer_lengths: u64,
     /// Answers with status 25 that were left as they were, and cleared ones.
     internal_errors: [u64; 2],
-    /// Calls with an answer that is too long: done, and refused.
-    long_answers: [u64; 2],
+    /// Calls that were done with an answer of more words than needed.
+    pub long_answers: u64,
     /// The smallest and the largest memory.
     memories: Option<(usize, usize)>,
     /// The most live regions, live partitions and waiters at a time.
@@ -74,14 +74,9 @@ impl Tally {
         }
     }
 
-    /// A call that was answered 25, and whether its answer was left.
-    pub fn add_internal_error(&mut self, is_left: bool) {
-        self.internal_errors[usize::from(!is_left)] += 1;
-    }
-
-    /// A call with an answer that is too long, and whether it was done.
-    pub fn add_long_answer(&mut self, is_done: bool) {
-        self.long_answers[usize::from(!is_done)] += 1;
+    /// A call that was answered 25, and whether its answer was cleared.
+    pub fn add_internal_error(&mut self, is_cleared: bool) {
+        self.internal_errors[usize::from(is_cleared)] += 1;
     }
 
     /// Damage that was done: its kind, which clause is broken, and whether
@@ -125,6 +120,9 @@ impl Tally {
             (self.empty_reads, "a read that is empty"),
             (self.answer_lengths, "an answer of wrong length"),
             (self.client_words, "a client write"),
+            (self.long_answers, "an answer of more than 55 words"),
+            (self.internal_errors[0], "status 25 with the answer left"),
+            (self.internal_errors[1], "status 25 with the answer cleared"),
         ] {
             if count == 0 {
                 missing.push(what.to_string());
@@ -212,8 +210,11 @@ impl fmt::Display for Tally {
             f,
             "With status 25 the answer was left {left} times and cleared {cleared} times"
         )?;
-        let [done, refused] = self.long_answers;
-        writeln!(f, "With an answer that is too long, calls were done {done} times and refused {refused} times")?;
+        writeln!(
+            f,
+            "With an answer of more than 55 words calls were done {} times",
+            self.long_answers
+        )?;
 
         writeln!(
             f,

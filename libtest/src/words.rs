@@ -46,6 +46,12 @@ pub fn waiter_at(index: usize) -> usize {
     WAITERS_AT + index * WAITER_WORDS
 }
 
+/// Whether words can be a record at all, sound or not: as many as a record
+/// has, and each order a choice.
+pub fn is_record(words: &[u32]) -> bool {
+    words.len() == RECORD_WORDS && (0..SLOTS).all(|index| words[region_at(index) + 4] <= 1)
+}
+
 /// What a word of a record means, for messages.
 pub fn record_word_title(word: usize) -> String {
     const REGION: [&str; REGION_WORDS] = ["name", "start", "length", "page", "order"];
