@@ -9,6 +9,8 @@ mod program;
 mod script;
 mod tally;
 
+use directives::SCRIPT;
+use model::examples::{self, Example, Step};
 use program::Run;
 use std::io::{self, Write};
 use std::process::ExitCode;
@@ -25,8 +27,9 @@ Usage: compare PROGRAM SECOND [--seed N] [--scripts N]
   --scripts N       how many scripts to make up (default 2,000)
   --help            show this text
 
-At the first difference the script and both outputs are shown. At the end the
-scripts, statuses and bad lines are counted.
+The examples of the rules run first. At the first difference the script and
+both outputs are shown. At the end the scripts, statuses and bad lines are
+counted.
 
 Exit code 0: no difference, and every status and bad line has occurred.
 Exit code 1: a difference, a program that failed, or something never occurred.
@@ -105,16 +108,25 @@ fn number_after(option: &str, argument: Option<String>) -> Result<u64, String> {
     number.ok_or(format!("{option} needs a number"))
 }
 
-/// Compares the programs on all scripts. Both kinds of answer are reports.
+/// Compares the programs on the examples of the rules and on all scripts. Both
+/// kinds of answer are reports.
 fn compare(programs: &[String; 2], seed: u64, scripts: u64) -> Result<String, String> {
+    let tell = |title: &str, script: &[u8], problem: String| {
+        format!("{title}:\n{}\n{problem}\n", shown(script))
+    };
+    for example in examples::all() {
+        let script = script_of(&example);
+        agreed_output(programs, &script)
+            .map_err(|problem| tell(&format!("Example {}", example.title), &script, problem))?;
+    }
     let mut tally = Tally::default();
     for index in 0..scripts {
         let (kind, script) = kinds::script(seed, index);
         match agreed_output(programs, &script) {
             Ok(output) => tally.add(kind, &script, &output),
             Err(problem) => {
-                let title = format!("Script {index} of seed {seed} ({}):", kind.title());
-                return Err(format!("{title}\n{}\n{problem}\n", shown(&script)));
+                let title = format!("Script {index} of seed {seed} ({})", kind.title());
+                return Err(tell(&title, &script, problem));
             }
         }
     }
@@ -127,6 +139,16 @@ fn compare(programs: &[String; 2], seed: u64, scripts: u64) -> Result<String, St
         .iter()
         .map(|what| format!("Never occurred: {what}\n"));
     Err(report + &lines.collect::<String>())
+}
+
+/// The calls of an example that a script can have.
+fn script_of(example: &Example) -> Vec<u8> {
+    let call = |step: &Step| match step {
+        Step::Call(call, _) if SCRIPT.contains(&call.directive()) => Some(call.to_script()),
+        _ => None,
+    };
+    let calls: String = example.steps.iter().filter_map(call).collect();
+    calls.into_bytes()
 }
 
 /// Runs both programs on a script. Gives the output on which they agree, or

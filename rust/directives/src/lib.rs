@@ -10,14 +10,14 @@ use words::status;
 
 /// Hands the table to a macro. Each row has the directive, its name in a
 /// script, its function in the library, its keys in order and the statuses
-/// that it can be answered with, beside 25 for unsound records. `script` has
-/// the calls of a script; `library` those that only the library has, over
-/// the words of a segment.
+/// that it can be answered with, beside 25 for unsound records. `SCRIPT` are
+/// the calls of a script, `LIBRARY` those that only the library has: over the
+/// words of a segment.
 #[macro_export]
 macro_rules! with_table {
     ($callback:ident) => {
         $callback! {
-            script {
+            SCRIPT {
                 CreateRegion "create-region" sc_region_create { name, start, length, page, order } [0, 3, 5, 8, 9];
                 IdentRegion "ident-region" sc_region_ident { name } [0, 3];
                 DeleteRegion "delete-region" sc_region_delete { id } [0, 4, 12];
@@ -33,7 +33,7 @@ macro_rules! with_table {
                 ReturnBuffer "return-buffer" sc_partition_return_buffer { id, address } [0, 4, 9];
                 Tick "tick" sc_clock_tick [0];
             }
-            library {
+            LIBRARY {
                 Read "read" sc_segment_read { id, address } [];
                 Write "write" sc_segment_write { id, address, first; words } [0, 4, 8, 9];
             }
@@ -42,21 +42,14 @@ macro_rules! with_table {
 }
 
 macro_rules! define {
-    (
-        script { $($script:ident $script_name:literal $_f:ident $({ $($_k:ident),* })? [$($_s:literal),*];)* }
-        library { $($library:ident $library_name:literal $_g:ident { $($_l:ident),* $(; $_d:ident)? } [$($_t:literal),*];)* }
-    ) => {
-        /// The directives of a script.
-        pub const SCRIPT: &[Directive] = &[$(Directive::$script),*];
-        $crate::with_table!(define_calls);
-    };
-}
-
-macro_rules! define_calls {
-    ($($_group:ident {
+    ($($GROUP:ident {
         $($Variant:ident $name:literal $function:ident
             $({ $($key:ident),* $(; $data:ident)? })? [$($status:literal),*];)*
     })*) => {
+        $(
+            pub const $GROUP: &[Directive] = &[$(Directive::$Variant),*];
+        )*
+
         /// A call with its arguments. Choices (`order`, `wait`) are plain words,
         /// so that wrong ones can be passed too.
         #[derive(Clone, Debug, PartialEq, Eq)]

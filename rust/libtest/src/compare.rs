@@ -7,9 +7,10 @@
 //! none.
 
 use crate::call::{Buffers, Library};
-use crate::damage::{self, Effect, State};
+use crate::damage::{self, Effect};
 use crate::lists::{self, List};
 use crate::sound;
+use crate::state::State;
 use crate::tally::Tally;
 use author::Random;
 use directives::words::*;

@@ -7,11 +7,11 @@ use std::ptr;
 /// those on the words of a segment start with the three buffers.
 macro_rules! link {
     (
-        script {
+        SCRIPT {
             $($Variant:ident $name:literal $function:ident
                 $({ $($key:ident),* })? [$($status:literal),*];)*
         }
-        library { $($rest:tt)* }
+        LIBRARY { $($rest:tt)* }
     ) => {
         extern "C" {
             $(

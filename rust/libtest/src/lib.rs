@@ -7,6 +7,7 @@
 //!   The benchmarks set the library beside it, and the tests here use it to
 //!   show that the comparison works.
 //! - [`lists`]: made-up lists of calls and client writes.
+//! - [`state`]: the raw words that go into a call, read and changed by hand.
 //! - [`damage`]: made-up damage to a record, a memory or a length.
 //! - [`compare`]: runs made-up calls and compares every word with the model.
 //! - [`tally`]: counts what occurred.
@@ -20,6 +21,7 @@ pub mod ffi;
 pub mod lists;
 pub mod plain;
 pub mod sound;
+pub mod state;
 pub mod tally;
 
 pub use directives::words;

@@ -7,147 +7,71 @@
 use directives::words::*;
 use std::fmt;
 
-/// What is asked of a sound record and memory, one clause for each thing that
-/// can be wrong.
-#[derive(Clone, Copy, Debug, PartialEq, Eq, PartialOrd, Ord)]
-pub enum Clause {
-    RecordLength,
-    MemoryLength,
-    OrderChoice,
-    RegionSlotNotZero,
-    RegionStartZero,
-    RegionPastMemory,
-    PageNotRounded,
-    PageTooLarge,
-    RegionWithoutPage,
-    PartitionSlotNotZero,
-    PartitionStartZero,
-    PartitionStartUnaligned,
-    PartitionPastMemory,
-    BufferSizeUnaligned,
-    BufferSizeTooSmall,
-    PartitionWithoutBuffer,
-    RegionsOverlap,
-    PartitionsOverlap,
-    RegionAndPartitionOverlap,
-    SegmentWithoutPage,
-    SegmentPastPages,
-    InnerMapWordNotZero,
-    FreeSegmentsAdjoin,
-    EndsOfEmptyChain,
-    FreeCountTooLarge,
-    ChainTooShort,
-    NotABuffer,
-    BackLink,
-    ChainTooLong,
-    Rear,
-    PlaceNotZero,
-    UsedPlaceAfterUnused,
-    TaskNumber,
-    TaskTwice,
-    WaiterRegionId,
-    WaiterRegionEmpty,
-    NothingHeld,
-    WaiterSizeZero,
-    WaiterSizeTooLarge,
-    WaiterPriority,
-    RegionsNotAscending,
-    PriorityOrder,
+macro_rules! clauses {
+    ($($Clause:ident => $title:literal,)*) => {
+        /// What is asked of a sound record and memory, one clause for each
+        /// thing that can be wrong.
+        #[derive(Clone, Copy, Debug, PartialEq, Eq, PartialOrd, Ord)]
+        pub enum Clause {
+            $($Clause,)*
+        }
+
+        impl Clause {
+            pub const ALL: &[Clause] = &[$(Clause::$Clause),*];
+
+            /// What is wrong where the clause is broken.
+            pub fn title(self) -> &'static str {
+                match self {
+                    $(Clause::$Clause => $title,)*
+                }
+            }
+        }
+    };
 }
 
-impl Clause {
-    pub const ALL: [Clause; 42] = [
-        Clause::RecordLength,
-        Clause::MemoryLength,
-        Clause::OrderChoice,
-        Clause::RegionSlotNotZero,
-        Clause::RegionStartZero,
-        Clause::RegionPastMemory,
-        Clause::PageNotRounded,
-        Clause::PageTooLarge,
-        Clause::RegionWithoutPage,
-        Clause::PartitionSlotNotZero,
-        Clause::PartitionStartZero,
-        Clause::PartitionStartUnaligned,
-        Clause::PartitionPastMemory,
-        Clause::BufferSizeUnaligned,
-        Clause::BufferSizeTooSmall,
-        Clause::PartitionWithoutBuffer,
-        Clause::RegionsOverlap,
-        Clause::PartitionsOverlap,
-        Clause::RegionAndPartitionOverlap,
-        Clause::SegmentWithoutPage,
-        Clause::SegmentPastPages,
-        Clause::InnerMapWordNotZero,
-        Clause::FreeSegmentsAdjoin,
-        Clause::EndsOfEmptyChain,
-        Clause::FreeCountTooLarge,
-        Clause::ChainTooShort,
-        Clause::NotABuffer,
-        Clause::BackLink,
-        Clause::ChainTooLong,
-        Clause::Rear,
-        Clause::PlaceNotZero,
-        Clause::UsedPlaceAfterUnused,
-        Clause::TaskNumber,
-        Clause::TaskTwice,
-        Clause::WaiterRegionId,
-        Clause::WaiterRegionEmpty,
-        Clause::NothingHeld,
-        Clause::WaiterSizeZero,
-        Clause::WaiterSizeTooLarge,
-        Clause::WaiterPriority,
-        Clause::RegionsNotAscending,
-        Clause::PriorityOrder,
-    ];
-
-    /// What is wrong where the clause is broken.
-    pub fn title(self) -> &'static str {
-        match self {
-            Clause::RecordLength => "record not of 176 words",
-            Clause::MemoryLength => "memory not of 1 to 16,384 words",
-            Clause::OrderChoice => "order neither 0 nor 1",
-            Clause::RegionSlotNotZero => "empty region slot not zero",
-            Clause::RegionStartZero => "region's start 0",
-            Clause::RegionPastMemory => "region past the memory",
-            Clause::PageNotRounded => "page 0 or not a multiple of 8",
-            Clause::PageTooLarge => "page above 4,096",
-            Clause::RegionWithoutPage => "region without a page",
-            Clause::PartitionSlotNotZero => "empty partition slot not zero",
-            Clause::PartitionStartZero => "partition's start 0",
-            Clause::PartitionStartUnaligned => "partition's start not a multiple of 4",
-            Clause::PartitionPastMemory => "partition past the memory",
-            Clause::BufferSizeUnaligned => "buffer size not a multiple of 4",
-            Clause::BufferSizeTooSmall => "buffer size below 8",
-            Clause::PartitionWithoutBuffer => "partition's length below its buffer size",
-            Clause::RegionsOverlap => "two regions overlap",
-            Clause::PartitionsOverlap => "two partitions overlap",
-            Clause::RegionAndPartitionOverlap => "a region and a partition overlap",
-            Clause::SegmentWithoutPage => "map: segment of no page",
-            Clause::SegmentPastPages => "map: segment past the pages",
-            Clause::InnerMapWordNotZero => "map: inner word not 0",
-            Clause::FreeSegmentsAdjoin => "map: two free segments adjoin",
-            Clause::EndsOfEmptyChain => "chain: no free buffer, but an end not 0",
-            Clause::FreeCountTooLarge => "chain: more free buffers than buffers",
-            Clause::ChainTooShort => "chain: ends before the free count",
-            Clause::NotABuffer => "chain: address of no buffer",
-            Clause::BackLink => "chain: back link wrong",
-            Clause::ChainTooLong => "chain: goes on after the free count",
-            Clause::Rear => "chain: last buffer not the rear",
-            Clause::PlaceNotZero => "unused waiter's place not zero",
-            Clause::UsedPlaceAfterUnused => "used waiter's place after an unused one",
-            Clause::TaskNumber => "waiter: task above 16",
-            Clause::TaskTwice => "waiter: task waits twice",
-            Clause::WaiterRegionId => "waiter: region id not 1 to 8",
-            Clause::WaiterRegionEmpty => "waiter: region's slot empty",
-            Clause::NothingHeld => "waiter: nothing held in the region",
-            Clause::WaiterSizeZero => "waiter: size 0",
-            Clause::WaiterSizeTooLarge => "waiter: size above the region's pages",
-            Clause::WaiterPriority => "waiter: priority not 1 to 255",
-            Clause::RegionsNotAscending => "queue: regions not ascending",
-            Clause::PriorityOrder => "queue: priorities not ascending",
-        }
-    }
+clauses! {
+    RecordLength => "record not of 176 words",
+    MemoryLength => "memory not of 1 to 16,384 words",
+    OrderChoice => "order neither 0 nor 1",
+    RegionSlotNotZero => "empty region slot not zero",
+    RegionStartZero => "region's start 0",
+    RegionPastMemory => "region past the memory",
+    PageNotRounded => "page 0 or not a multiple of 8",
+    PageTooLarge => "page above 4,096",
+    RegionWithoutPage => "region without a page",
+    PartitionSlotNotZero => "empty partition slot not zero",
+    PartitionStartZero => "partition's start 0",
+    PartitionStartUnaligned => "partition's start not a multiple of 4",
+    PartitionPastMemory => "partition past the memory",
+    BufferSizeUnaligned => "buffer size not a multiple of 4",
+    BufferSizeTooSmall => "buffer size below 8",
+    PartitionWithoutBuffer => "partition's length below its buffer size",
+    RegionsOverlap => "two regions overlap",
+    PartitionsOverlap => "two partitions overlap",
+    RegionAndPartitionOverlap => "a region and a partition overlap",
+    SegmentWithoutPage => "map: segment of no page",
+    SegmentPastPages => "map: segment past the pages",
+    InnerMapWordNotZero => "map: inner word not 0",
+    FreeSegmentsAdjoin => "map: two free segments adjoin",
+    EndsOfEmptyChain => "chain: no free buffer, but an end not 0",
+    FreeCountTooLarge => "chain: more free buffers than buffers",
+    ChainTooShort => "chain: ends before the free count",
+    NotABuffer => "chain: address of no buffer",
+    BackLink => "chain: back link wrong",
+    ChainTooLong => "chain: goes on after the free count",
+    Rear => "chain: last buffer not the rear",
+    PlaceNotZero => "unused waiter's place not zero",
+    UsedPlaceAfterUnused => "used waiter's place after an unused one",
+    TaskNumber => "waiter: task above 16",
+    TaskTwice => "waiter: task waits twice",
+    WaiterRegionId => "waiter: region id not 1 to 8",
+    WaiterRegionEmpty => "waiter: region's slot empty",
+    NothingHeld => "waiter: nothing held in the region",
+    WaiterSizeZero => "waiter: size 0",
+    WaiterSizeTooLarge => "waiter: size above the region's pages",
+    WaiterPriority => "waiter: priority not 1 to 255",
+    RegionsNotAscending => "queue: regions not ascending",
+    PriorityOrder => "queue: priorities not ascending",
 }
 
 impl fmt::Display for Clause {

@@ -142,7 +142,7 @@ impl Tally {
                 missing.push(format!("damage: {}", kind.title));
             }
         }
-        for clause in Clause::ALL {
+        for &clause in Clause::ALL {
             if !self.clauses.contains_key(&clause) {
                 missing.push(format!("broken clause: {clause}"));
             }

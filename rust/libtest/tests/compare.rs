@@ -53,7 +53,7 @@ fn plain(buffers: &mut Buffers, call: &Call) -> usize {
 
 #[test]
 fn each_clause_that_is_not_checked_is_found() {
-    for clause in Clause::ALL {
+    for &clause in Clause::ALL {
         must_be_found(clause.title(), |b, call| {
             let broken = sound::check(b.record, b.memory);
             if broken == Err(clause) && call.directive() == Directive::IdentRegion {

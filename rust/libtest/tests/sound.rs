@@ -447,7 +447,7 @@ fn broken_clauses_are_named() {
         }
     }
     let tried: BTreeSet<Clause> = broken.iter().map(|(clause, _)| *clause).collect();
-    assert_eq!(tried, Clause::ALL.into_iter().collect());
+    assert_eq!(tried, Clause::ALL.iter().copied().collect());
 }
 
 /// The layout that the check of a record finds by a division is the one that
