@@ -11,49 +11,13 @@ use directives::{Call, Directive};
 use model::Model;
 pub use random::Random;
 
-/// Numbers at the edges of what a rule or a number type allows.
-pub const EDGES: [u32; 36] = {
-    const MAX: u32 = u32::MAX;
-    const HALF: u32 = 1 << 31;
-    [
-        0,
-        1,
-        2,
-        3,
-        4,
-        7,
-        8,
-        9,
-        15,
-        16,
-        17,
-        63,
-        64,
-        65,
-        255,
-        256,
-        257,
-        4_095,
-        4_096,
-        4_097,
-        16_383,
-        16_384,
-        16_385,
-        65_532,
-        65_535,
-        65_536,
-        65_537,
-        HALF - 1,
-        HALF,
-        HALF + 1,
-        MAX - 65_535,
-        MAX - 64,
-        MAX - 63,
-        MAX - 7,
-        MAX - 1,
-        MAX,
-    ]
-};
+/// Numbers at the edges of what a rule or a number type allows; the last ones
+/// are around 2^31 and below 2^32.
+pub const EDGES: [u32; 36] = [
+    0, 1, 2, 3, 4, 7, 8, 9, 15, 16, 17, 63, 64, 65, 255, 256, 257, 4_095, 4_096, 4_097, 16_383,
+    16_384, 16_385, 65_532, 65_535, 65_536, 65_537, 2147483647, 2147483648, 2147483649, 4294901760,
+    4294967231, 4294967232, 4294967288, 4294967294, 4294967295,
+];
 
 /// What the calls of one list have in common.
 #[derive(Clone, Debug)]
