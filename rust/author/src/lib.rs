@@ -74,66 +74,34 @@ pub struct Author<'a> {
 impl Author<'_> {
     /// A call of one directive.
     pub fn call_of(&mut self, directive: Directive) -> Call {
-        match directive {
-            Directive::CreateRegion => {
+        use Directive::*;
+        let arguments = match directive {
+            CreateRegion => {
                 let (start, length) = self.area(1);
-                Call::CreateRegion {
-                    name: self.name(),
-                    start,
-                    length,
-                    page: self.unit(1, length),
-                    order: self.choice(50),
-                }
+                let page = self.unit(1, length);
+                vec![self.name(), start, length, page, self.choice(50)]
             }
-            Directive::CreatePartition => {
+            CreatePartition => {
                 let (start, length) = self.area(4);
-                Call::CreatePartition {
-                    name: self.name(),
-                    start,
-                    length,
-                    size: self.unit(4, length),
-                }
+                vec![self.name(), start, length, self.unit(4, length)]
             }
-            Directive::IdentRegion => Call::IdentRegion { name: self.name() },
-            Directive::IdentPartition => Call::IdentPartition { name: self.name() },
-            Directive::DeleteRegion => Call::DeleteRegion {
-                id: self.region_id(),
-            },
-            Directive::DeletePartition => Call::DeletePartition {
-                id: self.partition_id(),
-            },
-            Directive::Information => Call::Information {
-                id: self.region_id(),
-            },
-            Directive::GetBuffer => Call::GetBuffer {
-                id: self.partition_id(),
-            },
-            Directive::ReturnBuffer => {
+            IdentRegion | IdentPartition => vec![self.name()],
+            DeleteRegion | Information => vec![self.region_id()],
+            DeletePartition | GetBuffer => vec![self.partition_id()],
+            ReturnBuffer => {
                 let id = self.busy_partition();
-                let address = self.buffer(id);
-                Call::ReturnBuffer { id, address }
+                vec![id, self.buffer(id)]
             }
-            Directive::Get => self.get(),
-            Directive::Return => {
-                let (id, address) = self.segment();
-                Call::Return { id, address }
+            Get => self.get(),
+            Return | Size | Read => self.segment().to_vec(),
+            Resize => {
+                let [id, address] = self.segment();
+                vec![id, address, self.new_size(id, address)]
             }
-            Directive::Size => {
-                let (id, address) = self.segment();
-                Call::Size { id, address }
-            }
-            Directive::Read => {
-                let (id, address) = self.segment();
-                Call::Read { id, address }
-            }
-            Directive::Resize => {
-                let (id, address) = self.segment();
-                let size = self.new_size(id, address);
-                Call::Resize { id, address, size }
-            }
-            Directive::Write => self.write(),
-            Directive::Tick => Call::Tick,
-        }
+            Write => return self.write(),
+            Tick => vec![],
+        };
+        directive.call(&arguments)
     }
 
     fn is_odd(&mut self) -> bool {
@@ -358,16 +326,11 @@ impl Author<'_> {
         more.saturating_sub(less).max(1)
     }
 
-    fn get(&mut self) -> Call {
+    /// The arguments of a get.
+    fn get(&mut self) -> Vec<u32> {
         let id = self.region_id();
-        Call::Get {
-            id,
-            size: self.size(id),
-            wait: self.choice(self.style.waits),
-            task: self.task(),
-            priority: self.priority(),
-            ticks: self.ticks(),
-        }
+        let (size, wait) = (self.size(id), self.choice(self.style.waits));
+        vec![id, size, wait, self.task(), self.priority(), self.ticks()]
     }
 
     fn task(&mut self) -> u32 {
@@ -404,12 +367,12 @@ impl Author<'_> {
     }
 
     /// The id of a region and mostly the address of one of its held segments.
-    fn segment(&mut self) -> (u32, u32) {
+    fn segment(&mut self) -> [u32; 2] {
         let id = self.busy_region();
         let held = self.model.segments_held(id, true);
         match self.random.pick_any(&held) {
-            Some(segment) if !self.is_odd() => (id, segment.address),
-            _ => (id, self.odd_segment(id)),
+            Some(segment) if !self.is_odd() => [id, segment.address],
+            _ => [id, self.odd_segment(id)],
         }
     }
 
@@ -459,7 +422,7 @@ impl Author<'_> {
     }
 
     fn write(&mut self) -> Call {
-        let (id, address) = self.segment();
+        let [id, address] = self.segment();
         let held = self.model.segments_held(id, true);
         let segment = held.iter().find(|segment| segment.address == address);
         let length = segment.map_or(4, |segment| segment.length / 4);

@@ -158,13 +158,7 @@ impl<'a, L: Library> Comparison<'a, L> {
         let (record_after, memory_after) = (model.record(), model.memory());
         sound::check(&record_after, memory_after)
             .map_err(|clause| format!("{call:?} leaves the model unsound: {clause}"))?;
-        self.tally.sound_calls += 1;
-        self.tally.add_answer(&answer);
-        self.tally.add_objects([
-            model.region_ids().len(),
-            model.partition_ids().len(),
-            model.waiting_tasks().len(),
-        ]);
+        self.tally.add_sound_call(&answer, model);
 
         let buffers = [&record[..], &memory, &before];
         if answer.is_internal_error() {
@@ -198,7 +192,6 @@ impl<'a, L: Library> Comparison<'a, L> {
         if (kind.apply)(random, &mut state).is_none() {
             return Ok(());
         }
-        let tell = |problem: String| format!("damage '{}':\n{problem}", kind.title);
         let soundness = sound::check(&state.record, &state.memory);
         let wrong_answer = state.answer_words != ANSWER_WORDS;
         self.tally.add_damage(kind.title, soundness, wrong_answer);
@@ -208,38 +201,49 @@ impl<'a, L: Library> Comparison<'a, L> {
             Effect::WrongAnswer => soundness.is_ok() && wrong_answer,
             Effect::Any => true,
         };
-        if !as_meant {
-            return Err(tell(format!(
-                "the check says {soundness:?}, but the damage is meant to be {:?}",
-                kind.effect
-            )));
+        let result = match soundness {
+            _ if !as_meant => Err(format!("{:?} is meant, not {soundness:?}", kind.effect)),
+            Err(_) => self.on_unsound(random, list, model, &state),
+            Ok(()) => self.on_sound(random, list, &state),
+        };
+        result.map_err(|problem| format!("damage '{}':\n{problem}", kind.title))
+    }
+
+    /// Makes a call of each directive on unsound words, as if they were those
+    /// of the model.
+    fn on_unsound(
+        &mut self,
+        random: &mut Random,
+        list: &List,
+        model: &Model,
+        state: &State,
+    ) -> Result<(), String> {
+        for &directive in Directive::ALL {
+            let call = list.call_of(directive, random, model);
+            self.refused(random, state, &call)?;
         }
-        if soundness.is_err() {
-            for &directive in Directive::ALL {
-                let call = list.call_of(directive, random, model);
-                self.refused(random, &state, &call).map_err(tell)?;
-            }
-            return Ok(());
-        }
-        let found = Model::from_record(&state.record, &state.memory);
+        Ok(())
+    }
+
+    /// Makes a call of each directive on sound words that no call has left,
+    /// and a few calls that go on from there.
+    fn on_sound(&mut self, random: &mut Random, list: &List, state: &State) -> Result<(), String> {
+        let mut found = Model::from_record(&state.record, &state.memory);
         if found.record() != state.record[..] || found.memory() != state.memory {
-            return Err(tell("the model found in the words has others".to_string()));
+            return Err("the model found in the words has others".to_string());
         }
         for &directive in Directive::ALL {
             let call = list.call_of(directive, random, &found);
-            if call.directive().has_answer() && state.answer_words < ANSWER_WORDS {
-                self.refused(random, &state, &call).map_err(tell)?;
+            if directive.has_answer() && state.answer_words < ANSWER_WORDS {
+                self.refused(random, state, &call)?;
             } else {
                 let words = state.answer_words.max(ANSWER_WORDS);
-                self.step_with(random, &mut found.clone(), &call, words)
-                    .map_err(tell)?;
+                self.step_with(random, &mut found.clone(), &call, words)?;
             }
         }
-        // A few calls go on from there.
-        let mut found = found;
         for _ in 0..random.between(0, 8) {
             let call = list.call(random, &found);
-            self.step(random, &mut found, &call).map_err(tell)?;
+            self.step(random, &mut found, &call)?;
         }
         Ok(())
     }

@@ -97,57 +97,60 @@ fn pointer_mut(words: &mut [u32]) -> *mut u32 {
     }
 }
 
+fn read(buffers: Buffers, id: u32, address: u32) -> usize {
+    let Buffers {
+        record,
+        memory,
+        answer,
+    } = buffers;
+    // SAFETY: as above.
+    unsafe {
+        sc_segment_read(
+            pointer(record),
+            record.len(),
+            pointer(memory),
+            memory.len(),
+            pointer_mut(answer),
+            answer.len(),
+            id,
+            address,
+        )
+    }
+}
+
+fn write(buffers: Buffers, words: &[u32], id: u32, address: u32, first: u32) -> u32 {
+    let Buffers { record, memory, .. } = buffers;
+    // SAFETY: as above; `words` is a buffer of its own.
+    unsafe {
+        sc_segment_write(
+            pointer(record),
+            record.len(),
+            pointer_mut(memory),
+            memory.len(),
+            pointer(words),
+            words.len(),
+            id,
+            address,
+            first,
+        )
+    }
+}
+
 /// The linked library.
 #[derive(Clone, Copy, Debug, Default)]
 pub struct Linked;
 
 impl Library for Linked {
     fn call(&mut self, buffers: Buffers, call: &Call) -> usize {
-        let status = match *call {
-            Call::Read { id, address } => {
-                let Buffers {
-                    record,
-                    memory,
-                    answer,
-                } = buffers;
-                // SAFETY: as above.
-                return unsafe {
-                    sc_segment_read(
-                        pointer(record),
-                        record.len(),
-                        pointer(memory),
-                        memory.len(),
-                        pointer_mut(answer),
-                        answer.len(),
-                        id,
-                        address,
-                    )
-                };
-            }
+        match *call {
+            Call::Read { id, address } => read(buffers, id, address),
             Call::Write {
                 id,
                 address,
                 first,
                 ref words,
-            } => {
-                let Buffers { record, memory, .. } = buffers;
-                // SAFETY: as above; `words` is a buffer of its own.
-                unsafe {
-                    sc_segment_write(
-                        pointer(record),
-                        record.len(),
-                        pointer_mut(memory),
-                        memory.len(),
-                        pointer(words),
-                        words.len(),
-                        id,
-                        address,
-                        first,
-                    )
-                }
-            }
-            _ => directive(buffers, call),
-        };
-        status as usize
+            } => write(buffers, words, id, address, first) as usize,
+            _ => directive(buffers, call) as usize,
+        }
     }
 }

@@ -4,6 +4,7 @@ use crate::damage;
 use crate::sound::Clause;
 use directives::words::{status, SLOTS, TASKS};
 use directives::{Answer, Directive};
+use model::Model;
 use std::collections::BTreeMap;
 use std::fmt;
 
@@ -42,8 +43,17 @@ impl Tally {
         self.memories = Some((least.min(words), most.max(words)));
     }
 
-    /// How many regions, partitions and waiters there are in a state.
-    pub fn add_objects(&mut self, counts: [usize; 3]) {
+    /// A call on sound words: what the model answers, and the state it is in then.
+    pub fn add_sound_call(&mut self, answer: &Answer, model: &Model) {
+        self.sound_calls += 1;
+        for notice in &answer.notices {
+            *self.notices.entry(notice.status).or_default() += 1;
+        }
+        let counts = [
+            model.region_ids().len(),
+            model.partition_ids().len(),
+            model.waiting_tasks().len(),
+        ];
         for (most, count) in self.fullest.iter_mut().zip(counts) {
             *most = count.max(*most);
         }
@@ -64,12 +74,6 @@ impl Tally {
                 .statuses
                 .entry((directive, returned as u32))
                 .or_default() += 1;
-        }
-    }
-
-    pub fn add_answer(&mut self, answer: &Answer) {
-        for notice in &answer.notices {
-            *self.notices.entry(notice.status).or_default() += 1;
         }
     }
 
@@ -106,6 +110,31 @@ impl Tally {
 
     /// What should have occurred at least once and did not.
     pub fn missing(&self) -> Vec<String> {
+        let mut missing = self.missing_statuses();
+        let counts = [
+            (self.full_reads, "a read that is not empty"),
+            (self.empty_reads, "a read that is empty"),
+            (self.answer_lengths, "an answer of wrong length"),
+            (self.client_words, "a client write"),
+            (self.long_answers, "an answer of more than 55 words"),
+            (self.internal_errors[0], "status 25 with the answer left"),
+            (self.internal_errors[1], "status 25 with the answer cleared"),
+        ];
+        let never = counts.iter().filter(|(count, _)| *count == 0);
+        missing.extend(never.map(|(_, what)| what.to_string()));
+        if self.fullest != [SLOTS, SLOTS, TASKS] {
+            missing.push("full tables of regions, partitions and waiters".to_string());
+        }
+        let titles = damage::KINDS.iter().map(|kind| kind.title);
+        let never = titles.filter(|title| !self.damages.contains_key(title));
+        missing.extend(never.map(|title| format!("damage: {title}")));
+        let clauses = Clause::ALL.iter();
+        let never = clauses.filter(|clause| !self.clauses.contains_key(clause));
+        missing.extend(never.map(|clause| format!("broken clause: {clause}")));
+        missing
+    }
+
+    fn missing_statuses(&self) -> Vec<String> {
         let mut missing = Vec::new();
         for &directive in Directive::ALL {
             // Every function that has a status can say that the words are unsound.
@@ -116,76 +145,22 @@ impl Tally {
                 }
             }
         }
-        for (count, what) in [
-            (self.full_reads, "a read that is not empty"),
-            (self.empty_reads, "a read that is empty"),
-            (self.answer_lengths, "an answer of wrong length"),
-            (self.client_words, "a client write"),
-            (self.long_answers, "an answer of more than 55 words"),
-            (self.internal_errors[0], "status 25 with the answer left"),
-            (self.internal_errors[1], "status 25 with the answer cleared"),
-        ] {
-            if count == 0 {
-                missing.push(what.to_string());
-            }
-        }
-        if self.fullest != [SLOTS, SLOTS, TASKS] {
-            missing.push("full tables of regions, partitions and waiters".to_string());
-        }
         for status in [status::SUCCESSFUL, status::TIMEOUT] {
             if !self.notices.contains_key(&status) {
                 missing.push(format!("a notice with status {status}"));
             }
         }
-        for kind in damage::KINDS {
-            if !self.damages.contains_key(kind.title) {
-                missing.push(format!("damage: {}", kind.title));
-            }
-        }
-        for &clause in Clause::ALL {
-            if !self.clauses.contains_key(&clause) {
-                missing.push(format!("broken clause: {clause}"));
-            }
-        }
         missing
     }
-}
 
-impl fmt::Display for Tally {
-    fn fmt(&self, f: &mut fmt::Formatter) -> fmt::Result {
-        let (least, most) = self.memories.unwrap_or_default();
-        writeln!(
-            f,
-            "{} calls: {} on sound records, {} on damaged ones or with wrong lengths",
-            self.calls,
-            self.sound_calls,
-            self.calls - self.sound_calls
-        )?;
-        writeln!(
-            f,
-            "{} lists of calls over memories of {least} to {most} words, {} words written by clients between calls",
-            self.lists, self.client_words
-        )?;
-        let [regions, partitions, waiters] = self.fullest;
-        writeln!(
-            f,
-            "At most {regions} regions, {partitions} partitions and {waiters} waiters at a time"
-        )?;
-
+    fn write_calls(&self, f: &mut fmt::Formatter) -> fmt::Result {
         writeln!(f, "\nCalls by function and status:")?;
         for &directive in Directive::ALL {
-            write!(
-                f,
-                "  {:<28}{:>9}",
-                directive.function(),
-                self.calls_of(directive)
-            )?;
+            let (function, calls) = (directive.function(), self.calls_of(directive));
+            write!(f, "  {function:<28}{calls:>9}")?;
             if directive == Directive::Read {
-                write!(
-                    f,
-                    "  words: {}  none: {}",
-                    self.full_reads, self.empty_reads
-                )?;
+                let (full, empty) = (self.full_reads, self.empty_reads);
+                write!(f, "  words: {full}  none: {empty}")?;
             }
             for (&(of, status), count) in &self.statuses {
                 if of == directive {
@@ -194,7 +169,10 @@ impl fmt::Display for Tally {
             }
             writeln!(f)?;
         }
+        Ok(())
+    }
 
+    fn write_statuses(&self, f: &mut fmt::Formatter) -> fmt::Result {
         writeln!(f, "\nCalls by status:")?;
         let mut totals: BTreeMap<u32, u64> = BTreeMap::new();
         for (&(_, status), count) in &self.statuses {
@@ -211,28 +189,53 @@ impl fmt::Display for Tally {
             f,
             "With status 25 the answer was left {left} times and cleared {cleared} times"
         )?;
+        let long = self.long_answers;
         writeln!(
             f,
-            "With an answer of more than 55 words calls were done {} times",
-            self.long_answers
-        )?;
+            "With an answer of more than 55 words calls were done {long} times"
+        )
+    }
 
+    fn write_damage(&self, f: &mut fmt::Formatter) -> fmt::Result {
         writeln!(
             f,
-            "\nDamage by kind:                                          times  still sound"
+            "\n{:<54}{:>9}{:>13}",
+            "Damage by kind:", "times", "still sound"
         )?;
         for (title, (count, sound)) in &self.damages {
             writeln!(f, "  {title:<52}{count:>9}{sound:>13}")?;
         }
-
         writeln!(f, "\nFirst broken clause:")?;
         for (clause, count) in &self.clauses {
             writeln!(f, "  {:<52}{count:>9}", clause.title())?;
         }
+        let lengths = self.answer_lengths;
+        writeln!(f, "  {:<52}{lengths:>9}", "answer not of 55 words")
+    }
+}
+
+impl fmt::Display for Tally {
+    fn fmt(&self, f: &mut fmt::Formatter) -> fmt::Result {
+        let (calls, sound) = (self.calls, self.sound_calls);
+        let damaged = calls - sound;
         writeln!(
             f,
-            "  {:<52}{:>9}",
-            "answer not of 55 words", self.answer_lengths
-        )
+            "{calls} calls: {sound} on sound records, {damaged} on damaged ones or with wrong lengths"
+        )?;
+        let (lists, written) = (self.lists, self.client_words);
+        let (least, most) = self.memories.unwrap_or_default();
+        writeln!(
+            f,
+            "{lists} lists of calls over memories of {least} to {most} words, {written} words \
+             written by clients between calls"
+        )?;
+        let [regions, partitions, waiters] = self.fullest;
+        writeln!(
+            f,
+            "At most {regions} regions, {partitions} partitions and {waiters} waiters at a time"
+        )?;
+        self.write_calls(f)?;
+        self.write_statuses(f)?;
+        self.write_damage(f)
     }
 }

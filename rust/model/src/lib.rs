@@ -137,12 +137,8 @@ impl Model {
             if task != 0 {
                 let region = live_mut(&mut model.regions, region);
                 let region = region.expect("a waiter's region is live");
-                region.queue.push_back(Waiter {
-                    task,
-                    size,
-                    priority,
-                    ticks,
-                });
+                let waiter = Waiter::new(task, size, priority, ticks);
+                region.queue.push_back(waiter);
             }
         }
         model
@@ -222,24 +218,13 @@ impl Model {
                 priority,
                 ticks,
             } => {
-                let waiter = Waiter {
-                    task,
-                    size,
-                    priority,
-                    ticks,
-                };
+                let waiter = Waiter::new(task, size, priority, ticks);
                 self.get(id, size, (wait == 1).then_some(waiter))
             }
             Call::Return { id, address } => self.return_segment(id, address),
-            Call::Size { id, address } => {
-                let words = self.segment_words(id, address)?;
-                Ok(Answer::value(4 * words.len() as u32))
-            }
+            Call::Size { id, address } => self.size(id, address),
             Call::Resize { id, address, size } => self.resize(id, address, size),
-            Call::Information { id } => Ok(Answer {
-                information: live(&self.regions, id)?.information(),
-                ..Answer::default()
-            }),
+            Call::Information { id } => self.information(id),
             Call::CreatePartition {
                 name,
                 start,
@@ -250,14 +235,8 @@ impl Model {
             Call::DeletePartition { id } => self.delete_partition(id),
             Call::GetBuffer { id } => self.get_buffer(id),
             Call::ReturnBuffer { id, address } => self.return_buffer(id, address),
-            Call::Tick => {
-                let regions = self.regions.iter_mut().flatten();
-                Ok(Answer::notices(regions.flat_map(Region::tick).collect()))
-            }
-            Call::Read { id, address } => Ok(Answer {
-                words: self.segment_words(id, address).unwrap_or(&[]).to_vec(),
-                ..Answer::default()
-            }),
+            Call::Tick => Ok(self.tick()),
+            Call::Read { id, address } => Ok(self.read(id, address)),
             Call::Write {
                 id,
                 address,
@@ -328,6 +307,11 @@ impl Model {
         Ok(Answer::notices(notices))
     }
 
+    fn size(&self, id: u32, address: u32) -> Result<Answer, Refusal> {
+        let words = self.segment_words(id, address)?;
+        Ok(Answer::value(4 * words.len() as u32))
+    }
+
     fn resize(&mut self, id: u32, address: u32, size: u32) -> Result<Answer, Refusal> {
         refuse_if(size == 0, status::INVALID_SIZE)?;
         let region = live_mut(&mut self.regions, id)?;
@@ -341,6 +325,18 @@ impl Model {
         }
         region.draw(&mut self.memory);
         Ok(answer)
+    }
+
+    fn information(&self, id: u32) -> Result<Answer, Refusal> {
+        Ok(Answer {
+            information: live(&self.regions, id)?.information(),
+            ..Answer::default()
+        })
+    }
+
+    fn tick(&mut self) -> Answer {
+        let regions = self.regions.iter_mut().flatten();
+        Answer::notices(regions.flat_map(Region::tick).collect())
     }
 
     fn create_partition(&mut self, name: u32, area: Area, size: u32) -> Result<Answer, Refusal> {
@@ -383,6 +379,13 @@ impl Model {
         partition.chain.push_back(address);
         partition.draw(&mut self.memory);
         Ok(Answer::default())
+    }
+
+    fn read(&self, id: u32, address: u32) -> Answer {
+        Answer {
+            words: self.segment_words(id, address).unwrap_or(&[]).to_vec(),
+            ..Answer::default()
+        }
     }
 
     fn write(&mut self, id: u32, address: u32, first: u32, words: &[u32]) -> Result<Answer, u32> {

@@ -17,6 +17,17 @@ pub struct Waiter {
     pub ticks: u32,
 }
 
+impl Waiter {
+    pub fn new(task: u32, size: u32, priority: u32, ticks: u32) -> Waiter {
+        Waiter {
+            task,
+            size,
+            priority,
+            ticks,
+        }
+    }
+}
+
 /// A free or held segment: a longest run of pages with one owner.
 #[derive(Clone, Copy, Debug, PartialEq, Eq)]
 pub struct Segment {

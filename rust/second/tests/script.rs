@@ -30,12 +30,16 @@ fn assert_bad(script: &str, line: u32) {
     assert_output(script, &format!("bad={line}\n"));
 }
 
-/// Answers as `status value`, and notices as `(task with value)`, one call a
-/// line; for short expectations.
-fn assert_answers(calls: &str, answers: &[&str]) {
+/// Runs calls, one a line, and compares the answer that stands behind the
+/// `->`: status, values, and for each notice its task, status and address.
+fn assert_answers(lines: &str) {
+    let pair = |line: &str| {
+        let (call, answer) = line.split_once("->").expect("a call and its answer");
+        (call.to_string(), answer.trim().to_string())
+    };
+    let (calls, answers): (Vec<_>, Vec<_>) = lines.lines().map(pair).unzip();
     let mut seen: Vec<String> = Vec::new();
-    let output = output_of(&script_of(calls));
-    for line in output.lines() {
+    for line in output_of(&script_of(&calls.join("\n"))).lines() {
         let (key, value) = line.split_once('=').unwrap();
         match (key, seen.last_mut()) {
             ("status", _) => seen.push(value.to_string()),
@@ -51,89 +55,53 @@ fn assert_answers(calls: &str, answers: &[&str]) {
 #[test]
 fn every_call_and_every_status() {
     assert_answers(
-        "create-region name=1 start=4 length=1020 page=64 order=0
-         create-region name=0 start=4 length=1020 page=64 order=0
-         ident-region name=1
-         get id=1 size=448 wait=0 task=0 priority=0 ticks=0
-         get id=1 size=512 wait=1 task=1 priority=1 ticks=0
-         get id=1 size=64 wait=0 task=0 priority=0 ticks=0
-         get id=1 size=960 wait=1 task=3 priority=1 ticks=2
-         get id=1 size=64 wait=1 task=3 priority=1 ticks=2
-         get id=1 size=64 wait=1 task=17 priority=1 ticks=2
-         get id=1 size=64 wait=1 task=5 priority=256 ticks=2
-         get id=1 size=64 wait=1 task=5 priority=255 ticks=0
-         tick
-         tick
-         size id=1 address=64
-         resize id=1 address=64 size=100
-         resize id=1 address=64 size=512
-         info id=1
-         return id=1 address=512
-         return id=1 address=512
-         delete-region id=1
-         info id=2
-         create-partition name=1 start=1024 length=16 size=8
-         ident-partition name=1
-         get-buffer id=1
-         delete-partition id=1
-         return-buffer id=1 address=1024
-         return-buffer id=1 address=1024
-         delete-partition id=1
-         return id=1 address=64
-         return id=1 address=128
-         delete-region id=1",
-        &[
-            "0 1",
-            "3 0",
-            "0 1",
-            "0 64",
-            "0 512",
-            "13 0",
-            "255 0",
-            "14 0",
-            "10 0",
-            "19 0",
-            "255 0",
-            "0 0",
-            "0 0 task 3 with 6 0",
-            "0 448",
-            "0 448",
-            "13 128",
-            "0 1 320 320 2 512 640",
-            "0 0 task 5 with 0 192",
-            "9 0",
-            "12 0",
-            "4 0 0 0 0 0 0",
-            "0 1",
-            "0 1",
-            "0 1024",
-            "12 0",
-            "0 0",
-            "9 0",
-            "0 0",
-            "0 0",
-            "9 0",
-            "12 0",
-        ],
+        "create-region name=1 start=4 length=1020 page=64 order=0 -> 0 1
+         create-region name=0 start=4 length=1020 page=64 order=0 -> 3 0
+         ident-region name=1 -> 0 1
+         get id=1 size=448 wait=0 task=0 priority=0 ticks=0 -> 0 64
+         get id=1 size=512 wait=1 task=1 priority=1 ticks=0 -> 0 512
+         get id=1 size=64 wait=0 task=0 priority=0 ticks=0 -> 13 0
+         get id=1 size=960 wait=1 task=3 priority=1 ticks=2 -> 255 0
+         get id=1 size=64 wait=1 task=3 priority=1 ticks=2 -> 14 0
+         get id=1 size=64 wait=1 task=17 priority=1 ticks=2 -> 10 0
+         get id=1 size=64 wait=1 task=5 priority=256 ticks=2 -> 19 0
+         get id=1 size=64 wait=1 task=5 priority=255 ticks=0 -> 255 0
+         tick -> 0 0
+         tick -> 0 0 task 3 with 6 0
+         size id=1 address=64 -> 0 448
+         resize id=1 address=64 size=100 -> 0 448
+         resize id=1 address=64 size=512 -> 13 128
+         info id=1 -> 0 1 320 320 2 512 640
+         return id=1 address=512 -> 0 0 task 5 with 0 192
+         return id=1 address=512 -> 9 0
+         delete-region id=1 -> 12 0
+         info id=2 -> 4 0 0 0 0 0 0
+         create-partition name=1 start=1024 length=16 size=8 -> 0 1
+         ident-partition name=1 -> 0 1
+         get-buffer id=1 -> 0 1024
+         delete-partition id=1 -> 12 0
+         return-buffer id=1 address=1024 -> 0 0
+         return-buffer id=1 address=1024 -> 9 0
+         delete-partition id=1 -> 0 0
+         return id=1 address=64 -> 0 0
+         return id=1 address=128 -> 9 0
+         delete-region id=1 -> 12 0",
     );
 }
 
 #[test]
 fn too_many_and_wrong_sizes() {
-    let mut calls = String::new();
-    for index in 0..9 {
-        calls.push_str(&format!(
-            "create-partition name=1 start={} length=8 size=8\n",
-            8 + 8 * index
-        ));
-    }
-    calls.push_str("create-partition name=1 start=800 length=8 size=9\n");
-    assert_answers(
-        &calls,
-        &[
-            "0 1", "0 2", "0 3", "0 4", "0 5", "0 6", "0 7", "0 8", "5 0", "8 0",
-        ],
-    );
+    let create = |index: u32| {
+        let answer = if index < 8 {
+            format!("0 {}", index + 1)
+        } else {
+            "5 0".to_string()
+        };
+        let start = 8 + 8 * index;
+        format!("create-partition name=1 start={start} length=8 size=8 -> {answer}\n")
+    };
+    let lines: String = (0..9).map(create).collect();
+    assert_answers(&(lines + "create-partition name=1 start=800 length=8 size=9 -> 8 0"));
 }
 
 #[test]
