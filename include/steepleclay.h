@@ -56,9 +56,9 @@ extern "C" {
 #define STEEPLECLAY_RECORD_VERSION 1
 
 /*
- * The stack that a call needs: 10,956 bytes were measured, rounded up here. tests/stack measures
- * it: each function is called on a stack filled with a pattern, with fresh, full and damaged
- * records, and the deepest word that was written counts.
+ * The stack that a call needs: 11 KB were measured, rounded up here. tests/stack/run measures it:
+ * each function is called on a stack filled with a pattern, with fresh, full and damaged records,
+ * and the deepest word that was written counts.
  */
 #define SC_STACK_BYTES 16384u
 

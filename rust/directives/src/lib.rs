@@ -18,15 +18,18 @@ macro_rules! with_table {
     ($callback:ident) => {
         $callback! {
             SCRIPT {
-                CreateRegion "create-region" sc_region_create { name, start, length, page, order } [0, 3, 5, 8, 9];
+                CreateRegion "create-region" sc_region_create
+                    { name, start, length, page, order } [0, 3, 5, 8, 9];
                 IdentRegion "ident-region" sc_region_ident { name } [0, 3];
                 DeleteRegion "delete-region" sc_region_delete { id } [0, 4, 12];
-                Get "get" sc_region_get_segment { id, size, wait, task, priority, ticks } [0, 4, 8, 10, 13, 14, 19, 255];
+                Get "get" sc_region_get_segment
+                    { id, size, wait, task, priority, ticks } [0, 4, 8, 10, 13, 14, 19, 255];
                 Return "return" sc_region_return_segment { id, address } [0, 4, 9];
                 Size "size" sc_region_get_segment_size { id, address } [0, 4, 9];
                 Resize "resize" sc_region_resize_segment { id, address, size } [0, 4, 8, 9, 13];
                 Information "info" sc_region_get_information { id } [0, 4];
-                CreatePartition "create-partition" sc_partition_create { name, start, length, size } [0, 3, 5, 8, 9];
+                CreatePartition "create-partition" sc_partition_create
+                    { name, start, length, size } [0, 3, 5, 8, 9];
                 IdentPartition "ident-partition" sc_partition_ident { name } [0, 3];
                 DeletePartition "delete-partition" sc_partition_delete { id } [0, 4, 12];
                 GetBuffer "get-buffer" sc_partition_get_buffer { id } [0, 4, 13];
@@ -231,6 +234,7 @@ impl Answer {
 
 #[cfg(test)]
 mod tests {
+    use super::words::*;
     use super::*;
 
     #[test]
@@ -261,15 +265,34 @@ mod tests {
         std::fs::read_to_string(format!("{root}{path}")).unwrap()
     }
 
+    /// The number that the header gives a name.
+    fn defined(header: &str, name: &str) -> u32 {
+        let line = format!("#define {name} ");
+        let rest = &header[header.find(&line).expect(name) + line.len()..];
+        rest[..rest.find('u').unwrap()].parse().unwrap()
+    }
+
+    #[test]
+    fn the_header_has_the_sizes() {
+        let header = file("include/steepleclay.h");
+        for (name, size) in [
+            ("SC_SLOTS", SLOTS),
+            ("SC_TASKS", TASKS),
+            ("SC_MEMORY_WORDS", MEMORY_WORDS),
+            ("SC_RECORD_WORDS", RECORD_WORDS),
+            ("SC_ANSWER_WORDS", ANSWER_WORDS),
+            ("SC_ANSWER_FREE_COUNT", INFORMATION_AT),
+            ("SC_ANSWER_NOTICES", NOTICES_AT),
+            ("SC_NOTICE_WORDS", NOTICE_WORDS),
+        ] {
+            assert_eq!(defined(&header, name) as usize, size, "{name}");
+        }
+    }
+
     /// The header says of each function the statuses of the table, by their names.
     #[test]
     fn the_header_has_the_statuses() {
         let header = file("include/steepleclay.h");
-        let number_of = |name: &str| -> u32 {
-            let line = format!("#define {name} ");
-            let rest = &header[header.find(&line).expect(name) + line.len()..];
-            rest[..rest.find('u').unwrap()].parse().unwrap()
-        };
         for &directive in Directive::ALL {
             let wrapper = format!("scm_{}(", &directive.function()[3..]);
             let at = header.find(&wrapper).expect("each function is there");
@@ -277,7 +300,7 @@ mod tests {
             let listed = comment.split_once("Statuses:").map_or("", |parts| parts.1);
             let names = listed.split(|c: char| c != '_' && !c.is_ascii_uppercase());
             let names = names.filter(|name| name.starts_with("SC_"));
-            let statuses: Vec<u32> = names.map(number_of).collect();
+            let statuses: Vec<u32> = names.map(|name| defined(&header, name)).collect();
             assert_eq!(statuses, directive.statuses(), "{}", directive.function());
         }
     }
