@@ -1,58 +1,95 @@
-/* What a firmware does with the library: a region with a task that waits and one whose time runs out, and a partition. */
+/* What a firmware does with the library: a region with a task that waits and one whose time runs
+ * out, a partition, and taking both down again. Every function of the header is called. */
 #include <stdio.h>
 
 #include "steepleclay.h"
 
-static uint32_t record[SC_RECORD_WORDS]; /* all zeros: fresh */
 static uint32_t memory[SC_MEMORY_WORDS];
-static uint32_t answer[SC_ANSWER_WORDS];
+static sc_manager desk = {{0}, {0}, memory, SC_MEMORY_WORDS}; /* the record all zeros: fresh */
 
-#define BUFFERS record, SC_RECORD_WORDS, memory, SC_MEMORY_WORDS, answer, SC_ANSWER_WORDS
+static uint32_t answer(uint32_t word) { return desk.answer[word]; }
 
-static uint32_t value(void) { return answer[SC_ANSWER_VALUE]; }
-
-static void say(const char *what, uint32_t status) {
-    printf("%s: status %u, value %u\n", what, (unsigned)status, (unsigned)value());
+static void say(const char *what, uint32_t status)
+{
+    printf("%s: status %u, value %u\n", what, (unsigned)status, (unsigned)answer(SC_ANSWER_VALUE));
     for (uint32_t i = 0; i < SC_TASKS; i++) {
-        const uint32_t *n = answer + SC_ANSWER_NOTICES + i * SC_NOTICE_WORDS;
+        const uint32_t *n = desk.answer + SC_ANSWER_NOTICES + i * SC_NOTICE_WORDS;
         if (n[SC_NOTICE_TASK] == 0)
             break;
-        printf("  task %u: status %u, address %u\n", (unsigned)n[SC_NOTICE_TASK], (unsigned)n[SC_NOTICE_STATUS], (unsigned)n[SC_NOTICE_ADDRESS]);
+        printf("  task %u: status %u, address %u\n", (unsigned)n[SC_NOTICE_TASK],
+               (unsigned)n[SC_NOTICE_STATUS], (unsigned)n[SC_NOTICE_ADDRESS]);
     }
 }
 
-int main(void) {
-    uint32_t region, frame, partition, tag;
+static void say_information(uint32_t region)
+{
+    say("information", scm_region_get_information(&desk, region));
+    printf("  free %u segments, largest %u, total %u bytes; held %u, %u, %u\n",
+           (unsigned)answer(SC_ANSWER_FREE_COUNT), (unsigned)answer(SC_ANSWER_FREE_LARGEST),
+           (unsigned)answer(SC_ANSWER_FREE_TOTAL), (unsigned)answer(SC_ANSWER_HELD_COUNT),
+           (unsigned)answer(SC_ANSWER_HELD_LARGEST), (unsigned)answer(SC_ANSWER_HELD_TOTAL));
+}
+
+/* A frame of 960 bytes fills the region; tasks 5 and 3 get its pages when it is returned. */
+static void segments(uint32_t region)
+{
     const uint32_t pixels[3] = {11, 22, 33};
     uint32_t back[4] = {0, 0, 0, 0};
+    uint32_t frame;
     size_t words;
 
-    say("create region", sc_region_create(BUFFERS, 1, 4, 1020, 64, SC_PRIORITY));
-    region = value();
-    say("create partition", sc_partition_create(BUFFERS, 7, 1024, 100, 24));
-    partition = value();
+    say("get 960 bytes", scm_region_get_segment(&desk, region, 960, SC_NO_WAIT, 0, 0, 0));
+    frame = answer(SC_ANSWER_VALUE);
+    say("its size", scm_region_get_segment_size(&desk, region, frame));
+    printf("write 3 words: status %u\n",
+           (unsigned)scm_segment_write(&desk, pixels, 3, region, frame, 1));
+    words = scm_segment_read(&desk, back, 4, region, frame);
+    printf("read: %u words, first %u %u %u %u\n", (unsigned)words, (unsigned)back[0],
+           (unsigned)back[1], (unsigned)back[2], (unsigned)back[3]);
 
-    say("get 960 bytes", sc_region_get_segment(BUFFERS, region, 960, SC_NO_WAIT, 0, 0, 0));
-    frame = value();
-    printf("write 3 words: status %u\n", (unsigned)sc_segment_write(record, SC_RECORD_WORDS, memory, SC_MEMORY_WORDS, pixels, 3, region, frame, 1));
-    words = sc_segment_read(record, SC_RECORD_WORDS, memory, SC_MEMORY_WORDS, back, 4, region, frame);
-    printf("read: %u words, first %u %u %u %u\n", (unsigned)words, (unsigned)back[0], (unsigned)back[1], (unsigned)back[2], (unsigned)back[3]);
+    say("task 3 waits for 640 bytes",
+        scm_region_get_segment(&desk, region, 640, SC_WAIT, 3, 20, 0));
+    say("task 5 waits for 64 bytes, more urgent",
+        scm_region_get_segment(&desk, region, 64, SC_WAIT, 5, 10, 0));
+    say("task 6 waits one tick", scm_region_get_segment(&desk, region, 64, SC_WAIT, 6, 30, 1));
+    say("tick", scm_clock_tick(&desk));
+    say("return the frame", scm_region_return_segment(&desk, region, frame));
+    say("shrink task 3's to 100 bytes", scm_region_resize_segment(&desk, region, 128, 100));
+    say_information(region);
+    say("delete the region", scm_region_delete(&desk, region));
+    say("return task 5's", scm_region_return_segment(&desk, region, 64));
+    say("return task 3's", scm_region_return_segment(&desk, region, 128));
+}
 
-    say("task 3 waits for 640 bytes", sc_region_get_segment(BUFFERS, region, 640, SC_WAIT, 3, 20, 0));
-    say("task 5 waits for 64 bytes, more urgent", sc_region_get_segment(BUFFERS, region, 64, SC_WAIT, 5, 10, 0));
-    say("task 6 waits one tick", sc_region_get_segment(BUFFERS, region, 64, SC_WAIT, 6, 30, 1));
-    say("tick", sc_clock_tick(BUFFERS));
-    say("return the frame", sc_region_return_segment(BUFFERS, region, frame));
-    say("information", sc_region_get_information(BUFFERS, region));
-    printf("  free %u segments, %u bytes; held %u segments, %u bytes\n", (unsigned)answer[SC_ANSWER_FREE_COUNT], (unsigned)answer[SC_ANSWER_FREE_TOTAL],
-           (unsigned)answer[SC_ANSWER_HELD_COUNT], (unsigned)answer[SC_ANSWER_HELD_TOTAL]);
+static void buffers(uint32_t partition)
+{
+    uint32_t tag;
 
-    say("get a buffer", sc_partition_get_buffer(BUFFERS, partition));
-    tag = value();
-    say("return it", sc_partition_return_buffer(BUFFERS, partition, tag));
-    say("return it again", sc_partition_return_buffer(BUFFERS, partition, tag));
+    say("get a buffer", scm_partition_get_buffer(&desk, partition));
+    tag = answer(SC_ANSWER_VALUE);
+    say("delete the partition", scm_partition_delete(&desk, partition));
+    say("return the buffer", scm_partition_return_buffer(&desk, partition, tag));
+    say("return it again", scm_partition_return_buffer(&desk, partition, tag));
+    say("delete the partition", scm_partition_delete(&desk, partition));
+}
 
+int main(void)
+{
+    uint32_t region;
+
+    say("create region", scm_region_create(&desk, 1, 4, 1020, 64, SC_PRIORITY));
+    say("create partition", scm_partition_create(&desk, 7, 1024, 100, 24));
+    say("ident region 2", scm_region_ident(&desk, 2));
+    say("ident region 1", scm_region_ident(&desk, 1));
+    region = answer(SC_ANSWER_VALUE);
+    segments(region);
+    say("ident partition 7", scm_partition_ident(&desk, 7));
+    buffers(answer(SC_ANSWER_VALUE));
+
+    say("get with no choice", scm_region_get_segment(&desk, region, 64, 2, 0, 0, 0));
     memory[1] = 0xffffffffu; /* the region's map, damaged */
-    say("get with a damaged map", sc_region_get_segment(BUFFERS, region, 64, SC_NO_WAIT, 0, 0, 0));
+    say("get with a damaged map", scm_region_get_segment(&desk, region, 64, SC_NO_WAIT, 0, 0, 0));
+    memory[1] = 30;
+    say("delete the region, its map mended", scm_region_delete(&desk, region));
     return 0;
 }

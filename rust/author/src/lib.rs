@@ -1,0 +1,452 @@
+//! Makes up calls that suit the state that a list of calls has reached.
+//!
+//! Most arguments are chosen from what the model holds, so that most calls
+//! succeed; the others are near the limits or anything at all. What is right
+//! is never read from the model here.
+
+mod random;
+
+use directives::words::{SLOTS, TASKS};
+use directives::{Call, Directive};
+use model::Model;
+pub use random::Random;
+
+/// Numbers at the edges of what a rule or a number type allows; the last ones
+/// are around 2^31 and below 2^32.
+pub const EDGES: [u32; 36] = [
+    0, 1, 2, 3, 4, 7, 8, 9, 15, 16, 17, 63, 64, 65, 255, 256, 257, 4_095, 4_096, 4_097, 16_383,
+    16_384, 16_385, 65_532, 65_535, 65_536, 65_537, 2147483647, 2147483648, 2147483649, 4294901760,
+    4294967231, 4294967232, 4294967288, 4294967294, 4294967295,
+];
+
+/// What the calls of one list have in common.
+#[derive(Clone, Debug)]
+pub struct Style {
+    /// How many of a hundred arguments are odd ones.
+    pub odd: u32,
+    /// How many of a hundred choices are none.
+    pub odd_choices: u32,
+    /// How many of a hundred gets may wait.
+    pub waits: u32,
+    /// How many of a hundred gets ask for few pages.
+    pub small_gets: u32,
+    /// New areas have at most so many bytes, if that is enough for a page.
+    pub longest: u32,
+    /// Pages and buffers are mostly not larger than this.
+    pub largest_unit: u32,
+}
+
+impl Default for Style {
+    fn default() -> Style {
+        Style {
+            odd: 5,
+            odd_choices: 0,
+            waits: 40,
+            small_gets: 40,
+            longest: 6_000,
+            largest_unit: 512,
+        }
+    }
+}
+
+/// The parts of the memory that no live object takes, without byte 0.
+pub fn gaps(model: &Model) -> Vec<(u32, u32)> {
+    let mut areas = model.areas();
+    areas.sort_by_key(|area| area.start);
+    let mut gaps = Vec::new();
+    let mut low = 1;
+    for area in &areas {
+        gaps.push((low, area.start));
+        low = area.end() as u32;
+    }
+    gaps.push((low, model.memory_bytes()));
+    gaps.retain(|(low, high)| low < high);
+    gaps
+}
+
+/// Makes up one call.
+pub struct Author<'a> {
+    pub random: &'a mut Random,
+    pub style: &'a Style,
+    pub model: &'a Model,
+}
+
+impl Author<'_> {
+    /// A call of one directive.
+    pub fn call_of(&mut self, directive: Directive) -> Call {
+        use Directive::*;
+        let arguments = match directive {
+            CreateRegion => {
+                let (start, length) = self.area(1);
+                let page = self.unit(1, length);
+                vec![self.name(), start, length, page, self.choice(50)]
+            }
+            CreatePartition => {
+                let (start, length) = self.area(4);
+                vec![self.name(), start, length, self.unit(4, length)]
+            }
+            IdentRegion | IdentPartition => vec![self.name()],
+            DeleteRegion | Information => vec![self.region_id()],
+            DeletePartition | GetBuffer => vec![self.partition_id()],
+            ReturnBuffer => {
+                let id = self.busy_partition();
+                vec![id, self.buffer(id)]
+            }
+            Get => self.get(),
+            Return | Size | Read => self.segment().to_vec(),
+            Resize => {
+                let [id, address] = self.segment();
+                vec![id, address, self.new_size(id, address)]
+            }
+            Write => return self.write(),
+            Tick => vec![],
+        };
+        directive.call(&arguments)
+    }
+
+    fn is_odd(&mut self) -> bool {
+        self.random.chance(self.style.odd)
+    }
+
+    /// A number at an edge or near one, or any number.
+    fn odd_number(&mut self) -> u32 {
+        let bytes = self.model.memory_bytes();
+        let edge = self.random.pick(&EDGES);
+        match self.random.below(4) {
+            0 => edge,
+            1 => self.random.word(),
+            n => {
+                let near = if n == 2 { edge } else { bytes };
+                near.wrapping_add(self.random.between(0, 8)).wrapping_sub(4)
+            }
+        }
+    }
+
+    /// Names are few, so that some are the same.
+    pub fn name(&mut self) -> u32 {
+        if self.is_odd() {
+            return match self.random.below(3) {
+                0 => self.odd_number(),
+                _ => 0,
+            };
+        }
+        match self.random.pick_any(&self.model.names()) {
+            Some(name) if self.random.chance(30) => name,
+            _ => self.random.between(1, 8),
+        }
+    }
+
+    /// 1 in so many of a hundred cases, 0 in the others; a wrong choice where
+    /// the style allows one.
+    pub fn choice(&mut self, percent: u32) -> u32 {
+        if self.random.chance(self.style.odd_choices) {
+            return self.random.pick(&[2, 3, 256, 1 << 31, u32::MAX]);
+        }
+        u32::from(self.random.chance(percent))
+    }
+
+    /// One of some ids, if there is any.
+    fn id(&mut self, live: &[u32]) -> u32 {
+        if self.is_odd() {
+            return match self.random.below(2) {
+                0 => self.random.between(0, SLOTS as u32 + 1),
+                _ => self
+                    .random
+                    .pick(&[0, 9, 10, 255, 256, 257, 1 << 31, u32::MAX]),
+            };
+        }
+        let any = self.random.between(1, SLOTS as u32);
+        self.random.pick_any(live).unwrap_or(any)
+    }
+
+    pub fn region_id(&mut self) -> u32 {
+        self.id(&self.model.region_ids())
+    }
+
+    pub fn partition_id(&mut self) -> u32 {
+        self.id(&self.model.partition_ids())
+    }
+
+    /// The id of a region of which something is held, if there is one.
+    pub fn busy_region(&mut self) -> u32 {
+        let mut ids = self.model.region_ids();
+        ids.retain(|&id| self.model.segments(id).iter().any(|segment| segment.held));
+        match ids[..] {
+            [] => self.region_id(),
+            _ => self.id(&ids),
+        }
+    }
+
+    /// The id of a partition of which something is held, if there is one.
+    pub fn busy_partition(&mut self) -> u32 {
+        let mut ids = self.model.partition_ids();
+        ids.retain(|&id| !self.model.held_buffers(id).is_empty());
+        match ids[..] {
+            [] => self.partition_id(),
+            _ => self.id(&ids),
+        }
+    }
+
+    /// Start and length of an area, mostly in a gap between the live ones.
+    fn area(&mut self, step: u32) -> (u32, u32) {
+        let (mut start, mut length) = self.free_area(step);
+        if self.is_odd() {
+            start = self.odd_start(start, length);
+        }
+        if self.is_odd() {
+            length = self.odd_length(start, length);
+        }
+        (start, length)
+    }
+
+    fn free_area(&mut self, step: u32) -> (u32, u32) {
+        let mut gaps = gaps(self.model);
+        if self.random.chance(90) && gaps.iter().any(|(low, high)| high - low >= 40) {
+            gaps.retain(|(low, high)| high - low >= 40);
+        }
+        let Some((low, high)) = self.random.pick_any(&gaps) else {
+            return (self.random.between(1, self.model.memory_bytes()), 8);
+        };
+        let start = match self.random.below(4) {
+            0 => self.random.between(low, high - 1),
+            _ => low + self.random.pick(&[0, 0, 0, 1, 2, 3, 4, 60]),
+        };
+        let start = start.next_multiple_of(step);
+        let start = if start < high { start } else { low };
+        let room = high - start;
+        let most = self.style.longest.max(64).min(room);
+        let length = match self.random.below(24) {
+            0 => room,
+            1 => room + self.random.between(0, 2),
+            2 => self.random.between(0, most),
+            3..=7 => most,
+            8..=11 => self.random.between(most / 8, most),
+            _ => self.random.between(most / 2, most),
+        };
+        (start, length)
+    }
+
+    fn odd_start(&mut self, start: u32, length: u32) -> u32 {
+        let areas = self.model.areas();
+        match (self.random.below(6), self.random.pick_any(&areas)) {
+            (0, _) => 0,
+            (1, Some(area)) => (area.end() as u32).saturating_sub(self.random.between(1, 8)),
+            (2, Some(area)) => (area.start + 1).saturating_sub(length).max(1),
+            (3, Some(area)) => self.random.between(area.start, area.end() as u32),
+            (4, _) => start + self.random.between(1, 3),
+            _ => self.odd_number(),
+        }
+    }
+
+    fn odd_length(&mut self, start: u32, length: u32) -> u32 {
+        // From the start to the end of the memory, wherever the start is.
+        let to_end = self.model.memory_bytes().wrapping_sub(start);
+        match self.random.below(6) {
+            0 => 0,
+            1 => self.random.between(1, 16),
+            2 => to_end.wrapping_add(self.random.pick(&[0, 1, u32::MAX])),
+            // The end wraps around to an allowed one.
+            3 => length.wrapping_sub(start),
+            4 => length.saturating_add(self.random.pick(&[1, 8, 64, 4_096, 32_768])),
+            _ => self.odd_number(),
+        }
+    }
+
+    /// A page size or a buffer size for an area of some length.
+    fn unit(&mut self, step: u32, length: u32) -> u32 {
+        if self.is_odd() {
+            return match self.random.below(3) {
+                0 => self.random.pick(&[0, 0, 1, 4, 6, 9, 4_097, 4_104, 8_192]),
+                1 => length.saturating_add(self.random.pick(&[0, 4])),
+                _ => self.odd_number(),
+            };
+        }
+        let most = self.style.largest_unit.min(length / 3).max(8);
+        let unit = match self.random.below(4) {
+            0 => 8,
+            1 => most,
+            2 => self
+                .random
+                .pick(&[8, 12, 16, 24, 33, 60, 64, 100, 128])
+                .min(most),
+            _ => self.random.between(1, most),
+        };
+        unit.next_multiple_of(step)
+    }
+
+    /// The page size and the page count of a region; some numbers if there is
+    /// none.
+    pub fn pages(&self, id: u32) -> (u32, u32) {
+        self.model.pages(id).unwrap_or((8, 1))
+    }
+
+    /// A size to ask a region for.
+    fn size(&mut self, id: u32) -> u32 {
+        let (page, pages) = self.pages(id);
+        let all = page * pages;
+        if self.is_odd() {
+            return match self.random.below(4) {
+                0 => 0,
+                1 => all + self.random.between(0, page),
+                2 => u32::MAX - self.random.between(0, page),
+                _ => self.odd_number(),
+            };
+        }
+        if self.random.chance(self.style.small_gets) {
+            let wanted = self.random.between(1, pages.min(3));
+            return wanted * page - self.random.pick(&[0, 0, 1, page - 1]);
+        }
+        let free = self.model.segments_held(id, false);
+        match (self.random.below(4), self.random.pick_any(&free)) {
+            (0, Some(segment)) => (segment.length + self.random.between(0, 2) - 1).min(all),
+            (1, _) => (all - self.random.between(0, 2)).max(1),
+            (2, _) => self.random.between(1, (all / 2).max(1)),
+            _ => self.random.between(1, all),
+        }
+    }
+
+    /// A size to ask for a held segment: any, or a little around what it has,
+    /// alone or together with the free segment behind it.
+    fn new_size(&mut self, id: u32, address: u32) -> u32 {
+        let segments = self.model.segments(id);
+        let place = segments.iter().position(|s| s.address == address && s.held);
+        let Some(place) = place.filter(|_| self.random.chance(60)) else {
+            return self.size(id);
+        };
+        let (page, _) = self.pages(id);
+        let length = segments[place].length;
+        let room = segments.get(place + 1).filter(|next| !next.held);
+        let around = match self.random.below(3) {
+            0 => length,
+            1 => length + room.map_or(0, |next| next.length),
+            _ => length + page * self.random.between(0, 3),
+        };
+        let more = around + self.random.pick(&[0, 1, 2, page, page + 1]);
+        let less = page / 2 * self.random.between(0, 3);
+        more.saturating_sub(less).max(1)
+    }
+
+    /// The arguments of a get.
+    fn get(&mut self) -> Vec<u32> {
+        let id = self.region_id();
+        let (size, wait) = (self.size(id), self.choice(self.style.waits));
+        vec![id, size, wait, self.task(), self.priority(), self.ticks()]
+    }
+
+    fn task(&mut self) -> u32 {
+        let waiting = self.model.waiting_tasks();
+        if self.is_odd() {
+            return match (self.random.below(2), self.random.pick_any(&waiting)) {
+                (0, Some(task)) => task,
+                _ => self
+                    .random
+                    .pick(&[0, 17, 18, 32, 255, 256, 257, 1 << 31, u32::MAX]),
+            };
+        }
+        let mut idle: Vec<u32> = (1..=TASKS as u32).collect();
+        idle.retain(|task| !waiting.contains(task));
+        self.random.pick_any(&idle).unwrap_or(1)
+    }
+
+    fn priority(&mut self) -> u32 {
+        if self.is_odd() {
+            return self.random.pick(&[0, 256, 257, 511, 1 << 31, u32::MAX]);
+        }
+        match self.random.below(3) {
+            0 => self.random.between(1, 255),
+            1 => self.random.between(1, 3),
+            _ => self.random.pick(&[1, 2, 254, 255]),
+        }
+    }
+
+    fn ticks(&mut self) -> u32 {
+        match self.random.below(3) {
+            0 => self.random.pick(&[0, 0, 0, 1, 255, 256, u32::MAX]),
+            _ => self.random.between(0, 6),
+        }
+    }
+
+    /// The id of a region and mostly the address of one of its held segments.
+    fn segment(&mut self) -> [u32; 2] {
+        let id = self.busy_region();
+        let held = self.model.segments_held(id, true);
+        match self.random.pick_any(&held) {
+            Some(segment) if !self.is_odd() => [id, segment.address],
+            _ => [id, self.odd_segment(id)],
+        }
+    }
+
+    fn odd_segment(&mut self, id: u32) -> u32 {
+        let (page, _) = self.pages(id);
+        let segments = self.model.segments(id);
+        let Some(segment) = self.random.pick_any(&segments) else {
+            return self.odd_number();
+        };
+        let address = segment.address;
+        match self.random.below(5) {
+            // Inside a segment, or right behind it.
+            0 => address + self.random.pick(&[1, 4, 8, page, segment.length]),
+            1 => address.wrapping_sub(self.random.pick(&[1, 4, 8, page])),
+            2 => self
+                .random
+                .pick(&[address, address | 1 << 16, address | 1 << 31]),
+            3 => address + segment.length - page,
+            _ => self.odd_number(),
+        }
+    }
+
+    /// Mostly the address of a held buffer of a partition.
+    fn buffer(&mut self, id: u32) -> u32 {
+        let held = self.model.held_buffers(id);
+        match self.random.pick_any(&held) {
+            Some(address) if !self.is_odd() => address,
+            any => self.odd_buffer(id, any),
+        }
+    }
+
+    fn odd_buffer(&mut self, id: u32, held: Option<u32>) -> u32 {
+        let Some((start, size, count)) = self.model.buffers(id) else {
+            return self.odd_number();
+        };
+        let held = held.unwrap_or(start);
+        match self.random.below(5) {
+            0 => held + self.random.pick(&[1, 2, 4, 8]),
+            // Any buffer, the end, or the word before it.
+            1 => start + size * self.random.between(0, count),
+            2 => start + size * count - self.random.pick(&[0, 4]),
+            3 => self
+                .random
+                .pick(&[start.wrapping_sub(size), held | 1 << 16, held | 1 << 31]),
+            _ => self.odd_number(),
+        }
+    }
+
+    fn write(&mut self) -> Call {
+        let [id, address] = self.segment();
+        let held = self.model.segments_held(id, true);
+        let segment = held.iter().find(|segment| segment.address == address);
+        let length = segment.map_or(4, |segment| segment.length / 4);
+        let mut first = match self.random.below(4) {
+            0 => 0,
+            1 => length - self.random.between(0, length.min(2)),
+            _ => self.random.between(0, length),
+        };
+        let rest = length - first;
+        let count = match self.random.below(5) {
+            0 => 0,
+            1 => rest,
+            2 => rest.min(40) + 1,
+            _ => self.random.between(0, rest.min(40)),
+        };
+        if self.is_odd() {
+            first = self.odd_number();
+        }
+        let words = (0..count).map(|_| self.random.word()).collect();
+        Call::Write {
+            id,
+            address,
+            first,
+            words,
+        }
+    }
+}

@@ -1,0 +1,389 @@
+//! The kinds of scripts that are made up.
+
+use crate::damage;
+use crate::script::Script;
+use crate::script::Step::*;
+use author::Random;
+use directives::Directive::*;
+use directives::MAX_SCRIPT;
+
+#[derive(Clone, Copy, Debug, PartialEq, Eq, PartialOrd, Ord)]
+pub enum Kind {
+    Mixed,
+    Refused,
+    Waiting,
+    Partitions,
+    Resizing,
+    ManySegments,
+    Layouts,
+    Slots,
+    Edges,
+    BadNumber,
+    BadName,
+    DamagedBytes,
+    DamagedLines,
+    CutOff,
+    NoLastNewline,
+    CarriageReturns,
+    LongLine,
+    AtLimit,
+    Noise,
+    Empty,
+}
+
+impl Kind {
+    pub fn title(self) -> &'static str {
+        match self {
+            Kind::Mixed => "mixed calls",
+            Kind::Refused => "refused calls",
+            Kind::Waiting => "waiting and ticks",
+            Kind::Partitions => "partitions",
+            Kind::Resizing => "resizing",
+            Kind::ManySegments => "many segments",
+            Kind::Layouts => "layouts",
+            Kind::Slots => "all slots in use",
+            Kind::Edges => "numbers at the edges",
+            Kind::BadNumber => "bad number",
+            Kind::BadName => "bad name",
+            Kind::DamagedBytes => "damaged bytes",
+            Kind::DamagedLines => "damaged lines",
+            Kind::CutOff => "cut off",
+            Kind::NoLastNewline => "no last newline",
+            Kind::CarriageReturns => "carriage returns",
+            Kind::LongLine => "long line",
+            Kind::AtLimit => "at the length limit",
+            Kind::Noise => "noise",
+            Kind::Empty => "empty",
+        }
+    }
+}
+
+/// The kinds in turn. Those with more to find come more often.
+pub const ROUND: [Kind; 43] = [
+    Kind::Mixed,
+    Kind::Waiting,
+    Kind::Refused,
+    Kind::Partitions,
+    Kind::Resizing,
+    Kind::Layouts,
+    Kind::Slots,
+    Kind::Edges,
+    Kind::BadNumber,
+    Kind::DamagedBytes,
+    Kind::Mixed,
+    Kind::Waiting,
+    Kind::Refused,
+    Kind::Partitions,
+    Kind::Resizing,
+    Kind::Layouts,
+    Kind::DamagedLines,
+    Kind::CutOff,
+    Kind::BadName,
+    Kind::BadNumber,
+    Kind::AtLimit,
+    Kind::Mixed,
+    Kind::Waiting,
+    Kind::Refused,
+    Kind::Slots,
+    Kind::Resizing,
+    Kind::Layouts,
+    Kind::NoLastNewline,
+    Kind::CarriageReturns,
+    Kind::DamagedBytes,
+    Kind::LongLine,
+    Kind::ManySegments,
+    Kind::Mixed,
+    Kind::Waiting,
+    Kind::Refused,
+    Kind::Partitions,
+    Kind::Edges,
+    Kind::BadName,
+    Kind::DamagedLines,
+    Kind::CutOff,
+    Kind::AtLimit,
+    Kind::Noise,
+    Kind::Empty,
+];
+
+/// Makes up the script with this index.
+pub fn script(seed: u64, index: u64) -> (Kind, Vec<u8>) {
+    let kind = ROUND[(index % ROUND.len() as u64) as usize];
+    let mut random = Random::for_list(seed, index);
+    (kind, script_of(kind, &mut random))
+}
+
+fn script_of(kind: Kind, random: &mut Random) -> Vec<u8> {
+    match kind {
+        Kind::Noise => return damage::noise(random),
+        Kind::Empty => return Vec::new(),
+        _ => {}
+    }
+    if let Some(text) = good_script(kind, random) {
+        return text;
+    }
+    let mut text = short_script(random);
+    match kind {
+        Kind::BadNumber if random.chance(30) => damage::choice(&mut text, random),
+        Kind::BadNumber => damage::number(&mut text, random),
+        Kind::DamagedBytes => damage::bytes(&mut text, random),
+        Kind::BadName => damage::name(&mut text, random),
+        Kind::DamagedLines => damage::lines(&mut text, random),
+        Kind::CutOff if random.chance(50) => damage::cut_off(&mut text, random),
+        Kind::CutOff => damage::cut_off_lines(&mut text, random),
+        Kind::NoLastNewline => damage::last_newline(&mut text),
+        Kind::CarriageReturns => damage::carriage_returns(&mut text, random),
+        Kind::LongLine => damage::long_line(&mut text, random),
+        _ => damage::to_limit(&mut text, random),
+    }
+    text
+}
+
+/// A script of one of the kinds that have no bad line.
+fn good_script(kind: Kind, random: &mut Random) -> Option<Vec<u8>> {
+    let limit = match random.below(3) {
+        _ if kind == Kind::ManySegments => MAX_SCRIPT,
+        0 => MAX_SCRIPT,
+        1 => random.between(8_000, 32_768) as usize,
+        _ => random.between(1_000, 8_000) as usize,
+    };
+    let mut script = Script::new(random.split(), limit);
+    match kind {
+        Kind::Mixed => mixed(&mut script),
+        Kind::Refused => refused(&mut script),
+        Kind::Waiting => waiting(&mut script),
+        Kind::Partitions => partitions(&mut script),
+        Kind::Resizing => resizing(&mut script),
+        Kind::ManySegments => many_segments(&mut script),
+        Kind::Layouts => layouts(&mut script),
+        Kind::Slots => slots(&mut script),
+        Kind::Edges => edges(&mut script),
+        _ => return None,
+    }
+    Some(script.into_text())
+}
+
+/// A short good script, to be spoiled.
+fn short_script(random: &mut Random) -> Vec<u8> {
+    let limit = match random.below(8) {
+        0 => random.between(5_000, 30_000),
+        _ => random.between(300, 3_000),
+    } as usize;
+    let mut script = Script::new(random.split(), limit);
+    match script.random.below(4) {
+        0 => waiting(&mut script),
+        1 => partitions(&mut script),
+        _ => mixed(&mut script),
+    }
+    script.into_text()
+}
+
+fn mixed(script: &mut Script) {
+    script.style.odd = script.random.pick(&[0, 2, 6]);
+    script.style.longest = script.random.pick(&[1_000, 4_000, 12_000]);
+    script.repeat(1, 6, One(CreateRegion));
+    script.repeat(0, 4, One(CreatePartition));
+    script.fill(&[
+        (30, One(Get)),
+        (24, One(Return)),
+        (6, One(Size)),
+        (10, One(Resize)),
+        (8, One(Information)),
+        (8, One(Tick)),
+        (6, One(GetBuffer)),
+        (6, One(ReturnBuffer)),
+        (3, One(CreateRegion)),
+        (2, One(CreatePartition)),
+        (2, One(IdentRegion)),
+        (2, One(IdentPartition)),
+        (2, One(DeleteRegion)),
+        (1, One(DeletePartition)),
+        (2, ClearRegion),
+        (1, ClearPartition),
+    ]);
+}
+
+/// Each argument is often wrong on its own, so that calls with more than one
+/// wrong argument show the order of the checks.
+fn refused(script: &mut Script) {
+    script.style.odd = 0;
+    script.style.longest = 2_000;
+    if script.random.chance(40) {
+        script.repeat(8, 9, One(CreateRegion));
+        script.repeat(8, 9, One(CreatePartition));
+    } else {
+        script.repeat(1, 4, One(CreateRegion));
+        script.repeat(1, 3, One(CreatePartition));
+    }
+    script.repeat(5, 20, One(Get));
+    script.repeat(1, 5, One(GetBuffer));
+    script.style.odd = script.random.pick(&[20, 35, 50]);
+    script.style.waits = 70;
+    script.fill(&[
+        (12, One(CreateRegion)),
+        (12, One(CreatePartition)),
+        (20, One(Get)),
+        (6, One(Return)),
+        (6, One(Size)),
+        (12, One(Resize)),
+        (3, One(Information)),
+        (2, One(IdentRegion)),
+        (2, One(IdentPartition)),
+        (4, One(DeleteRegion)),
+        (4, One(DeletePartition)),
+        (4, One(GetBuffer)),
+        (6, One(ReturnBuffer)),
+        (1, One(Tick)),
+    ]);
+}
+
+fn waiting(script: &mut Script) {
+    script.style.odd = script.random.pick(&[0, 0, 3]);
+    script.style.longest = script.random.pick(&[300, 1_000, 3_000]);
+    script.style.waits = 90;
+    script.repeat(1, 4, One(CreateRegion));
+    let ticks = script.random.pick(&[1, 6, 20]);
+    script.fill(&[
+        (40, One(Get)),
+        (16, One(Return)),
+        (ticks, One(Tick)),
+        (2, One(Resize)),
+        (2, One(Information)),
+        (1, One(DeleteRegion)),
+        (1, ClearRegion),
+        (1, One(CreateRegion)),
+    ]);
+}
+
+fn partitions(script: &mut Script) {
+    script.style.odd = script.random.pick(&[0, 4, 10]);
+    script.style.longest = script.random.pick(&[100, 400, 3_000, 60_000]);
+    script.repeat(1, 8, One(CreatePartition));
+    script.fill(&[
+        (30, One(GetBuffer)),
+        (24, One(ReturnBuffer)),
+        (2, DrainPartition),
+        (2, One(CreatePartition)),
+        (1, One(CreateRegion)),
+        (1, One(IdentRegion)),
+        (1, One(IdentPartition)),
+        (1, One(DeletePartition)),
+        (1, ClearPartition),
+    ]);
+}
+
+fn resizing(script: &mut Script) {
+    script.style.odd = script.random.pick(&[0, 3]);
+    script.style.longest = script.random.pick(&[600, 2_000, 30_000]);
+    script.style.waits = 20;
+    script.repeat(1, 2, One(CreateRegion));
+    script.repeat(10, 60, LittleGet);
+    script.fill(&[
+        (12, LittleGet),
+        (4, One(Get)),
+        (14, One(Return)),
+        (30, One(Resize)),
+        (6, One(Size)),
+        (6, One(Information)),
+        (1, One(Tick)),
+    ]);
+}
+
+/// Some hundred segments in one region.
+fn many_segments(script: &mut Script) {
+    script.style.odd = 0;
+    script.style.waits = 0;
+    script.create_fine_region();
+    let crumbs = script.random.pick(&[0, 50, 100]);
+    while script.fill_percent() < 85 {
+        if script.random.chance(crumbs) {
+            script.take(TrimmedGet);
+        } else {
+            script.take(LittleGet);
+        }
+    }
+    script.fill(&[
+        (10, One(Return)),
+        (5, One(Information)),
+        (3, One(Size)),
+        (3, One(Resize)),
+        (3, LittleGet),
+    ]);
+}
+
+fn layouts(script: &mut Script) {
+    script.style.odd = script.random.pick(&[0, 5]);
+    script.fill(&[
+        (20, Layout),
+        (1, One(DeleteRegion)),
+        (2, ClearRegion),
+        (1, One(CreatePartition)),
+        (1, ClearPartition),
+    ]);
+}
+
+fn slots(script: &mut Script) {
+    script.style.odd = script.random.pick(&[0, 5]);
+    script.style.longest = 500;
+    script.repeat(7, 9, One(CreateRegion));
+    script.repeat(7, 9, One(CreatePartition));
+    script.fill(&[
+        (10, One(CreateRegion)),
+        (10, One(CreatePartition)),
+        (3, One(IdentRegion)),
+        (3, One(IdentPartition)),
+        (4, One(DeleteRegion)),
+        (4, One(DeletePartition)),
+        (4, ClearRegion),
+        (4, ClearPartition),
+        (6, One(Get)),
+        (6, One(GetBuffer)),
+        (3, One(Tick)),
+    ]);
+}
+
+fn edges(script: &mut Script) {
+    script.repeat(0, 3, One(CreateRegion));
+    script.repeat(0, 3, One(CreatePartition));
+    script.repeat(0, 10, One(Get));
+    script.fill(&[(10, Edges), (1, One(Get)), (1, ClearRegion)]);
+}
+
+#[cfg(test)]
+mod tests {
+    use super::*;
+    use second::run;
+
+    fn has_bad_line(script: &[u8]) -> bool {
+        String::from_utf8(run(script)).unwrap().contains("bad=")
+    }
+
+    #[test]
+    fn the_same_seed_gives_the_same_scripts() {
+        for index in 0..80 {
+            assert_eq!(script(5, index), script(5, index));
+        }
+        assert_ne!(script(5, 0), script(6, 0));
+        assert_ne!(script(5, 0), script(5, ROUND.len() as u64));
+    }
+
+    #[test]
+    fn good_kinds_have_no_bad_line() {
+        for index in 0..200 {
+            let (kind, text) = script(7, index);
+            if kind <= Kind::Edges {
+                assert!(text.len() <= MAX_SCRIPT);
+                assert!(!has_bad_line(&text), "{kind:?} {index}");
+            }
+        }
+    }
+
+    #[test]
+    fn a_missing_last_newline_is_a_bad_line() {
+        for index in 0..200 {
+            let (kind, text) = script(7, index);
+            if kind == Kind::NoLastNewline {
+                assert!(has_bad_line(&text));
+            }
+        }
+    }
+}

@@ -1,0 +1,282 @@
+//! A script that is being made up, call by call.
+//!
+//! Each call is also made on the model, to know which ids are live and which
+//! addresses are held. What is right is never read from it; the two programs
+//! that are compared run on their own.
+
+use author::{Author, Random, Style, EDGES};
+use directives::{is_choice, Answer, Call, Directive, MAX_SCRIPT, SCRIPT};
+use model::Model;
+
+/// No call has more bytes than this.
+const LONGEST_CALL: usize = 128;
+
+/// Page sizes that are allowed.
+const PAGES: [u32; 18] = [
+    1, 7, 8, 9, 16, 24, 33, 60, 64, 100, 128, 255, 512, 1_000, 1_024, 2_048, 4_095, 4_096,
+];
+
+/// One way to go on with a script.
+#[derive(Clone, Copy)]
+pub enum Step {
+    /// A call of one directive.
+    One(Directive),
+    /// A call with all arguments from the edges.
+    Edges,
+    /// A get of a few pages, so that a region is cut into many segments.
+    LittleGet,
+    /// Such a get that is then cut down to one page, so that a small free
+    /// segment stays behind it.
+    TrimmedGet,
+    /// Returning all that a region holds, and deleting it.
+    ClearRegion,
+    /// Returning all that a partition holds, and deleting it.
+    ClearPartition,
+    /// Taking the buffers that a partition has left, and one more.
+    DrainPartition,
+    /// A region whose area ends at, or one byte around, the end of its last
+    /// page; all of it is used, and mostly it is deleted again.
+    Layout,
+}
+
+pub struct Script {
+    pub random: Random,
+    pub style: Style,
+    model: Model,
+    text: Vec<u8>,
+    limit: usize,
+}
+
+impl Script {
+    /// An empty script that takes calls until about `limit` bytes are full.
+    pub fn new(random: Random, limit: usize) -> Script {
+        Script {
+            random,
+            style: Style::default(),
+            model: Model::fresh(),
+            text: Vec::new(),
+            limit: limit.min(MAX_SCRIPT),
+        }
+    }
+
+    fn has_room(&self) -> bool {
+        self.text.len() + LONGEST_CALL <= self.limit
+    }
+
+    /// How much of the room is used, in hundredths.
+    pub fn fill_percent(&self) -> usize {
+        self.text.len() * 100 / self.limit
+    }
+
+    pub fn into_text(self) -> Vec<u8> {
+        self.text
+    }
+
+    /// Adds a call to the script and gives the model's answer. Without room
+    /// for it, nothing happens.
+    pub fn add(&mut self, call: Call) -> Option<Answer> {
+        if !self.has_room() {
+            return None;
+        }
+        self.text.extend_from_slice(call.to_script().as_bytes());
+        Some(self.model.call(&call))
+    }
+
+    fn author(&mut self) -> Author<'_> {
+        Author {
+            random: &mut self.random,
+            style: &self.style,
+            model: &self.model,
+        }
+    }
+
+    /// Takes steps by their weights until the script is full.
+    pub fn fill(&mut self, steps: &[(u32, Step)]) {
+        while self.has_room() {
+            let step = self.random.weighted(steps);
+            self.take(step);
+        }
+    }
+
+    /// Takes a step between `low` and `high` times.
+    pub fn repeat(&mut self, low: u32, high: u32, step: Step) {
+        for _ in 0..self.random.between(low, high) {
+            self.take(step);
+        }
+    }
+
+    pub fn take(&mut self, step: Step) {
+        match step {
+            Step::One(directive) => self.one(directive),
+            Step::Edges => self.edges(),
+            Step::LittleGet => drop(self.little_get()),
+            Step::TrimmedGet => self.trimmed_get(),
+            Step::ClearRegion => {
+                let id = self.author().busy_region();
+                self.clear_region(id);
+            }
+            Step::ClearPartition => self.clear_partition(),
+            Step::DrainPartition => self.drain_partition(),
+            Step::Layout => self.layout(),
+        }
+    }
+
+    fn one(&mut self, directive: Directive) {
+        let call = self.author().call_of(directive);
+        self.add(call.clone());
+        // Giving back twice is refused.
+        let gives_back = matches!(directive, Directive::Return | Directive::ReturnBuffer);
+        if gives_back && self.random.chance(self.style.odd) {
+            self.add(call);
+        }
+    }
+
+    fn edges(&mut self) {
+        let directive = self.random.pick(SCRIPT);
+        let id = match directive {
+            Directive::ReturnBuffer => self.author().partition_id(),
+            _ => self.author().region_id(),
+        };
+        let live = self.random.chance(60);
+        let keys = directive.keys().iter();
+        let argument = |key: &&str| match *key {
+            "id" if live => id,
+            key if is_choice(key) => self.random.between(0, 1),
+            _ => self.random.pick(&EDGES),
+        };
+        let arguments: Vec<u32> = keys.map(argument).collect();
+        self.add(directive.call(&arguments));
+    }
+
+    /// Gives the id of the region and the address, if there was one.
+    fn little_get(&mut self) -> Option<(u32, u32)> {
+        let id = self.author().region_id();
+        let (page, _) = self.author().pages(id);
+        let size = self.random.between(1, page * 3);
+        let answer = self.add(get(id, size))?;
+        (answer.status == 0).then_some((id, answer.value))
+    }
+
+    fn trimmed_get(&mut self) {
+        if let Some((id, address)) = self.little_get() {
+            let (page, _) = self.author().pages(id);
+            let size = self.random.between(1, page);
+            self.add(Call::Resize { id, address, size });
+        }
+    }
+
+    fn clear_region(&mut self, id: u32) {
+        for segment in self.model.segments_held(id, true) {
+            let address = segment.address;
+            self.add(Call::Return { id, address });
+        }
+        self.add(Call::DeleteRegion { id });
+    }
+
+    fn clear_partition(&mut self) {
+        let id = self.author().busy_partition();
+        for address in self.model.held_buffers(id) {
+            self.add(Call::ReturnBuffer { id, address });
+        }
+        self.add(Call::DeletePartition { id });
+    }
+
+    fn drain_partition(&mut self) {
+        let id = self.author().partition_id();
+        let free = self.model.free_buffers(id).len();
+        let most = self.random.pick(&[10, 40, 40, 1_500]);
+        for _ in 0..free.min(most) + 1 {
+            self.add(Call::GetBuffer { id });
+        }
+    }
+
+    /// A large region with small pages.
+    pub fn create_fine_region(&mut self) {
+        let call = Call::CreateRegion {
+            name: self.author().name(),
+            start: self.random.between(1, 5_000),
+            length: self.random.between(40_000, 60_000),
+            page: self.random.between(1, 16),
+            order: self.random.between(0, 1),
+        };
+        self.add(call);
+    }
+
+    fn layout(&mut self) {
+        let page = self.random.pick(&PAGES);
+        let (start, length) = self.exact_area(page.next_multiple_of(8));
+        let call = Call::CreateRegion {
+            name: self.author().name(),
+            start,
+            length,
+            page: match self.random.chance(self.style.odd) {
+                true => self.random.pick(&[0, 4_097, u32::MAX]),
+                false => page,
+            },
+            order: 0,
+        };
+        let answer = self.add(call);
+        let id = answer.filter(|answer| answer.status == 0);
+        if let Some(id) = id.map(|answer| answer.value) {
+            self.use_layout(id);
+        }
+    }
+
+    /// The start and the length of an area for some pages, to the byte.
+    fn exact_area(&mut self, page: u32) -> (u32, u32) {
+        let memory = self.model.memory_bytes();
+        let most = (memory / (page + 4)).max(1);
+        let few = self.random.chance(75);
+        let pages = self
+            .random
+            .between(1, if few { most.min(40) } else { most });
+        let start = match self.random.below(3) {
+            0 => self.random.between(1, 64),
+            1 => self.random.between(1, 16) * page + self.random.between(0, 8) - 4,
+            _ => self.random.between(1, memory),
+        };
+        let map_end = start.next_multiple_of(4) + 4 * pages;
+        let end = match self.random.below(8) {
+            0 => memory,
+            _ => map_end.next_multiple_of(page) + pages * page,
+        };
+        let end = end + self.random.between(0, 2) - 1;
+        let length = match self.random.below(20) {
+            // The end wraps around to an allowed one.
+            0 => end.wrapping_sub(start).wrapping_sub(start),
+            _ => end.saturating_sub(start),
+        };
+        (start, length)
+    }
+
+    /// Looks at a new region, asks for all of it and for more.
+    fn use_layout(&mut self, id: u32) {
+        self.add(Call::Information { id });
+        let (page, pages) = self.author().pages(id);
+        let all = page * pages;
+        for size in [all + 1, 1, (all - page).max(1), 1] {
+            self.add(get(id, size));
+        }
+        if self.random.chance(85) {
+            self.clear_region(id);
+        }
+    }
+}
+
+/// A get without waiting.
+fn get(id: u32, size: u32) -> Call {
+    Directive::Get.call(&[id, size, 0, 0, 0, 0])
+}
+
+#[cfg(test)]
+mod tests {
+    use super::*;
+
+    #[test]
+    fn a_full_script_takes_no_call() {
+        let mut script = Script::new(Random::for_list(0, 0), LONGEST_CALL);
+        assert!(script.add(Call::Tick).is_some());
+        assert!(script.add(Call::Tick).is_none());
+        assert_eq!(script.into_text(), b"call=tick\n");
+    }
+}

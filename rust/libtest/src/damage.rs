@@ -1,0 +1,868 @@
+//! Made-up damage to a record, a memory or the length of a buffer.
+
+use crate::state::*;
+use author::Random;
+use directives::words::*;
+
+/// What is left after damage.
+#[derive(Clone, Copy, Debug, PartialEq, Eq)]
+pub enum Effect {
+    /// The record and the memory are unsound.
+    Unsound,
+    /// The record and the memory are still sound: they describe another state.
+    Sound,
+    /// Either.
+    Any,
+    /// The answer has fewer or more words than needed; the record and the
+    /// memory are sound.
+    WrongAnswer,
+}
+
+/// A kind of damage.
+pub struct Kind {
+    pub title: &'static str,
+    pub effect: Effect,
+    /// Damages a sound state. Gives nothing if the state has nothing of the
+    /// kind that is to be damaged.
+    pub apply: Apply,
+}
+
+/// Sets one field of a random live region.
+fn region_field(
+    random: &mut Random,
+    state: &mut State,
+    field: usize,
+    values: &[u32],
+) -> Option<()> {
+    let at = random.pick_any(&state.regions(true))?;
+    state.record[at + field] = random.pick(values);
+    Some(())
+}
+
+/// Sets one field of a random live partition.
+fn partition_field(
+    random: &mut Random,
+    state: &mut State,
+    field: usize,
+    values: &[u32],
+) -> Option<()> {
+    let at = random.pick_any(&state.partitions(true))?;
+    state.record[at + field] = random.pick(values);
+    Some(())
+}
+
+/// Sets one field of a random waiter.
+fn waiter_field(
+    random: &mut Random,
+    state: &mut State,
+    field: usize,
+    values: &[u32],
+) -> Option<()> {
+    let at = state.some_waiter(random)?;
+    state.record[at + field] = random.pick(values);
+    Some(())
+}
+
+/// A random segment of a random live region.
+fn some_segment(random: &mut Random, state: &State) -> Option<(usize, u32, bool)> {
+    let region = random.pick_any(&state.regions(true))?;
+    random.pick_any(&state.segments(region))
+}
+
+/// A random partition with at least so many free buffers, and its chain.
+fn some_chain(random: &mut Random, state: &State, least: u32) -> Option<(usize, Vec<u32>)> {
+    let mut partitions = state.partitions(true);
+    partitions.retain(|&at| state.record[at + FREE] >= least);
+    let at = random.pick_any(&partitions)?;
+    Some((at, state.chain(at)))
+}
+
+/// A random partition of which something is held, and one of its held
+/// buffers.
+fn some_held_buffer(random: &mut Random, state: &State, least: u32) -> Option<(usize, u32)> {
+    let buffers = |at: usize| state.record[at + LENGTH] / state.record[at + SIZE];
+    let mut partitions = state.partitions(true);
+    partitions.retain(|&at| {
+        let free = state.record[at + FREE];
+        free >= least && free < buffers(at)
+    });
+    let at = random.pick_any(&partitions)?;
+    let mut is_free = vec![false; buffers(at) as usize];
+    let address = |index: usize| state.record[at + START] + index as u32 * state.record[at + SIZE];
+    for free in state.chain(at) {
+        is_free[((free - state.record[at + START]) / state.record[at + SIZE]) as usize] = true;
+    }
+    let held: Vec<u32> = (0..is_free.len())
+        .filter(|&index| !is_free[index])
+        .map(address)
+        .collect();
+    Some((at, random.pick_any(&held)?))
+}
+
+/// A word near another, but not the same.
+fn near(random: &mut Random, word: u32) -> u32 {
+    let by = random.pick(&[1, 2, 3, 4, 8, 16, 64]);
+    if random.chance(50) {
+        word.wrapping_add(by)
+    } else {
+        word.wrapping_sub(by)
+    }
+}
+
+type Apply = fn(&mut Random, &mut State) -> Option<()>;
+
+const fn kind(title: &'static str, effect: Effect, apply: Apply) -> Kind {
+    Kind {
+        title,
+        effect,
+        apply,
+    }
+}
+
+const fn any(title: &'static str, apply: Apply) -> Kind {
+    kind(title, Effect::Any, apply)
+}
+
+const fn sound(title: &'static str, apply: Apply) -> Kind {
+    kind(title, Effect::Sound, apply)
+}
+
+const fn unsound(title: &'static str, apply: Apply) -> Kind {
+    kind(title, Effect::Unsound, apply)
+}
+
+const fn wrong_answer(title: &'static str, apply: Apply) -> Kind {
+    kind(title, Effect::WrongAnswer, apply)
+}
+
+/// Every kind of damage.
+pub const KINDS: &[Kind] = &[
+    // Any word.
+    any("any record word: any value", |random, state| {
+        let word = random.below(RECORD_WORDS);
+        state.record[word] = random.word();
+        Some(())
+    }),
+    any("any record word: a near value", |random, state| {
+        let word = random.below(RECORD_WORDS);
+        state.record[word] = near(random, state.record[word]);
+        Some(())
+    }),
+    any("any record word: one bit", |random, state| {
+        let word = random.below(RECORD_WORDS);
+        state.record[word] ^= 1 << random.below(32);
+        Some(())
+    }),
+    any("any record word: another record word", |random, state| {
+        let word = random.below(RECORD_WORDS);
+        state.record[word] = random.pick(&state.record);
+        Some(())
+    }),
+    any(
+        "a record word that is not 0: a near value",
+        |random, state| {
+            let words: Vec<usize> = (0..RECORD_WORDS)
+                .filter(|&word| state.record[word] != 0)
+                .collect();
+            let word = random.pick_any(&words)?;
+            state.record[word] = near(random, state.record[word]);
+            Some(())
+        },
+    ),
+    any("all record words: any values", |random, state| {
+        state.record.fill_with(|| random.word());
+        Some(())
+    }),
+    sound("all record words: 0", |_, state| {
+        state.record.fill(0);
+        Some(())
+    }),
+    any("any memory word: any value", |random, state| {
+        let word = random.below(state.memory.len());
+        state.memory[word] = random.word();
+        Some(())
+    }),
+    any("any memory word: a near value", |random, state| {
+        let word = random.below(state.memory.len());
+        state.memory[word] = near(random, state.memory[word]);
+        Some(())
+    }),
+    any("all memory words: 0", |_, state| {
+        state.memory.fill(0);
+        Some(())
+    }),
+    any(
+        "three words of record and memory: any values",
+        |random, state| {
+            for _ in 0..3 {
+                let word = random.below(RECORD_WORDS + state.memory.len());
+                let value = random.word();
+                match state.record.get_mut(word) {
+                    Some(old) => *old = value,
+                    None => state.memory[word - RECORD_WORDS] = value,
+                }
+            }
+            Some(())
+        },
+    ),
+    // Lengths.
+    unsound("memory of 0 words", |_, state| {
+        state.memory.clear();
+        Some(())
+    }),
+    unsound("memory of 16,385 words", |_, state| {
+        state.memory.resize(MEMORY_WORDS + 1, 0);
+        Some(())
+    }),
+    sound("memory of 16,384 words", |_, state| {
+        state.memory.resize(MEMORY_WORDS, 0);
+        Some(())
+    }),
+    sound("memory cut after the last area", |_, state| {
+        let (_, end, _) = *state.areas().last()?;
+        state.memory.truncate(end.div_ceil(4) as usize);
+        Some(())
+    }),
+    unsound("memory cut within the last area", |random, state| {
+        let (_, end, _) = *state.areas().last()?;
+        let words = end.div_ceil(4) as usize - 1;
+        state.memory.truncate(words - random.below(words.min(3)));
+        Some(())
+    }),
+    unsound("record of 175 words", |_, state| {
+        state.record.truncate(RECORD_WORDS - 1);
+        Some(())
+    }),
+    unsound("record of 177 words", |_, state| {
+        state.record.push(0);
+        Some(())
+    }),
+    unsound("record of 0 words", |_, state| {
+        state.record.clear();
+        Some(())
+    }),
+    wrong_answer("answer of 54 words", |_, state| {
+        state.answer_words = ANSWER_WORDS - 1;
+        Some(())
+    }),
+    wrong_answer("answer of 56 words", |_, state| {
+        state.answer_words = ANSWER_WORDS + 1;
+        Some(())
+    }),
+    wrong_answer("answer of 0 words", |_, state| {
+        state.answer_words = 0;
+        Some(())
+    }),
+    // Slots of regions.
+    unsound("order neither 0 nor 1", |random, state| {
+        region_field(random, state, ORDER, &[2, 3, 256, MAX])
+    }),
+    unsound("order of an empty slot not 0", |random, state| {
+        let at = random.pick_any(&state.regions(false))?;
+        state.record[at + ORDER] = random.pick(&[1, 2, MAX]);
+        Some(())
+    }),
+    unsound("empty region slot with a field not 0", |random, state| {
+        let at = random.pick_any(&state.regions(false))?;
+        let field = random.pick(&[START, LENGTH, PAGE]);
+        state.record[at + field] = random.pick(&[1, 8, 1 << 31, MAX]);
+        Some(())
+    }),
+    unsound("name of a live region 0", |random, state| {
+        region_field(random, state, NAME, &[0])
+    }),
+    sound("name of a live region another", |random, state| {
+        region_field(random, state, NAME, &[1, 77, MAX])
+    }),
+    unsound("region's start 0", |random, state| {
+        region_field(random, state, START, &[0])
+    }),
+    unsound("region's end wraps", |random, state| {
+        let at = random.pick_any(&state.regions(true))?;
+        let (start, length) = (state.record[at + START], state.record[at + LENGTH]);
+        // The end is 0, 1 or near the old end, all after a wrap.
+        match random.below(4) {
+            0 => state.record[at + START] = length.wrapping_neg(),
+            1 => state.record[at + START] = length.wrapping_neg().wrapping_add(1),
+            2 => state.record[at + LENGTH] = start.wrapping_neg(),
+            _ => state.record[at + LENGTH] = MAX - random.below(3) as u32,
+        }
+        Some(())
+    }),
+    unsound("region one byte past the memory", |random, state| {
+        let at = random.pick_any(&state.regions(true))?;
+        state.record[at + LENGTH] = state.bytes() - state.record[at + START] + 1;
+        Some(())
+    }),
+    unsound("page 0", |random, state| {
+        region_field(random, state, PAGE, &[0])
+    }),
+    unsound("page not rounded", |random, state| {
+        let at = random.pick_any(&state.regions(true))?;
+        state.record[at + PAGE] -= random.between(1, 7);
+        Some(())
+    }),
+    unsound("page above 4,096", |random, state| {
+        region_field(random, state, PAGE, &[4_104, 8_192, 1 << 31, MAX - 7])
+    }),
+    any("page another multiple of 8", |random, state| {
+        let at = random.pick_any(&state.regions(true))?;
+        state.record[at + PAGE] = 8 * random.between(1, 512);
+        Some(())
+    }),
+    unsound("region without a page", |random, state| {
+        let at = random.pick_any(&state.regions(true))?;
+        let (start, page) = (state.record[at + START], state.record[at + PAGE]);
+        let least = (start.next_multiple_of(4) + 4).next_multiple_of(page) + page - start;
+        state.record[at + LENGTH] = random.pick(&[0, 1, 11, least - 1]);
+        Some(())
+    }),
+    any("region's length near", |random, state| {
+        let at = random.pick_any(&state.regions(true))?;
+        state.record[at + LENGTH] = near(random, state.record[at + LENGTH]);
+        Some(())
+    }),
+    any("region's start near", |random, state| {
+        let at = random.pick_any(&state.regions(true))?;
+        state.record[at + START] = near(random, state.record[at + START]);
+        Some(())
+    }),
+    // Slots of partitions.
+    unsound(
+        "empty partition slot with a field not 0",
+        |random, state| {
+            let at = random.pick_any(&state.partitions(false))?;
+            state.record[at + random.pick(&[1, 2, 3, 4, 5, 6])] =
+                random.pick(&[1, 8, 1 << 31, MAX]);
+            Some(())
+        },
+    ),
+    unsound("name of a live partition 0", |random, state| {
+        partition_field(random, state, NAME, &[0])
+    }),
+    sound("name of a live partition another", |random, state| {
+        partition_field(random, state, NAME, &[1, 77, MAX])
+    }),
+    unsound("partition's start 0", |random, state| {
+        partition_field(random, state, START, &[0])
+    }),
+    unsound("partition's start not a multiple of 4", |random, state| {
+        let at = random.pick_any(&state.partitions(true))?;
+        state.record[at + START] += random.between(1, 3);
+        Some(())
+    }),
+    unsound("partition's end wraps", |random, state| {
+        let at = random.pick_any(&state.partitions(true))?;
+        let (start, length) = (state.record[at + START], state.record[at + LENGTH]);
+        match random.below(4) {
+            0 => state.record[at + START] = length.wrapping_neg() & !3,
+            1 => state.record[at + START] = MAX - 3,
+            2 => state.record[at + LENGTH] = start.wrapping_neg(),
+            _ => state.record[at + LENGTH] = MAX - random.below(3) as u32,
+        }
+        Some(())
+    }),
+    unsound("partition one byte past the memory", |random, state| {
+        let at = random.pick_any(&state.partitions(true))?;
+        state.record[at + LENGTH] = state.bytes() - state.record[at + START] + 1;
+        Some(())
+    }),
+    unsound("buffer size not a multiple of 4", |random, state| {
+        let at = random.pick_any(&state.partitions(true))?;
+        state.record[at + SIZE] += random.pick(&[1, 2, 3, 5]);
+        Some(())
+    }),
+    unsound("buffer size below 8", |random, state| {
+        partition_field(random, state, SIZE, &[0, 4])
+    }),
+    any("buffer size another multiple of 4", |random, state| {
+        let at = random.pick_any(&state.partitions(true))?;
+        let size = state.record[at + SIZE];
+        state.record[at + SIZE] = random.pick(&[size + 4, 2 * size, 8, 12]);
+        Some(())
+    }),
+    unsound(
+        "partition's length below its buffer size",
+        |random, state| {
+            let at = random.pick_any(&state.partitions(true))?;
+            state.record[at + LENGTH] = random.pick(&[0, 1, state.record[at + SIZE] - 1]);
+            Some(())
+        },
+    ),
+    any("partition's length near", |random, state| {
+        let at = random.pick_any(&state.partitions(true))?;
+        state.record[at + LENGTH] = near(random, state.record[at + LENGTH]);
+        Some(())
+    }),
+    // Overlaps.
+    unsound("area one byte into the next one", |random, state| {
+        let areas = state.areas();
+        let pairs: Vec<(usize, u32)> = areas
+            .windows(2)
+            .map(|pair| (pair[0].2, pair[1].0 - pair[0].0 + 1))
+            .collect();
+        let (at, length) = random.pick_any(&pairs)?;
+        state.record[at + LENGTH] = length;
+        Some(())
+    }),
+    any("area up to the next one", |random, state| {
+        let areas = state.areas();
+        let pairs: Vec<(usize, u32)> = areas
+            .windows(2)
+            .map(|pair| (pair[0].2, pair[1].0 - pair[0].0))
+            .collect();
+        let (at, length) = random.pick_any(&pairs)?;
+        state.record[at + LENGTH] = length;
+        Some(())
+    }),
+    sound("partition added in a gap, all held", |_, state| {
+        let (low, high) = state.gap(8)?;
+        state.plant_partition(low, high - low)?;
+        Some(())
+    }),
+    unsound("partition added in a live area", |random, state| {
+        let (start, end, _) = random.pick_any(&state.areas())?;
+        let last = (end - 1) & !3;
+        let first = (start & !3).max(4);
+        let from = random.pick(&[first, last]);
+        if from + 8 > state.bytes() {
+            return None;
+        }
+        state.plant_partition(from, 8)?;
+        Some(())
+    }),
+    unsound("two partitions added, one within the other", |_, state| {
+        let (low, _) = state.gap(16)?;
+        state.plant_partition(low, 16)?;
+        state.plant_partition(low + 8, 8)?;
+        Some(())
+    }),
+    sound("region added in a gap", |_, state| {
+        let (low, high) = state.gap(40)?;
+        state.plant_region(low, high - low)?;
+        Some(())
+    }),
+    unsound("two regions added, overlapping in one byte", |_, state| {
+        // One page at low + 8, and one at low + 24 with its map before.
+        let (low, _) = state.gap(48)?;
+        let page = (low + 4).next_multiple_of(8);
+        state.plant_region(low, page + 8 - low + 1)?;
+        state.plant_region(page + 8, 24)?;
+        Some(())
+    }),
+    // Maps.
+    any("map: segment's first word at an edge", |random, state| {
+        let (at, pages, _) = some_segment(random, state)?;
+        state.memory[at] = random.pick(&[
+            0,
+            1,
+            2,
+            3,
+            MAX,
+            MAX - 1,
+            1 << 31,
+            2 * pages + 2,
+            2 * pages + 3,
+            2 * pages - 2,
+            2 * pages - 1,
+        ]);
+        Some(())
+    }),
+    unsound("map: segment of no page", |random, state| {
+        let (at, _, held) = some_segment(random, state)?;
+        state.memory[at] = u32::from(held);
+        Some(())
+    }),
+    unsound("map: last segment one page too long", |random, state| {
+        let region = random.pick_any(&state.regions(true))?;
+        let (at, ..) = *state.segments(region).last()?;
+        state.memory[at] += 2;
+        Some(())
+    }),
+    unsound("map: segment of 2^31 - 1 pages", |random, state| {
+        let (at, ..) = some_segment(random, state)?;
+        state.memory[at] = random.pick(&[MAX, MAX - 1]);
+        Some(())
+    }),
+    unsound("map: inner word not 0", |random, state| {
+        let region = random.pick_any(&state.regions(true))?;
+        let mut segments = state.segments(region);
+        segments.retain(|&(_, pages, _)| pages > 1);
+        let (at, pages, _) = random.pick_any(&segments)?;
+        let inner = random.between(1, pages - 1);
+        state.memory[at + inner as usize] = random.pick(&[1, 2, 3, MAX, 1 << 31]);
+        Some(())
+    }),
+    unsound("map: free segment in two", |random, state| {
+        let region = random.pick_any(&state.regions(true))?;
+        let mut segments = state.segments(region);
+        segments.retain(|&(_, pages, held)| pages > 1 && !held);
+        let (at, pages, _) = random.pick_any(&segments)?;
+        let first = random.between(1, pages - 1);
+        state.memory[at] = 2 * first;
+        state.memory[at + first as usize] = 2 * (pages - first);
+        Some(())
+    }),
+    sound("map: held segment in two", |random, state| {
+        let region = random.pick_any(&state.regions(true))?;
+        let mut segments = state.segments(region);
+        segments.retain(|&(_, pages, held)| pages > 1 && held);
+        let (at, pages, _) = random.pick_any(&segments)?;
+        let first = random.between(1, pages - 1);
+        state.memory[at] = 2 * first + 1;
+        state.memory[at + first as usize] = 2 * (pages - first) + 1;
+        Some(())
+    }),
+    unsound(
+        "map: held segment free, beside a free one",
+        |random, state| {
+            let region = random.pick_any(&state.regions(true))?;
+            let segments = state.segments(region);
+            let pairs: Vec<usize> = segments
+                .windows(2)
+                .filter(|pair| pair[0].2 != pair[1].2)
+                .map(|pair| if pair[0].2 { pair[0].0 } else { pair[1].0 })
+                .collect();
+            let at = random.pick_any(&pairs)?;
+            state.memory[at] -= 1;
+            Some(())
+        },
+    ),
+    sound("map: free segment held", |random, state| {
+        let region = random.pick_any(&state.regions(true))?;
+        let mut segments = state.segments(region);
+        segments.retain(|&(_, _, held)| !held);
+        let (at, ..) = random.pick_any(&segments)?;
+        state.memory[at] += 1;
+        Some(())
+    }),
+    // Chains.
+    unsound(
+        "chain: rear linked to the front, both ways",
+        |random, state| {
+            let (_, chain) = some_chain(random, state, 1)?;
+            let (front, rear) = (chain[0], chain[chain.len() - 1]);
+            *state.next(rear) = front;
+            *state.before(front) = rear;
+            Some(())
+        },
+    ),
+    unsound(
+        "chain: rear linked to an earlier buffer",
+        |random, state| {
+            let (_, chain) = some_chain(random, state, 1)?;
+            let rear = chain[chain.len() - 1];
+            *state.next(rear) = random.pick(&chain);
+            Some(())
+        },
+    ),
+    unsound("chain: a buffer linked to itself", |random, state| {
+        let (_, chain) = some_chain(random, state, 1)?;
+        let buffer = random.pick(&chain);
+        *state.next(buffer) = buffer;
+        if random.chance(50) {
+            *state.before(buffer) = buffer;
+        }
+        Some(())
+    }),
+    unsound(
+        "chain: two buffers in a ring, count unchanged",
+        |random, state| {
+            let (_, chain) = some_chain(random, state, 3)?;
+            *state.next(chain[1]) = chain[0];
+            *state.before(chain[0]) = chain[1];
+            Some(())
+        },
+    ),
+    unsound("chain: count one more", |random, state| {
+        let at = random.pick_any(&state.partitions(true))?;
+        state.record[at + FREE] += 1;
+        Some(())
+    }),
+    unsound("chain: count one less", |random, state| {
+        let (at, _) = some_chain(random, state, 1)?;
+        state.record[at + FREE] -= 1;
+        Some(())
+    }),
+    unsound("chain: count 0", |random, state| {
+        let (at, _) = some_chain(random, state, 1)?;
+        state.record[at + FREE] = 0;
+        Some(())
+    }),
+    unsound("chain: count very large", |random, state| {
+        partition_field(random, state, FREE, &[MAX, 1 << 31, 16_385])
+    }),
+    unsound(
+        "chain: no free buffer, but an end not 0",
+        |random, state| {
+            let mut partitions = state.partitions(true);
+            partitions.retain(|&at| state.record[at + FREE] == 0);
+            let at = random.pick_any(&partitions)?;
+            let start = state.record[at + START];
+            let field = random.pick(&[FRONT, REAR]);
+            state.record[at + field] = random.pick(&[start, 1, MAX]);
+            Some(())
+        },
+    ),
+    unsound("chain: front 0", |random, state| {
+        let (at, _) = some_chain(random, state, 1)?;
+        state.record[at + FRONT] = 0;
+        Some(())
+    }),
+    unsound("chain: front the second buffer", |random, state| {
+        let (at, chain) = some_chain(random, state, 2)?;
+        state.record[at + FRONT] = chain[1];
+        Some(())
+    }),
+    unsound("chain: rear wrong", |random, state| {
+        let (at, chain) = some_chain(random, state, 1)?;
+        let rear = chain[chain.len() - 1];
+        let other = if chain.len() > 1 {
+            chain[chain.len() - 2]
+        } else {
+            0
+        };
+        state.record[at + REAR] = random.pick(&[0, rear + 4, rear - 4, other, MAX]);
+        Some(())
+    }),
+    unsound("chain: back link wrong", |random, state| {
+        let (_, chain) = some_chain(random, state, 1)?;
+        let place = random.below(chain.len());
+        let before = if place > 0 { chain[place - 1] } else { 0 };
+        let wrong = random.pick(&[0, chain[place], chain[0], MAX, before + 4]);
+        *state.before(chain[place]) = if wrong == before { before ^ 8 } else { wrong };
+        Some(())
+    }),
+    unsound("chain: link to no buffer", |random, state| {
+        let (at, chain) = some_chain(random, state, 1)?;
+        let (start, length) = (state.record[at + START], state.record[at + LENGTH]);
+        let size = state.record[at + SIZE];
+        let past = start + length / size * size;
+        let some = random.pick(&chain);
+        let wrong = random.pick(&[
+            some + 4,
+            some + 1,
+            some - 2,
+            past,
+            start - 4,
+            start.wrapping_sub(size),
+            state.bytes(),
+            MAX,
+            MAX - 3,
+        ]);
+        let wrong = if wrong == 0 { some + 4 } else { wrong };
+        // A wrong link or a wrong front.
+        let place = random.below(chain.len() + 1);
+        match chain.get(place) {
+            Some(&buffer) => *state.next(buffer) = wrong,
+            None => state.record[at + FRONT] = wrong,
+        }
+        Some(())
+    }),
+    unsound("chain: link to a buffer past the last", |random, state| {
+        // The chain goes on to the address after the last buffer, and all
+        // links and the count agree with it.
+        let (at, mut chain) = some_chain(random, state, 1)?;
+        let (start, length) = (state.record[at + START], state.record[at + LENGTH]);
+        let size = state.record[at + SIZE];
+        let past = start + length / size * size;
+        if past + 8 > state.bytes() {
+            return None;
+        }
+        let place = random.below(chain.len());
+        if random.chance(50) {
+            chain[place] = past;
+        } else {
+            chain.push(past);
+        }
+        state.draw_chain(at, &chain);
+        Some(())
+    }),
+    unsound("chain: ends early", |random, state| {
+        let (_, chain) = some_chain(random, state, 2)?;
+        *state.next(chain[random.below(chain.len() - 1)]) = 0;
+        Some(())
+    }),
+    unsound("chain: goes on to a held buffer", |random, state| {
+        let (at, held) = some_held_buffer(random, state, 1)?;
+        let rear = state.record[at + REAR];
+        *state.next(rear) = held;
+        *state.before(held) = rear;
+        *state.next(held) = 0;
+        Some(())
+    }),
+    sound(
+        "chain: a held buffer in it, count right",
+        |random, state| {
+            let (at, held) = some_held_buffer(random, state, 0)?;
+            let mut chain = state.chain(at);
+            chain.insert(random.below(chain.len() + 1), held);
+            state.draw_chain(at, &chain);
+            Some(())
+        },
+    ),
+    sound("chain: a buffer left out, count right", |random, state| {
+        let (at, mut chain) = some_chain(random, state, 1)?;
+        chain.remove(random.below(chain.len()));
+        state.draw_chain(at, &chain);
+        Some(())
+    }),
+    sound("chain: another order", |random, state| {
+        let (at, mut chain) = some_chain(random, state, 2)?;
+        for place in 1..chain.len() {
+            chain.swap(place, random.below(place + 1));
+        }
+        state.draw_chain(at, &chain);
+        Some(())
+    }),
+    // Waiters.
+    sound("waiter added", |random, state| {
+        for _ in 0..random.between(1, 16) {
+            state.plant_waiter(random);
+        }
+        state.waiters().first()?;
+        Some(())
+    }),
+    unsound("waiter: same task twice", |random, state| {
+        state.plant_waiter(random)?;
+        let first = state.some_waiter(random)?;
+        let mut others = state.waiters();
+        others.retain(|&at| at != first);
+        let second = random.pick_any(&others)?;
+        state.record[second + TASK] = state.record[first + TASK];
+        Some(())
+    }),
+    unsound("waiter: task above 16", |random, state| {
+        waiter_field(random, state, TASK, &[17, 18, 32, 33, MAX])
+    }),
+    unsound("waiter: task 0", |random, state| {
+        waiter_field(random, state, TASK, &[0])
+    }),
+    unsound("waiter: region id not 1 to 8", |random, state| {
+        waiter_field(random, state, REGION, &[0, 9, 10, 257, MAX])
+    }),
+    unsound("waiter: empty region", |random, state| {
+        let empty = random.pick_any(&state.regions(false))?;
+        let at = state.some_waiter(random)?;
+        state.record[at + REGION] = (empty / REGION_WORDS) as u32 + 1;
+        Some(())
+    }),
+    unsound("waiter: in a region with nothing held", |random, state| {
+        let mut regions = state.regions(true);
+        regions.retain(|&region| !state.anything_held(region));
+        let region = random.pick_any(&regions)?;
+        state.plant_waiter_in(random, region)?;
+        Some(())
+    }),
+    unsound(
+        "waiter: all segments of its region freed",
+        |random, state| {
+            let at = state.some_waiter(random)?;
+            let region = region_at(state.record[at + REGION] as usize - 1);
+            let layout = state.layout(region);
+            let map = &mut state.memory[layout.map..][..layout.pages as usize];
+            map.fill(0);
+            map[0] = 2 * layout.pages;
+            Some(())
+        },
+    ),
+    unsound("waiter: size 0", |random, state| {
+        waiter_field(random, state, WANTED, &[0])
+    }),
+    unsound("waiter: size above the region's pages", |random, state| {
+        let at = state.some_waiter(random)?;
+        let region = region_at(state.record[at + REGION] as usize - 1);
+        let page = state.record[region + PAGE];
+        let most = page * state.layout(region).pages;
+        state.record[at + WANTED] = random.pick(&[most + 1, MAX, MAX - page + 2, 1 << 31]);
+        Some(())
+    }),
+    sound("waiter: size all of the region's pages", |random, state| {
+        let at = state.some_waiter(random)?;
+        let region = region_at(state.record[at + REGION] as usize - 1);
+        state.record[at + WANTED] = state.record[region + PAGE] * state.layout(region).pages;
+        Some(())
+    }),
+    unsound("waiter: priority 0", |random, state| {
+        waiter_field(random, state, PRIORITY, &[0])
+    }),
+    unsound("waiter: priority above 255", |random, state| {
+        waiter_field(random, state, PRIORITY, &[256, 257, 512, MAX])
+    }),
+    any("waiter: priority another", |random, state| {
+        waiter_field(random, state, PRIORITY, &[1, 2, 100, 254, 255])
+    }),
+    sound("waiter: ticks another", |random, state| {
+        let at = state.some_waiter(random)?;
+        state.record[at + 4] = random.pick(&[0, 1, 2, MAX]);
+        Some(())
+    }),
+    unsound("queue: used place after an unused one", |random, state| {
+        let at = state.some_waiter(random)?;
+        let unused = state.unused_place()?;
+        // The last waiter goes further on, or a place in between is
+        // cleared.
+        let last = unused - WAITER_WORDS;
+        if at == last || random.chance(50) {
+            let to = RECORD_WORDS - WAITER_WORDS;
+            state.record.copy_within(last..unused, to);
+            state.record[last..unused].fill(0);
+        } else {
+            state.record[at..at + WAITER_WORDS].fill(0);
+        }
+        Some(())
+    }),
+    unsound("queue: unused place with a field not 0", |random, state| {
+        let unused = state.unused_place()?;
+        let places: Vec<usize> = (unused..RECORD_WORDS).step_by(WAITER_WORDS).collect();
+        let at = random.pick(&places);
+        state.record[at + random.pick(&[1, 2, 3, 4])] = random.pick(&[1, 2, MAX]);
+        Some(())
+    }),
+    any("queue: two waiters change places", |random, state| {
+        state.plant_waiter(random)?;
+        let (one, other) = (state.some_waiter(random)?, state.some_waiter(random)?);
+        for field in 0..WAITER_WORDS {
+            state.record.swap(one + field, other + field);
+        }
+        Some(())
+    }),
+    unsound(
+        "queue: waiters of two regions change places",
+        |random, state| {
+            for _ in 0..3 {
+                state.plant_waiter(random);
+            }
+            let (first, last) = (*state.waiters().first()?, *state.waiters().last()?);
+            if state.record[first + REGION] == state.record[last + REGION] {
+                return None;
+            }
+            for field in 0..WAITER_WORDS {
+                state.record.swap(first + field, last + field);
+            }
+            Some(())
+        },
+    ),
+    unsound(
+        "queue: more urgent waiter behind, by priority",
+        |random, state| {
+            let mut regions = state.regions(true);
+            regions.retain(|&at| state.record[at + ORDER] == 1 && state.anything_held(at));
+            let region = random.pick_any(&regions)?;
+            state.plant_waiter_in(random, region)?;
+            state.plant_waiter_in(random, region)?;
+            let id = (region / REGION_WORDS) as u32 + 1;
+            let mut queue = state.waiters();
+            queue.retain(|&at| state.record[at + REGION] == id);
+            let (first, last) = (queue[0], queue[queue.len() - 1]);
+            state.record[first + PRIORITY] = random.pick(&[2, 255]);
+            state.record[last + PRIORITY] = 1;
+            Some(())
+        },
+    ),
+    any("queue: region's order the other one", |random, state| {
+        let at = random.pick_any(&state.regions(true))?;
+        state.record[at + ORDER] ^= 1;
+        Some(())
+    }),
+];

@@ -1,0 +1,610 @@
+//! The library's functions in ordinary Rust, over the same raw words.
+//!
+//! Each function first checks the whole record and memory, as the library
+//! does, and then works in place: on the slots of the record, the words of
+//! the maps and the link words of the chains. Nothing is allocated.
+
+use crate::call::{Buffers, Call, Library};
+use crate::sound::{self, layout, Layout};
+use crate::words::*;
+
+/// The ordinary implementation. It has no state of its own.
+#[derive(Clone, Copy, Debug, Default)]
+pub struct Plain;
+
+impl Library for Plain {
+    fn call(&mut self, buffers: Buffers, call: &Call) -> usize {
+        let Buffers {
+            record,
+            memory,
+            answer,
+        } = buffers;
+        let status = match *call {
+            Call::Read { id, address } => return read(record, memory, answer, id, address),
+            Call::Write {
+                id,
+                address,
+                first,
+                ref words,
+            } => write(record, memory, words, id, address, first),
+            _ => directive(record, memory, answer, call),
+        };
+        status as usize
+    }
+}
+
+/// Any call but a read and a write.
+fn directive(record: &mut [u32], memory: &mut [u32], answer: &mut [u32], call: &Call) -> u32 {
+    if answer.len() < ANSWER_WORDS || call.has_wrong_choice() || !is_record(record) {
+        return status::INTERNAL_ERROR;
+    }
+    answer[..ANSWER_WORDS].fill(0);
+    if sound::check(record, memory).is_err() {
+        return status::INTERNAL_ERROR;
+    }
+    let mut state = State {
+        record,
+        memory,
+        answer,
+    };
+    let result = match *call {
+        Call::CreateRegion {
+            name,
+            start,
+            length,
+            page,
+            order,
+        } => state.create_region(name, start, length, page, order),
+        Call::IdentRegion { name } => state.ident(name, region_at),
+        Call::DeleteRegion { id } => state.delete_region(id),
+        Call::Get {
+            id,
+            size,
+            wait,
+            task,
+            priority,
+            ticks,
+        } => state.get(id, size, (wait == 1).then_some([task, priority, ticks])),
+        Call::Return { id, address } => state.return_segment(id, address),
+        Call::Size { id, address } => state.size(id, address),
+        Call::Resize { id, address, size } => state.resize(id, address, size),
+        Call::Information { id } => state.information(id),
+        Call::CreatePartition {
+            name,
+            start,
+            length,
+            size,
+        } => state.create_partition(name, start, length, size),
+        Call::IdentPartition { name } => state.ident(name, partition_at),
+        Call::DeletePartition { id } => state.delete_partition(id),
+        Call::GetBuffer { id } => state.get_buffer(id),
+        Call::ReturnBuffer { id, address } => state.return_buffer(id, address),
+        Call::Tick => state.tick(),
+        Call::Read { .. } | Call::Write { .. } => unreachable!("these have no answer"),
+    };
+    match result {
+        Ok(value) => {
+            state.answer[0] = value;
+            status::SUCCESSFUL
+        }
+        Err(status) => status,
+    }
+}
+
+/// Copies a held segment's words and gives how many it has; 0 if refused.
+fn read(record: &[u32], memory: &[u32], words: &mut [u32], id: u32, address: u32) -> usize {
+    if sound::check(record, memory).is_err() {
+        return 0;
+    }
+    let Ok((at, length)) = segment_words(record, memory, id, address) else {
+        return 0;
+    };
+    let count = length.min(words.len());
+    words[..count].copy_from_slice(&memory[at..at + count]);
+    length
+}
+
+fn write(
+    record: &[u32],
+    memory: &mut [u32],
+    words: &[u32],
+    id: u32,
+    address: u32,
+    first: u32,
+) -> u32 {
+    if sound::check(record, memory).is_err() {
+        return status::INTERNAL_ERROR;
+    }
+    let (at, length) = match segment_words(record, memory, id, address) {
+        Ok(place) => place,
+        Err(status) => return status,
+    };
+    let first = first as usize;
+    if first > length || words.len() > length - first {
+        return status::INVALID_SIZE;
+    }
+    memory[at + first..][..words.len()].copy_from_slice(words);
+    status::SUCCESSFUL
+}
+
+/// The first memory word of a held segment, and its words.
+fn segment_words(
+    record: &[u32],
+    memory: &[u32],
+    id: u32,
+    address: u32,
+) -> Result<(usize, usize), u32> {
+    let region = Region::find(record, id)?;
+    let (_, pages) = region.held_at(memory, address)?;
+    let words = pages * region.page as usize / 4;
+    Ok((address as usize / 4, words))
+}
+
+/// The slot index of an id.
+fn index_of(id: u32) -> Result<usize, u32> {
+    if (1..=SLOTS as u32).contains(&id) {
+        Ok(id as usize - 1)
+    } else {
+        Err(status::INVALID_ID)
+    }
+}
+
+/// The first word of a partition's live slot.
+fn find_partition(record: &[u32], id: u32) -> Result<usize, u32> {
+    let at = partition_at(index_of(id)?);
+    if record[at] == 0 {
+        return Err(status::INVALID_ID);
+    }
+    Ok(at)
+}
+
+/// A live region: its slot, its page size and where its pages lie.
+#[derive(Clone, Copy)]
+struct Region {
+    at: usize,
+    page: u32,
+    layout: Layout,
+}
+
+impl Region {
+    fn find(record: &[u32], id: u32) -> Result<Region, u32> {
+        let at = region_at(index_of(id)?);
+        if record[at] == 0 {
+            return Err(status::INVALID_ID);
+        }
+        let page = record[at + 3];
+        Ok(Region {
+            at,
+            page,
+            layout: layout(record[at + 1], record[at + 2], page),
+        })
+    }
+
+    fn address_of(&self, page: usize) -> u32 {
+        self.layout.first_page + page as u32 * self.page
+    }
+
+    fn pages_for(&self, size: u32) -> usize {
+        size.div_ceil(self.page) as usize
+    }
+
+    fn pages(&self) -> usize {
+        self.layout.pages as usize
+    }
+
+    fn word(&self, page: usize) -> usize {
+        self.layout.map + page
+    }
+
+    /// The first page and the pages of the held segment at an address.
+    fn held_at(&self, memory: &[u32], address: u32) -> Result<(usize, usize), u32> {
+        let refused = Err(status::INVALID_ADDRESS);
+        let Some(offset) = address.checked_sub(self.layout.first_page) else {
+            return refused;
+        };
+        let page = (offset / self.page) as usize;
+        if offset % self.page != 0 || page >= self.pages() {
+            return refused;
+        }
+        // Only the first word of a held segment is odd.
+        let word = memory[self.word(page)];
+        if word.is_multiple_of(2) {
+            return refused;
+        }
+        Ok((page, (word / 2) as usize))
+    }
+
+    /// The segments by rising address: first page, pages, and if it is held.
+    fn segments<'a>(&self, memory: &'a [u32]) -> impl Iterator<Item = (usize, usize, bool)> + 'a {
+        let map = &memory[self.layout.map..][..self.pages()];
+        let mut page = 0;
+        std::iter::from_fn(move || {
+            let word = *map.get(page)?;
+            let first = page;
+            page += (word / 2) as usize;
+            Some((first, page - first, word % 2 == 1))
+        })
+    }
+
+    /// Holds so many pages from the lowest free segment that has enough, and
+    /// gives the address.
+    fn take(&self, memory: &mut [u32], pages: usize) -> Option<u32> {
+        let (first, room, _) = self
+            .segments(memory)
+            .find(|&(_, room, held)| !held && room >= pages)?;
+        if room > pages {
+            memory[self.word(first + pages)] = 2 * (room - pages) as u32;
+        }
+        memory[self.word(first)] = 2 * pages as u32 + 1;
+        Some(self.address_of(first))
+    }
+}
+
+struct State<'a> {
+    record: &'a mut [u32],
+    memory: &'a mut [u32],
+    answer: &'a mut [u32],
+}
+
+impl State<'_> {
+    fn create_region(
+        &mut self,
+        name: u32,
+        start: u32,
+        length: u32,
+        page: u32,
+        order: u32,
+    ) -> Result<u32, u32> {
+        if name == 0 {
+            return Err(status::INVALID_NAME);
+        }
+        if start == 0 || !self.is_inside(start, length) {
+            return Err(status::INVALID_ADDRESS);
+        }
+        if page == 0 || page > 4_096 {
+            return Err(status::INVALID_SIZE);
+        }
+        let page = page.next_multiple_of(8);
+        let layout = layout(start, length, page);
+        if layout.pages == 0 {
+            return Err(status::INVALID_SIZE);
+        }
+        if self.is_taken(start, length) {
+            return Err(status::INVALID_ADDRESS);
+        }
+        let index = self.empty_slot(region_at)?;
+        let map = &mut self.memory[layout.map..][..layout.pages as usize];
+        map.fill(0);
+        map[0] = 2 * layout.pages;
+        let slot = [name, start, length, page, order];
+        self.record[region_at(index)..][..REGION_WORDS].copy_from_slice(&slot);
+        Ok(index as u32 + 1)
+    }
+
+    fn delete_region(&mut self, id: u32) -> Result<u32, u32> {
+        let region = Region::find(self.record, id)?;
+        // With nothing held there is one free segment with all pages.
+        if self.memory[region.layout.map] != 2 * region.layout.pages {
+            return Err(status::RESOURCE_IN_USE);
+        }
+        self.record[region.at..][..REGION_WORDS].fill(0);
+        Ok(0)
+    }
+
+    fn get(&mut self, id: u32, size: u32, waiter: Option<[u32; 3]>) -> Result<u32, u32> {
+        if size == 0 {
+            return Err(status::INVALID_SIZE);
+        }
+        let region = Region::find(self.record, id)?;
+        let pages = region.pages_for(size);
+        if pages > region.pages() {
+            return Err(status::INVALID_SIZE);
+        }
+        if let Some([task, priority, _]) = waiter {
+            if task == 0 || task as usize > TASKS {
+                return Err(status::INVALID_NUMBER);
+            }
+            if priority == 0 || priority > 255 {
+                return Err(status::INVALID_PRIORITY);
+            }
+            if self.waiters().any(|waiter| waiter[0] == task) {
+                return Err(status::INCORRECT_STATE);
+            }
+        }
+        if let Some(address) = region.take(self.memory, pages) {
+            return Ok(address);
+        }
+        let [task, priority, ticks] = waiter.ok_or(status::UNSATISFIED)?;
+        self.enqueue(region.at, [task, id, size, priority, ticks]);
+        Err(status::WAITING)
+    }
+
+    fn return_segment(&mut self, id: u32, address: u32) -> Result<u32, u32> {
+        let region = Region::find(self.record, id)?;
+        let (page, pages) = region.held_at(self.memory, address)?;
+        self.free_and_join(&region, page, page + pages);
+        self.serve(id, &region);
+        Ok(0)
+    }
+
+    /// Serves the first waiter of a region for as long as there is room.
+    fn serve(&mut self, id: u32, region: &Region) {
+        let Some(place) = self.waiters().position(|waiter| waiter[1] == id) else {
+            return;
+        };
+        let mut served = 0;
+        for waiter in self.record[waiter_at(place)..].chunks_exact(WAITER_WORDS) {
+            let (task, size) = (waiter[0], waiter[2]);
+            if task == 0 || waiter[1] != id {
+                break;
+            }
+            let Some(address) = region.take(self.memory, region.pages_for(size)) else {
+                break;
+            };
+            let notice = [task, status::SUCCESSFUL, address];
+            put_notice(self.answer, served, notice);
+            served += 1;
+        }
+        let (to, from) = (waiter_at(place), waiter_at(place + served));
+        self.record.copy_within(from.., to);
+        self.record[RECORD_WORDS - served * WAITER_WORDS..].fill(0);
+    }
+
+    fn size(&mut self, id: u32, address: u32) -> Result<u32, u32> {
+        let region = Region::find(self.record, id)?;
+        let (_, pages) = region.held_at(self.memory, address)?;
+        Ok(pages as u32 * region.page)
+    }
+
+    fn resize(&mut self, id: u32, address: u32, size: u32) -> Result<u32, u32> {
+        if size == 0 {
+            return Err(status::INVALID_SIZE);
+        }
+        let region = Region::find(self.record, id)?;
+        let (page, old) = region.held_at(self.memory, address)?;
+        let value = old as u32 * region.page;
+        let new = region.pages_for(size);
+        let after = page + old;
+        if new > old {
+            // The pages of the free follower, if there is one.
+            let mut room = 0;
+            if after < region.pages() {
+                let word = self.memory[region.word(after)];
+                room = if word.is_multiple_of(2) {
+                    word as usize / 2
+                } else {
+                    0
+                };
+            }
+            if new - old > room {
+                self.answer[0] = value;
+                return Err(status::UNSATISFIED);
+            }
+            self.memory[region.word(after)] = 0;
+            if new - old < room {
+                self.memory[region.word(page + new)] = 2 * (room - (new - old)) as u32;
+            }
+            self.memory[region.word(page)] = 2 * new as u32 + 1;
+        } else if new < old {
+            self.memory[region.word(page)] = 2 * new as u32 + 1;
+            self.free_up(&region, page + new, after);
+        }
+        Ok(value)
+    }
+
+    fn information(&mut self, id: u32) -> Result<u32, u32> {
+        let region = Region::find(self.record, id)?;
+        let values = &mut self.answer[INFORMATION_AT..NOTICES_AT];
+        for (_, pages, held) in region.segments(self.memory) {
+            let bytes = pages as u32 * region.page;
+            let part = if held { 3 } else { 0 };
+            values[part] += 1;
+            values[part + 1] = values[part + 1].max(bytes);
+            values[part + 2] += bytes;
+        }
+        Ok(0)
+    }
+
+    fn create_partition(
+        &mut self,
+        name: u32,
+        start: u32,
+        length: u32,
+        size: u32,
+    ) -> Result<u32, u32> {
+        if name == 0 {
+            return Err(status::INVALID_NAME);
+        }
+        if start == 0 || !start.is_multiple_of(4) || !self.is_inside(start, length) {
+            return Err(status::INVALID_ADDRESS);
+        }
+        if length == 0 || length < size || !size.is_multiple_of(4) || size < 8 {
+            return Err(status::INVALID_SIZE);
+        }
+        if self.is_taken(start, length) {
+            return Err(status::INVALID_ADDRESS);
+        }
+        let index = self.empty_slot(partition_at)?;
+        let free = length / size;
+        let mut before = 0;
+        let mut address = start;
+        for left in (0..free).rev() {
+            let word = address as usize / 4;
+            let next = address + size;
+            self.memory[word] = if left > 0 { next } else { 0 };
+            self.memory[word + 1] = before;
+            before = address;
+            address = next;
+        }
+        let slot = [name, start, length, size, start, before, free];
+        self.record[partition_at(index)..][..PARTITION_WORDS].copy_from_slice(&slot);
+        Ok(index as u32 + 1)
+    }
+
+    fn delete_partition(&mut self, id: u32) -> Result<u32, u32> {
+        let at = find_partition(self.record, id)?;
+        let slot = &mut self.record[at..][..PARTITION_WORDS];
+        if slot[6] != slot[2] / slot[3] {
+            return Err(status::RESOURCE_IN_USE);
+        }
+        slot.fill(0);
+        Ok(0)
+    }
+
+    fn get_buffer(&mut self, id: u32) -> Result<u32, u32> {
+        let at = find_partition(self.record, id)?;
+        let slot = &mut self.record[at..][..PARTITION_WORDS];
+        let front = slot[4];
+        if front == 0 {
+            return Err(status::UNSATISFIED);
+        }
+        let word = front as usize / 4;
+        let next = self.memory[word];
+        self.memory[word] = 0;
+        self.memory[word + 1] = 0;
+        if next == 0 {
+            slot[5] = 0;
+        } else {
+            self.memory[next as usize / 4 + 1] = 0;
+        }
+        slot[4] = next;
+        slot[6] -= 1;
+        Ok(front)
+    }
+
+    fn return_buffer(&mut self, id: u32, address: u32) -> Result<u32, u32> {
+        let at = find_partition(self.record, id)?;
+        let slot = &mut self.record[at..][..PARTITION_WORDS];
+        let (start, length, size) = (slot[1], slot[2], slot[3]);
+        let offset = address.wrapping_sub(start);
+        if address < start || offset % size != 0 || offset / size >= length / size {
+            return Err(status::INVALID_ADDRESS);
+        }
+        let mut free = slot[4];
+        while free != 0 {
+            if free == address {
+                return Err(status::INVALID_ADDRESS);
+            }
+            free = self.memory[free as usize / 4];
+        }
+        let word = address as usize / 4;
+        let rear = slot[5];
+        self.memory[word] = 0;
+        self.memory[word + 1] = rear;
+        if rear == 0 {
+            slot[4] = address;
+        } else {
+            self.memory[rear as usize / 4] = address;
+        }
+        slot[5] = address;
+        slot[6] += 1;
+        Ok(0)
+    }
+
+    fn tick(&mut self) -> Result<u32, u32> {
+        let mut staying = 0;
+        let mut left = 0;
+        for place in 0..TASKS {
+            let at = waiter_at(place);
+            let task = self.record[at];
+            if task == 0 {
+                break;
+            }
+            let ticks = self.record[at + 4];
+            if ticks == 1 {
+                put_notice(self.answer, left, [task, status::TIMEOUT, 0]);
+                left += 1;
+                continue;
+            }
+            self.record[at + 4] = ticks.saturating_sub(1);
+            if staying < place {
+                let from = at..at + WAITER_WORDS;
+                self.record.copy_within(from, waiter_at(staying));
+            }
+            staying += 1;
+        }
+        self.record[waiter_at(staying)..waiter_at(staying + left)].fill(0);
+        Ok(0)
+    }
+
+    fn ident(&mut self, name: u32, slot_at: fn(usize) -> usize) -> Result<u32, u32> {
+        if name == 0 {
+            return Err(status::INVALID_NAME);
+        }
+        let index = (0..SLOTS).find(|&index| self.record[slot_at(index)] == name);
+        index
+            .map(|index| index as u32 + 1)
+            .ok_or(status::INVALID_NAME)
+    }
+
+    fn empty_slot(&self, slot_at: fn(usize) -> usize) -> Result<usize, u32> {
+        let index = (0..SLOTS).find(|&index| self.record[slot_at(index)] == 0);
+        index.ok_or(status::TOO_MANY)
+    }
+
+    fn is_inside(&self, start: u32, length: u32) -> bool {
+        let end = start.checked_add(length);
+        end.is_some_and(|end| end as usize <= 4 * self.memory.len())
+    }
+
+    /// Whether a live area overlaps another one, which is inside the memory.
+    fn is_taken(&self, start: u32, length: u32) -> bool {
+        let slots = (0..SLOTS).map(region_at);
+        slots.chain((0..SLOTS).map(partition_at)).any(|at| {
+            let (other, other_length) = (self.record[at + 1], self.record[at + 2]);
+            self.record[at] != 0 && start < other + other_length && other < start + length
+        })
+    }
+
+    /// The used places of the queue.
+    fn waiters(&self) -> impl Iterator<Item = &[u32]> {
+        let places = self.record[WAITERS_AT..].chunks_exact(WAITER_WORDS);
+        places.take_while(|waiter| waiter[0] != 0)
+    }
+
+    /// Puts a waiter in its place; there is an unused one.
+    fn enqueue(&mut self, region_at: usize, new: [u32; WAITER_WORDS]) {
+        let by_priority = self.record[region_at + 4] == 1;
+        let is_ahead = |other: &[u32]| {
+            other[1] < new[1] || other[1] == new[1] && (!by_priority || other[3] <= new[3])
+        };
+        let place = self.waiters().take_while(|other| is_ahead(other)).count();
+        let at = waiter_at(place);
+        let end = RECORD_WORDS - WAITER_WORDS;
+        self.record.copy_within(at..end, at + WAITER_WORDS);
+        self.record[at..at + WAITER_WORDS].copy_from_slice(&new);
+    }
+
+    /// Frees pages `from` up to `to`, which is a segment's end, and joins them
+    /// with a free follower.
+    fn free_up(&mut self, region: &Region, from: usize, to: usize) {
+        let mut end = to;
+        if to < region.pages() {
+            let word = self.memory[region.word(to)];
+            if word.is_multiple_of(2) {
+                self.memory[region.word(to)] = 0;
+                end += word as usize / 2;
+            }
+        }
+        self.memory[region.word(from)] = 2 * (end - from) as u32;
+    }
+
+    /// Frees a whole segment and joins it with free neighbours.
+    fn free_and_join(&mut self, region: &Region, from: usize, to: usize) {
+        let before = region
+            .segments(self.memory)
+            .take_while(|&(first, ..)| first < from)
+            .last();
+        let mut first = from;
+        if let Some((page, _, false)) = before {
+            self.memory[region.word(from)] = 0;
+            first = page;
+        }
+        self.free_up(region, first, to);
+    }
+}
+
+fn put_notice(answer: &mut [u32], index: usize, notice: [u32; NOTICE_WORDS]) {
+    let at = NOTICES_AT + index * NOTICE_WORDS;
+    answer[at..at + NOTICE_WORDS].copy_from_slice(&notice);
+}

@@ -1,0 +1,214 @@
+//! The raw words that go into a call, read and changed by hand.
+
+use crate::sound::{layout, Layout};
+use author::Random;
+use directives::words::*;
+
+/// The words that go into a call.
+#[derive(Clone, Debug)]
+pub struct State {
+    pub record: Vec<u32>,
+    pub memory: Vec<u32>,
+    /// The length of the answer that is passed.
+    pub answer_words: usize,
+}
+
+// Fields of a region's slot.
+pub const NAME: usize = 0;
+pub const START: usize = 1;
+pub const LENGTH: usize = 2;
+pub const PAGE: usize = 3;
+pub const ORDER: usize = 4;
+// Fields of a partition's slot, after the first three.
+pub const SIZE: usize = 3;
+pub const FRONT: usize = 4;
+pub const REAR: usize = 5;
+pub const FREE: usize = 6;
+// Fields of a waiter's place.
+pub const TASK: usize = 0;
+pub const REGION: usize = 1;
+pub const WANTED: usize = 2;
+pub const PRIORITY: usize = 3;
+
+pub const MAX: u32 = u32::MAX;
+
+/// Reading a sound state.
+impl State {
+    pub fn bytes(&self) -> u32 {
+        4 * self.memory.len() as u32
+    }
+
+    /// The slots of the regions that are live, or of those that are empty.
+    pub fn regions(&self, live: bool) -> Vec<usize> {
+        let slots = (0..SLOTS).map(region_at);
+        slots.filter(|&at| (self.record[at] != 0) == live).collect()
+    }
+
+    pub fn partitions(&self, live: bool) -> Vec<usize> {
+        let slots = (0..SLOTS).map(partition_at);
+        slots.filter(|&at| (self.record[at] != 0) == live).collect()
+    }
+
+    /// The used places of the queue.
+    pub fn waiters(&self) -> Vec<usize> {
+        let places = (0..TASKS).map(waiter_at);
+        places.filter(|&at| self.record[at] != 0).collect()
+    }
+
+    /// The first unused place of the queue.
+    pub fn unused_place(&self) -> Option<usize> {
+        (0..TASKS).map(waiter_at).find(|&at| self.record[at] == 0)
+    }
+
+    pub fn layout(&self, region: usize) -> Layout {
+        layout(
+            self.record[region + START],
+            self.record[region + LENGTH],
+            self.record[region + PAGE],
+        )
+    }
+
+    /// The segments of a region: the memory word of the first page's map
+    /// word, the pages, and whether it is held.
+    pub fn segments(&self, region: usize) -> Vec<(usize, u32, bool)> {
+        let layout = self.layout(region);
+        let end = layout.map + layout.pages as usize;
+        let mut segments = Vec::new();
+        let mut at = layout.map;
+        while at < end {
+            let word = self.memory[at];
+            segments.push((at, word / 2, word % 2 == 1));
+            at += word as usize / 2;
+        }
+        segments
+    }
+
+    pub fn anything_held(&self, region: usize) -> bool {
+        self.segments(region).iter().any(|&(_, _, held)| held)
+    }
+
+    /// The addresses of a partition's free buffers in the chain's order.
+    pub fn chain(&self, partition: usize) -> Vec<u32> {
+        let mut chain = Vec::new();
+        let mut address = self.record[partition + FRONT];
+        while address != 0 {
+            chain.push(address);
+            address = self.memory[address as usize / 4];
+        }
+        chain
+    }
+
+    /// The link word of a buffer to the next one.
+    pub fn next(&mut self, address: u32) -> &mut u32 {
+        &mut self.memory[address as usize / 4]
+    }
+
+    /// The link word of a buffer to the one before.
+    pub fn before(&mut self, address: u32) -> &mut u32 {
+        &mut self.memory[address as usize / 4 + 1]
+    }
+
+    /// Puts a chain of the partition's buffers into the words.
+    pub fn draw_chain(&mut self, partition: usize, chain: &[u32]) {
+        let mut before = 0;
+        for (place, &address) in chain.iter().enumerate() {
+            *self.next(address) = chain.get(place + 1).copied().unwrap_or(0);
+            *self.before(address) = before;
+            before = address;
+        }
+        self.record[partition + FRONT] = chain.first().copied().unwrap_or(0);
+        self.record[partition + REAR] = before;
+        self.record[partition + FREE] = chain.len() as u32;
+    }
+
+    /// The starts and ends of the live areas, with their slots, by rising
+    /// start.
+    pub fn areas(&self) -> Vec<(u32, u32, usize)> {
+        let mut slots = self.regions(true);
+        slots.extend(self.partitions(true));
+        let area = |at: usize| {
+            let (start, length) = (self.record[at + START], self.record[at + LENGTH]);
+            (start, start + length, at)
+        };
+        let mut areas: Vec<_> = slots.into_iter().map(area).collect();
+        areas.sort();
+        areas
+    }
+
+    /// Adds a waiter to a region in which something is held; the state stays
+    /// sound. Gives its place.
+    pub fn plant_waiter(&mut self, random: &mut Random) -> Option<usize> {
+        let mut regions = self.regions(true);
+        regions.retain(|&region| self.anything_held(region));
+        let region = random.pick_any(&regions)?;
+        self.plant_waiter_in(random, region)
+    }
+
+    pub fn plant_waiter_in(&mut self, random: &mut Random, region: usize) -> Option<usize> {
+        let end = self.unused_place()?;
+        let used = self.waiters();
+        let waits = |task: u32| used.iter().any(|&at| self.record[at + TASK] == task);
+        let tasks: Vec<u32> = (1..=TASKS as u32).filter(|&task| !waits(task)).collect();
+        let task = random.pick_any(&tasks)?;
+        let id = (region / REGION_WORDS) as u32 + 1;
+        let most = self.layout(region).pages * self.record[region + PAGE];
+        let size = random.between(1, most);
+        let priority = random.pick(&[1, 2, 3, 254, 255]);
+        let by_priority = self.record[region + ORDER] == 1;
+        let is_ahead = |at: usize| {
+            let (other, urgency) = (self.record[at + REGION], self.record[at + PRIORITY]);
+            other < id || other == id && (!by_priority || urgency <= priority)
+        };
+        let place = used.iter().filter(|&&at| is_ahead(at)).count();
+        let at = waiter_at(place);
+        self.record.copy_within(at..end, at + WAITER_WORDS);
+        let ticks = random.pick(&[0, 1, 2, MAX]);
+        self.record[at..at + WAITER_WORDS].copy_from_slice(&[task, id, size, priority, ticks]);
+        Some(at)
+    }
+
+    /// A used place of the queue; one is added if there is none.
+    pub fn some_waiter(&mut self, random: &mut Random) -> Option<usize> {
+        if self.waiters().is_empty() || random.chance(20) {
+            self.plant_waiter(random);
+        }
+        random.pick_any(&self.waiters())
+    }
+
+    /// Adds a partition with all its buffers held, and gives its slot.
+    pub fn plant_partition(&mut self, start: u32, length: u32) -> Option<usize> {
+        let at = *self.partitions(false).first()?;
+        let slot = [77, start, length, 8, 0, 0, 0];
+        self.record[at..at + PARTITION_WORDS].copy_from_slice(&slot);
+        Some(at)
+    }
+
+    /// Adds a region with one held page and nothing else to a part of the
+    /// memory, writes its map, and gives its slot.
+    pub fn plant_region(&mut self, start: u32, length: u32) -> Option<usize> {
+        let at = *self.regions(false).first()?;
+        let place = layout(start, length, 8);
+        if place.pages == 0 {
+            return None;
+        }
+        self.record[at..at + REGION_WORDS].copy_from_slice(&[78, start, length, 8, 0]);
+        let map = &mut self.memory[place.map..][..place.pages as usize];
+        map.fill(0);
+        map[0] = 2 * place.pages;
+        Some(at)
+    }
+
+    /// A gap of at least so many bytes between the live areas, from a
+    /// multiple of 4 on.
+    pub fn gap(&self, least: u32) -> Option<(u32, u32)> {
+        let mut low = 4;
+        let end = (self.bytes(), 0, 0);
+        for (start, next, _) in self.areas().into_iter().chain([end]) {
+            if start >= low && start - low >= least {
+                return Some((low, start));
+            }
+            low = next.next_multiple_of(4).max(low);
+        }
+        None
+    }
+}

@@ -1,0 +1,474 @@
+//! Tests of the check of a record and a memory alone: a sound state, and for
+//! each clause a change that breaks it.
+
+use directives::words::*;
+use directives::{Call, Directive};
+use libtest::sound::{check, layout, Clause};
+use model::Model;
+use std::collections::BTreeSet;
+
+/// A record and a memory.
+#[derive(Clone)]
+struct State {
+    record: Vec<u32>,
+    memory: Vec<u32>,
+}
+
+/// The memory word of region 1's map: start 4.
+const MAP_1: usize = 1;
+/// The address of partition 1.
+const PARTITION_1: u32 = 1_024;
+
+/// Region 1 (start 4, 15 pages of 64, FIFO) with a map of held 2, held 1,
+/// free 12 pages; region 2 (start 1,201, priority) all held; region 3 all
+/// free; partition 1 with buffers 1,024, 1,048, 1,072, 1,096, the first held;
+/// partition 2 with all held. Tasks 1, 2 wait in region 1, and 3, 4, 5 in
+/// region 2.
+fn state() -> State {
+    let mut model = Model::new(vec![7; 1_000]);
+    let calls = [
+        Directive::CreateRegion.call(&[5, 4, 1_020, 64, 0]),
+        Directive::CreateRegion.call(&[5, 1_201, 399, 64, 1]),
+        Directive::CreateRegion.call(&[5, 1_601, 399, 64, 1]),
+        Directive::CreatePartition.call(&[6, PARTITION_1, 100, 24]),
+        Directive::CreatePartition.call(&[6, 3_000, 16, 8]),
+        Directive::Get.call(&[1, 65, 0, 0, 0, 0]),
+        Directive::Get.call(&[1, 1, 0, 0, 0, 0]),
+        Directive::Get.call(&[2, 320, 0, 0, 0, 0]),
+        Directive::GetBuffer.call(&[1]),
+        Directive::GetBuffer.call(&[2]),
+        Directive::GetBuffer.call(&[2]),
+        Directive::Get.call(&[1, 960, 1, 1, 9, 3]),
+        Directive::Get.call(&[1, 960, 1, 2, 1, 3]),
+        Directive::Get.call(&[2, 1, 1, 3, 7, 3]),
+        Directive::Get.call(&[2, 1, 1, 4, 7, 3]),
+        Directive::Get.call(&[2, 1, 1, 5, 8, 3]),
+    ];
+    for call in &calls {
+        let answer = model.call(call);
+        let waits = matches!(call, Call::Get { wait: 1, .. });
+        assert_eq!(answer.status, if waits { 255 } else { 0 }, "{call:?}");
+    }
+    State {
+        record: model.record().to_vec(),
+        memory: model.memory().to_vec(),
+    }
+}
+
+/// What the check says after a change.
+fn after(change: impl Fn(&mut State)) -> Result<(), Clause> {
+    let mut state = state();
+    change(&mut state);
+    check(&state.record, &state.memory)
+}
+
+fn region(id: usize, field: usize) -> usize {
+    region_at(id - 1) + field
+}
+
+fn partition(id: usize, field: usize) -> usize {
+    partition_at(id - 1) + field
+}
+
+fn waiter(place: usize, field: usize) -> usize {
+    waiter_at(place - 1) + field
+}
+
+/// A change of one word of the record.
+fn set(word: usize, value: u32) -> Result<(), Clause> {
+    after(|state| state.record[word] = value)
+}
+
+/// A change of one map word of region 1.
+fn map(page: usize, value: u32) -> Result<(), Clause> {
+    after(|state| state.memory[MAP_1 + page] = value)
+}
+
+/// A change of one word of the memory, by its address.
+fn link(address: u32, value: u32) -> Result<(), Clause> {
+    after(|state| state.memory[address as usize / 4] = value)
+}
+
+#[test]
+fn sound_states_pass() {
+    assert_eq!(after(|_| ()), Ok(()));
+    assert_eq!(check(&[0; RECORD_WORDS], &[9]), Ok(()));
+    assert_eq!(check(&[0; RECORD_WORDS], &[9; MEMORY_WORDS]), Ok(()));
+    let state = state();
+    assert_eq!(state.memory[MAP_1..MAP_1 + 5], [5, 0, 3, 24, 0]);
+}
+
+/// Changes that leave the record and the memory sound.
+#[test]
+fn sound_changes_pass() {
+    // Another name, an order that the waiters allow, ticks, a FIFO priority.
+    assert_eq!(set(region(1, 0), u32::MAX), Ok(()));
+    assert_eq!(set(region(2, 4), 0), Ok(()));
+    assert_eq!(set(waiter(1, 4), u32::MAX), Ok(()));
+    assert_eq!(set(waiter(1, 4), 0), Ok(()));
+    assert_eq!(set(waiter(1, 3), 255), Ok(()));
+    assert_eq!(set(waiter(2, 0), 16), Ok(()));
+    assert_eq!(set(waiter(2, 2), 1), Ok(()));
+    assert_eq!(set(waiter(5, 3), 7), Ok(()));
+    // The free segment of region 1 is held.
+    assert_eq!(map(3, 25), Ok(()));
+    // Two held segments adjoin.
+    let two = |state: &mut State| state.memory[MAP_1..MAP_1 + 2].fill(3);
+    assert_eq!(after(two), Ok(()));
+    // A partition that is longer by a part of a buffer.
+    assert_eq!(set(partition(1, 2), 119), Ok(()));
+    // A word that belongs to nothing, and one of a held buffer.
+    assert_eq!(link(2_800, 1), Ok(()));
+    assert_eq!(link(PARTITION_1, 1), Ok(()));
+    // A free buffer's third word.
+    assert_eq!(link(PARTITION_1 + 24 + 8, 1), Ok(()));
+}
+
+/// Every clause with the changes that break it.
+fn broken() -> Vec<(Clause, Vec<Result<(), Clause>>)> {
+    use Clause::*;
+    let free_of = |state: &State, id| state.record[partition(id, 6)];
+    vec![
+        (
+            RecordLength,
+            vec![
+                after(|state| state.record.truncate(175)),
+                after(|state| state.record.push(0)),
+                after(|state| state.record.clear()),
+            ],
+        ),
+        (
+            MemoryLength,
+            vec![
+                check(&[0; RECORD_WORDS], &[]),
+                check(&[0; RECORD_WORDS], &[0; MEMORY_WORDS + 1]),
+            ],
+        ),
+        (
+            OrderChoice,
+            vec![
+                set(region(1, 4), 2),
+                set(region(2, 4), u32::MAX),
+                set(region(8, 4), 2),
+            ],
+        ),
+        (
+            RegionSlotNotZero,
+            vec![
+                set(region(3, 0), 0),
+                set(region(8, 1), 1),
+                set(region(8, 2), 1),
+                set(region(8, 3), 8),
+                set(region(8, 4), 1),
+            ],
+        ),
+        (RegionStartZero, vec![set(region(1, 1), 0)]),
+        (
+            RegionPastMemory,
+            vec![
+                set(region(3, 2), 4_000 - 1_601 + 1),
+                set(region(3, 1), u32::MAX),
+                set(region(3, 1), u32::MAX - 398),
+                set(region(3, 2), u32::MAX),
+                set(region(3, 2), u32::MAX - 1_600),
+            ],
+        ),
+        (
+            PageNotRounded,
+            vec![
+                set(region(1, 3), 0),
+                set(region(1, 3), 63),
+                set(region(1, 3), 68),
+                set(region(1, 3), 4_097),
+            ],
+        ),
+        (
+            PageTooLarge,
+            vec![set(region(1, 3), 4_104), set(region(1, 3), u32::MAX - 7)],
+        ),
+        (
+            RegionWithoutPage,
+            vec![
+                set(region(1, 2), 0),
+                set(region(1, 2), 123),
+                set(region(3, 3), 4_096),
+            ],
+        ),
+        (
+            PartitionSlotNotZero,
+            vec![
+                set(partition(1, 0), 0),
+                set(partition(3, 1), 4),
+                set(partition(3, 4), 1),
+                set(partition(3, 6), 1),
+            ],
+        ),
+        (PartitionStartZero, vec![set(partition(1, 1), 0)]),
+        (
+            PartitionStartUnaligned,
+            vec![
+                set(partition(1, 1), PARTITION_1 + 1),
+                set(partition(1, 1), PARTITION_1 - 2),
+            ],
+        ),
+        (
+            PartitionPastMemory,
+            vec![
+                set(partition(2, 2), 1_001),
+                set(partition(2, 2), u32::MAX),
+                set(partition(2, 1), u32::MAX - 3),
+                set(partition(2, 1), u32::MAX - 15),
+            ],
+        ),
+        (
+            BufferSizeUnaligned,
+            vec![set(partition(1, 3), 25), set(partition(1, 3), 7)],
+        ),
+        (
+            BufferSizeTooSmall,
+            vec![set(partition(1, 3), 0), set(partition(1, 3), 4)],
+        ),
+        (
+            PartitionWithoutBuffer,
+            vec![
+                set(partition(1, 3), 104),
+                set(partition(1, 2), 23),
+                set(partition(1, 2), 0),
+            ],
+        ),
+        (
+            RegionsOverlap,
+            vec![
+                set(region(2, 2), 401),
+                set(region(3, 1), 1_599),
+                set(region(3, 1), 1_100),
+            ],
+        ),
+        (
+            PartitionsOverlap,
+            vec![after(|state| {
+                let planted = [9, PARTITION_1 + 96, 8, 8, 0, 0, 0];
+                state.record[partition(8, 0)..][..7].copy_from_slice(&planted);
+            })],
+        ),
+        (
+            RegionAndPartitionOverlap,
+            vec![
+                set(region(1, 2), 1_021),
+                set(partition(1, 2), 178),
+                set(partition(1, 1), 1_020),
+            ],
+        ),
+        (SegmentWithoutPage, vec![map(0, 0), map(0, 1), map(3, 0)]),
+        (
+            SegmentPastPages,
+            vec![
+                map(0, 32),
+                map(0, u32::MAX),
+                map(3, 26),
+                map(3, 27),
+                map(3, u32::MAX - 1),
+            ],
+        ),
+        (
+            InnerMapWordNotZero,
+            vec![
+                map(1, 1),
+                map(1, 2),
+                map(14, 1),
+                map(14, u32::MAX),
+                map(0, 7),
+            ],
+        ),
+        (
+            FreeSegmentsAdjoin,
+            vec![
+                map(2, 2),
+                after(|state| {
+                    state.memory[MAP_1 + 3] = 2;
+                    state.memory[MAP_1 + 4] = 22;
+                }),
+            ],
+        ),
+        (
+            EndsOfEmptyChain,
+            vec![
+                set(partition(2, 4), 3_000),
+                set(partition(2, 5), 3_000),
+                set(partition(1, 6), 0),
+            ],
+        ),
+        (
+            FreeCountTooLarge,
+            vec![set(partition(1, 6), 5), set(partition(1, 6), u32::MAX)],
+        ),
+        (
+            ChainTooShort,
+            vec![
+                set(partition(1, 6), 4),
+                set(partition(1, 4), 0),
+                set(partition(2, 6), 1),
+                link(1_048, 0),
+                after(|state| state.record[partition(1, 6)] = free_of(state, 1) + 1),
+            ],
+        ),
+        (
+            NotABuffer,
+            vec![
+                set(partition(1, 4), 1_047),
+                set(partition(1, 4), 1_000),
+                set(partition(1, 4), 1_120),
+                link(1_048, 1_073),
+                link(1_048, 1_120),
+                link(1_048, 1_076),
+                link(1_048, u32::MAX),
+                link(1_072, 64),
+            ],
+        ),
+        (
+            BackLink,
+            vec![
+                link(1_048 + 4, 1_024),
+                link(1_072 + 4, 0),
+                link(1_096 + 4, 1_048),
+                // The chain comes back to its front, or to the same buffer.
+                link(1_072, 1_048),
+                link(1_048, 1_048),
+            ],
+        ),
+        (
+            ChainTooLong,
+            vec![set(partition(1, 6), 2), link(1_096, 1_024)],
+        ),
+        (
+            Rear,
+            vec![
+                set(partition(1, 5), 1_072),
+                set(partition(1, 5), 0),
+                set(partition(1, 5), 1_024),
+            ],
+        ),
+        (
+            PlaceNotZero,
+            vec![
+                set(waiter(5, 0), 0),
+                set(waiter(6, 1), 1),
+                set(waiter(16, 2), 1),
+                set(waiter(16, 3), 1),
+                set(waiter(16, 4), 1),
+            ],
+        ),
+        (
+            UsedPlaceAfterUnused,
+            vec![
+                after(|state| state.record[waiter(4, 0)..][..5].fill(0)),
+                after(|state| {
+                    let at = waiter(5, 0);
+                    state.record.copy_within(at..at + 5, waiter(16, 0));
+                    state.record[waiter(16, 0)] = 16;
+                }),
+            ],
+        ),
+        (
+            TaskNumber,
+            vec![
+                set(waiter(1, 0), 17),
+                set(waiter(5, 0), 32),
+                set(waiter(5, 0), u32::MAX),
+            ],
+        ),
+        (
+            TaskTwice,
+            vec![
+                set(waiter(2, 0), 1),
+                set(waiter(5, 0), 1),
+                set(waiter(1, 0), 5),
+            ],
+        ),
+        (
+            WaiterRegionId,
+            vec![
+                set(waiter(1, 1), 0),
+                set(waiter(5, 1), 9),
+                set(waiter(5, 1), u32::MAX),
+            ],
+        ),
+        (WaiterRegionEmpty, vec![set(waiter(5, 1), 8)]),
+        (
+            NothingHeld,
+            vec![
+                set(waiter(5, 1), 3),
+                after(|state| {
+                    state.memory[MAP_1..MAP_1 + 15].fill(0);
+                    state.memory[MAP_1] = 30;
+                }),
+            ],
+        ),
+        (
+            WaiterSizeZero,
+            vec![set(waiter(1, 2), 0), set(waiter(5, 2), 0)],
+        ),
+        (
+            WaiterSizeTooLarge,
+            vec![
+                set(waiter(1, 2), 961),
+                set(waiter(1, 2), u32::MAX),
+                set(waiter(1, 2), u32::MAX - 62),
+            ],
+        ),
+        (
+            WaiterPriority,
+            vec![
+                set(waiter(1, 3), 0),
+                set(waiter(1, 3), 256),
+                set(waiter(5, 3), u32::MAX),
+            ],
+        ),
+        (
+            RegionsNotAscending,
+            vec![
+                set(waiter(5, 1), 1),
+                after(|state| state.record[waiter(1, 1)..][..2].copy_from_slice(&[2, 1])),
+            ],
+        ),
+        (
+            PriorityOrder,
+            vec![set(waiter(5, 3), 6), set(waiter(3, 3), 8)],
+        ),
+    ]
+}
+
+#[test]
+fn broken_clauses_are_named() {
+    let broken = broken();
+    for (clause, results) in &broken {
+        for (index, result) in results.iter().enumerate() {
+            assert_eq!(*result, Err(*clause), "change {index} for {clause:?}");
+        }
+    }
+    let tried: BTreeSet<Clause> = broken.iter().map(|(clause, _)| *clause).collect();
+    assert_eq!(tried, Clause::ALL.iter().copied().collect());
+}
+
+/// The layout that the check of a record finds by a division is the one that
+/// the model finds by adding pages.
+#[test]
+fn layouts_agree() {
+    for page in [8, 16, 24, 64, 72, 1_000, 4_096] {
+        for start in 1..70 {
+            for length in (0..40).chain((page..page + 150).step_by(7)).chain([9_999]) {
+                let mut model = Model::fresh();
+                let status =
+                    model.call(&Directive::CreateRegion.call(&[1, start, length, page, 0]));
+                let found = layout(start, length, page);
+                let expected = model.pages(1).map_or(0, |(_, pages)| pages);
+                assert_eq!(status.status, if expected == 0 { 8 } else { 0 });
+                assert_eq!(found.pages, expected, "{start} {length} {page}");
+                if expected > 0 {
+                    assert_eq!(found.first_page, model.segments(1)[0].address);
+                    assert_eq!(found.map, (start as usize).div_ceil(4));
+                }
+            }
+        }
+    }
+}

@@ -1,0 +1,488 @@
+//! An independent model of the rules.
+//!
+//! The model keeps no map words and no link words of its own. It keeps, for
+//! each page of a region, which loan owns it, and for each partition the
+//! queue of its free buffers. After a call it draws from these the words that
+//! the rules put into the memory and into the record. So for every call it
+//! gives the status, the value, the six information values, the notices, the
+//! record and every word of the memory.
+//!
+//! Numbers that come from a caller are any `u32`. Sums of them are made in
+//! `u64`, where they cannot wrap.
+
+pub mod examples;
+mod partition;
+mod region;
+
+use directives::words::*;
+use directives::{Answer, Call};
+use partition::Partition;
+pub use region::Segment;
+use region::{Region, Waiter};
+
+/// The bytes of a word.
+const WORD: u64 = 4;
+/// Page sizes are rounded up to a multiple of this.
+const PAGE_STEP: u32 = 8;
+const MAX_PAGE: u32 = 4_096;
+const MAX_PRIORITY: u32 = 255;
+const MIN_BUFFER: u32 = 8;
+
+/// The bytes from `start` on, `length` of them.
+#[derive(Clone, Copy, Debug, PartialEq, Eq)]
+pub struct Area {
+    pub start: u32,
+    pub length: u32,
+}
+
+impl Area {
+    pub fn new(start: u32, length: u32) -> Area {
+        Area { start, length }
+    }
+
+    /// The byte after the last one.
+    pub fn end(&self) -> u64 {
+        u64::from(self.start) + u64::from(self.length)
+    }
+
+    fn overlaps(&self, other: &Area) -> bool {
+        u64::from(self.start) < other.end() && u64::from(other.start) < self.end()
+    }
+}
+
+/// The slots of one kind of object; the id of the first is 1.
+type Slots<T> = [Option<T>; SLOTS];
+
+/// What a refusal hands back: its status.
+type Refusal = u32;
+
+fn refuse_if(refused: bool, status: u32) -> Result<(), Refusal> {
+    if refused {
+        Err(status)
+    } else {
+        Ok(())
+    }
+}
+
+/// The slot index of an id that is in range.
+fn index_of(id: u32) -> Result<usize, Refusal> {
+    refuse_if(id == 0 || id as usize > SLOTS, status::INVALID_ID)?;
+    Ok(id as usize - 1)
+}
+
+fn live<T>(slots: &Slots<T>, id: u32) -> Result<&T, Refusal> {
+    slots[index_of(id)?].as_ref().ok_or(status::INVALID_ID)
+}
+
+fn live_mut<T>(slots: &mut Slots<T>, id: u32) -> Result<&mut T, Refusal> {
+    slots[index_of(id)?].as_mut().ok_or(status::INVALID_ID)
+}
+
+fn live_ids<T>(slots: &Slots<T>) -> Vec<u32> {
+    let live = (1..).zip(slots).filter(|(_, slot)| slot.is_some());
+    live.map(|(id, _)| id).collect()
+}
+
+/// The lowest slot for which something holds, or a refusal.
+fn lowest<T>(slots: &Slots<T>, is: impl Fn(&Option<T>) -> bool, status: u32) -> Result<usize, u32> {
+    slots.iter().position(is).ok_or(status)
+}
+
+/// Answers with the id of the lowest object with a name.
+fn ident<T>(slots: &Slots<T>, name: u32, name_of: impl Fn(&T) -> u32) -> Result<Answer, Refusal> {
+    refuse_if(name == 0, status::INVALID_NAME)?;
+    let has_name = |slot: &Option<T>| slot.as_ref().is_some_and(|object| name_of(object) == name);
+    let index = lowest(slots, has_name, status::INVALID_NAME)?;
+    Ok(Answer::value(index as u32 + 1))
+}
+
+/// All objects over one memory, and the memory.
+#[derive(Clone, Debug)]
+pub struct Model {
+    memory: Vec<u32>,
+    regions: Slots<Region>,
+    partitions: Slots<Partition>,
+}
+
+/// The words.
+impl Model {
+    /// No object, over a memory of 1 to [`MEMORY_WORDS`] words.
+    pub fn new(memory: Vec<u32>) -> Model {
+        assert!((1..=MEMORY_WORDS).contains(&memory.len()));
+        Model {
+            memory,
+            regions: Default::default(),
+            partitions: Default::default(),
+        }
+    }
+
+    /// No object, over the largest memory, all zeros.
+    pub fn fresh() -> Model {
+        Model::new(vec![0; MEMORY_WORDS])
+    }
+
+    /// The state that a record and a memory describe. They must be sound.
+    pub fn from_record(record: &[u32], memory: &[u32]) -> Model {
+        let mut model = Model::new(memory.to_vec());
+        for index in 0..SLOTS {
+            let slot = &record[region_at(index)..][..REGION_WORDS];
+            model.regions[index] = (slot[0] != 0).then(|| Region::from_words(slot, memory));
+            let slot = &record[partition_at(index)..][..PARTITION_WORDS];
+            model.partitions[index] = (slot[0] != 0).then(|| Partition::from_words(slot, memory));
+        }
+        for place in record[WAITERS_AT..].chunks(WAITER_WORDS) {
+            let [task, region, size, priority, ticks] = *place else {
+                unreachable!("a place has so many words");
+            };
+            if task != 0 {
+                let region = live_mut(&mut model.regions, region);
+                let region = region.expect("a waiter's region is live");
+                let waiter = Waiter::new(task, size, priority, ticks);
+                region.queue.push_back(waiter);
+            }
+        }
+        model
+    }
+
+    /// The memory, word by word.
+    pub fn memory(&self) -> &[u32] {
+        &self.memory
+    }
+
+    /// The record, word by word.
+    pub fn record(&self) -> [u32; RECORD_WORDS] {
+        let mut record = [0; RECORD_WORDS];
+        let mut places = Vec::new();
+        for (index, region) in self.regions.iter().enumerate() {
+            let Some(region) = region else { continue };
+            record[region_at(index)..][..REGION_WORDS].copy_from_slice(&region.slot());
+            places.extend(region.places(index as u32 + 1).flatten());
+        }
+        for (index, partition) in self.partitions.iter().enumerate() {
+            let Some(partition) = partition else { continue };
+            record[partition_at(index)..][..PARTITION_WORDS].copy_from_slice(&partition.slot());
+        }
+        record[WAITERS_AT..][..places.len()].copy_from_slice(&places);
+        record
+    }
+
+    /// For each word of the memory, whether it is a map word of a live region
+    /// or a link word of a free buffer. Every other word is free for anybody
+    /// to write, as far as the rules are concerned.
+    pub fn bookkeeping(&self) -> Vec<bool> {
+        let mut marks = vec![false; self.memory.len()];
+        for region in self.regions.iter().flatten() {
+            marks[region.map..][..region.page_count()].fill(true);
+        }
+        for partition in self.partitions.iter().flatten() {
+            for &address in &partition.chain {
+                marks[address as usize / 4..][..2].fill(true);
+            }
+        }
+        marks
+    }
+
+    /// A client's write of a word that is not a bookkeeping word.
+    pub fn client_write(&mut self, word: usize, value: u32) {
+        self.memory[word] = value;
+    }
+}
+
+/// The directives. Each makes its checks in the order of the rules; the first
+/// that fails gives the status, and then nothing has changed.
+impl Model {
+    /// Makes a call.
+    pub fn call(&mut self, call: &Call) -> Answer {
+        if call.has_wrong_choice() {
+            return Answer::status(status::INTERNAL_ERROR);
+        }
+        self.perform(call).unwrap_or_else(Answer::status)
+    }
+
+    fn perform(&mut self, call: &Call) -> Result<Answer, Refusal> {
+        match *call {
+            Call::CreateRegion {
+                name,
+                start,
+                length,
+                page,
+                order,
+            } => self.create_region(name, Area::new(start, length), page, order == 1),
+            Call::IdentRegion { name } => ident(&self.regions, name, |region| region.name),
+            Call::DeleteRegion { id } => self.delete_region(id),
+            Call::Get {
+                id,
+                size,
+                wait,
+                task,
+                priority,
+                ticks,
+            } => {
+                let waiter = Waiter::new(task, size, priority, ticks);
+                self.get(id, size, (wait == 1).then_some(waiter))
+            }
+            Call::Return { id, address } => self.return_segment(id, address),
+            Call::Size { id, address } => self.size(id, address),
+            Call::Resize { id, address, size } => self.resize(id, address, size),
+            Call::Information { id } => self.information(id),
+            Call::CreatePartition {
+                name,
+                start,
+                length,
+                size,
+            } => self.create_partition(name, Area::new(start, length), size),
+            Call::IdentPartition { name } => ident(&self.partitions, name, |p| p.name),
+            Call::DeletePartition { id } => self.delete_partition(id),
+            Call::GetBuffer { id } => self.get_buffer(id),
+            Call::ReturnBuffer { id, address } => self.return_buffer(id, address),
+            Call::Tick => Ok(self.tick()),
+            Call::Read { id, address } => Ok(self.read(id, address)),
+            Call::Write {
+                id,
+                address,
+                first,
+                ref words,
+            } => self.write(id, address, first, words),
+        }
+    }
+
+    fn create_region(
+        &mut self,
+        name: u32,
+        area: Area,
+        page: u32,
+        by_priority: bool,
+    ) -> Result<Answer, Refusal> {
+        refuse_if(name == 0, status::INVALID_NAME)?;
+        refuse_if(area.start == 0, status::INVALID_ADDRESS)?;
+        refuse_if(self.is_past_memory(&area), status::INVALID_ADDRESS)?;
+        refuse_if(page == 0 || page > MAX_PAGE, status::INVALID_SIZE)?;
+        let page = page.next_multiple_of(PAGE_STEP);
+        let region = Region::new(name, area, page, by_priority);
+        refuse_if(region.page_count() == 0, status::INVALID_SIZE)?;
+        refuse_if(self.is_taken(&area), status::INVALID_ADDRESS)?;
+        let index = lowest(&self.regions, Option::is_none, status::TOO_MANY)?;
+
+        region.draw(&mut self.memory);
+        self.regions[index] = Some(region);
+        Ok(Answer::value(index as u32 + 1))
+    }
+
+    fn delete_region(&mut self, id: u32) -> Result<Answer, Refusal> {
+        let region = live(&self.regions, id)?;
+        refuse_if(region.anything_held(), status::RESOURCE_IN_USE)?;
+        self.regions[index_of(id)?] = None;
+        Ok(Answer::default())
+    }
+
+    fn get(&mut self, id: u32, size: u32, waiter: Option<Waiter>) -> Result<Answer, Refusal> {
+        refuse_if(size == 0, status::INVALID_SIZE)?;
+        let region = live(&self.regions, id)?;
+        let pages = region.pages_for(size);
+        refuse_if(pages > region.page_count(), status::INVALID_SIZE)?;
+        if let Some(Waiter { task, priority, .. }) = waiter {
+            let is_task = (1..=TASKS as u32).contains(&task);
+            refuse_if(!is_task, status::INVALID_NUMBER)?;
+            let is_priority = (1..=MAX_PRIORITY).contains(&priority);
+            refuse_if(!is_priority, status::INVALID_PRIORITY)?;
+            let waits = self.waiting_tasks().contains(&task);
+            refuse_if(waits, status::INCORRECT_STATE)?;
+        }
+
+        let region = live_mut(&mut self.regions, id)?;
+        if let Some(address) = region.lend(pages) {
+            region.draw(&mut self.memory);
+            return Ok(Answer::value(address));
+        }
+        region.enqueue(waiter.ok_or(status::UNSATISFIED)?);
+        Ok(Answer::status(status::WAITING))
+    }
+
+    fn return_segment(&mut self, id: u32, address: u32) -> Result<Answer, Refusal> {
+        let region = live_mut(&mut self.regions, id)?;
+        let (page, pages) = region.held_at(address)?;
+        region.take_back(page, page + pages);
+        let notices = region.serve();
+        region.draw(&mut self.memory);
+        Ok(Answer::notices(notices))
+    }
+
+    fn size(&self, id: u32, address: u32) -> Result<Answer, Refusal> {
+        let words = self.segment_words(id, address)?;
+        Ok(Answer::value(4 * words.len() as u32))
+    }
+
+    fn resize(&mut self, id: u32, address: u32, size: u32) -> Result<Answer, Refusal> {
+        refuse_if(size == 0, status::INVALID_SIZE)?;
+        let region = live_mut(&mut self.regions, id)?;
+        let (page, old) = region.held_at(address)?;
+        let mut answer = Answer::value(old as u32 * region.page);
+        let new = region.pages_for(size);
+        if new < old {
+            region.take_back(page + new, page + old);
+        } else if !region.extend(page + old, page + new) {
+            answer.status = status::UNSATISFIED;
+        }
+        region.draw(&mut self.memory);
+        Ok(answer)
+    }
+
+    fn information(&self, id: u32) -> Result<Answer, Refusal> {
+        Ok(Answer {
+            information: live(&self.regions, id)?.information(),
+            ..Answer::default()
+        })
+    }
+
+    fn tick(&mut self) -> Answer {
+        let regions = self.regions.iter_mut().flatten();
+        Answer::notices(regions.flat_map(Region::tick).collect())
+    }
+
+    fn create_partition(&mut self, name: u32, area: Area, size: u32) -> Result<Answer, Refusal> {
+        refuse_if(name == 0, status::INVALID_NAME)?;
+        refuse_if(area.start == 0, status::INVALID_ADDRESS)?;
+        refuse_if(!area.start.is_multiple_of(4), status::INVALID_ADDRESS)?;
+        refuse_if(self.is_past_memory(&area), status::INVALID_ADDRESS)?;
+        refuse_if(area.length == 0 || size == 0, status::INVALID_SIZE)?;
+        refuse_if(area.length < size, status::INVALID_SIZE)?;
+        refuse_if(!size.is_multiple_of(4), status::INVALID_SIZE)?;
+        refuse_if(size < MIN_BUFFER, status::INVALID_SIZE)?;
+        refuse_if(self.is_taken(&area), status::INVALID_ADDRESS)?;
+        let index = lowest(&self.partitions, Option::is_none, status::TOO_MANY)?;
+
+        let partition = Partition::new(name, area, size);
+        partition.draw(&mut self.memory);
+        self.partitions[index] = Some(partition);
+        Ok(Answer::value(index as u32 + 1))
+    }
+
+    fn delete_partition(&mut self, id: u32) -> Result<Answer, Refusal> {
+        let partition = live(&self.partitions, id)?;
+        let anything_held = partition.chain.len() != partition.count();
+        refuse_if(anything_held, status::RESOURCE_IN_USE)?;
+        self.partitions[index_of(id)?] = None;
+        Ok(Answer::default())
+    }
+
+    fn get_buffer(&mut self, id: u32) -> Result<Answer, Refusal> {
+        let partition = live_mut(&mut self.partitions, id)?;
+        let address = partition.chain.pop_front().ok_or(status::UNSATISFIED)?;
+        self.memory[address as usize / 4..][..2].fill(0);
+        partition.draw(&mut self.memory);
+        Ok(Answer::value(address))
+    }
+
+    fn return_buffer(&mut self, id: u32, address: u32) -> Result<Answer, Refusal> {
+        let partition = live_mut(&mut self.partitions, id)?;
+        refuse_if(!partition.is_held(address), status::INVALID_ADDRESS)?;
+        partition.chain.push_back(address);
+        partition.draw(&mut self.memory);
+        Ok(Answer::default())
+    }
+
+    fn read(&self, id: u32, address: u32) -> Answer {
+        Answer {
+            words: self.segment_words(id, address).unwrap_or(&[]).to_vec(),
+            ..Answer::default()
+        }
+    }
+
+    fn write(&mut self, id: u32, address: u32, first: u32, words: &[u32]) -> Result<Answer, u32> {
+        let length = self.segment_words(id, address)?.len();
+        let past = first as usize + words.len() > length;
+        refuse_if(past, status::INVALID_SIZE)?;
+        let word = address as usize / 4 + first as usize;
+        self.memory[word..word + words.len()].copy_from_slice(words);
+        Ok(Answer::default())
+    }
+
+    /// The memory words of a held segment.
+    fn segment_words(&self, id: u32, address: u32) -> Result<&[u32], Refusal> {
+        let region = live(&self.regions, id)?;
+        let (_, pages) = region.held_at(address)?;
+        let words = pages * region.page as usize / 4;
+        Ok(&self.memory[address as usize / 4..][..words])
+    }
+
+    fn is_past_memory(&self, area: &Area) -> bool {
+        area.end() > u64::from(self.memory_bytes())
+    }
+
+    fn is_taken(&self, area: &Area) -> bool {
+        self.areas().iter().any(|other| other.overlaps(area))
+    }
+}
+
+/// Looking from outside, for whoever makes up calls and client writes.
+impl Model {
+    pub fn memory_bytes(&self) -> u32 {
+        4 * self.memory.len() as u32
+    }
+
+    /// The areas of all live objects: regions first, then by rising id.
+    pub fn areas(&self) -> Vec<Area> {
+        let regions = self.regions.iter().flatten().map(|region| region.area);
+        let partitions = self.partitions.iter().flatten();
+        regions.chain(partitions.map(|p| p.area)).collect()
+    }
+
+    pub fn region_ids(&self) -> Vec<u32> {
+        live_ids(&self.regions)
+    }
+
+    pub fn partition_ids(&self) -> Vec<u32> {
+        live_ids(&self.partitions)
+    }
+
+    /// The names of the live regions, then of the live partitions.
+    pub fn names(&self) -> Vec<u32> {
+        let regions = self.regions.iter().flatten().map(|region| region.name);
+        let partitions = self.partitions.iter().flatten().map(|p| p.name);
+        regions.chain(partitions).collect()
+    }
+
+    /// The page size and the page count of a live region.
+    pub fn pages(&self, id: u32) -> Option<(u32, u32)> {
+        let region = live(&self.regions, id).ok()?;
+        Some((region.page, region.page_count() as u32))
+    }
+
+    /// All segments of a live region by rising address.
+    pub fn segments(&self, id: u32) -> Vec<Segment> {
+        let segments = live(&self.regions, id).map(Region::segments);
+        segments.unwrap_or_default()
+    }
+
+    /// The held segments of a live region, or its free ones.
+    pub fn segments_held(&self, id: u32, held: bool) -> Vec<Segment> {
+        let mut segments = self.segments(id);
+        segments.retain(|segment| segment.held == held);
+        segments
+    }
+
+    /// The tasks that wait: lowest region first, then in the queue's order.
+    pub fn waiting_tasks(&self) -> Vec<u32> {
+        let queues = self.regions.iter().flatten().flat_map(|r| &r.queue);
+        queues.map(|waiter| waiter.task).collect()
+    }
+
+    /// The start, the buffer size and the number of buffers of a live partition.
+    pub fn buffers(&self, id: u32) -> Option<(u32, u32, u32)> {
+        let partition = live(&self.partitions, id).ok()?;
+        let count = partition.count() as u32;
+        Some((partition.area.start, partition.size, count))
+    }
+
+    /// The addresses of a live partition's free buffers, the front first.
+    pub fn free_buffers(&self, id: u32) -> Vec<u32> {
+        let chain = live(&self.partitions, id).map(|partition| &partition.chain);
+        chain.map_or(Vec::new(), |chain| chain.iter().copied().collect())
+    }
+
+    /// The addresses of a live partition's held buffers, rising.
+    pub fn held_buffers(&self, id: u32) -> Vec<u32> {
+        let held = live(&self.partitions, id).map(Partition::held);
+        held.unwrap_or_default()
+    }
+}

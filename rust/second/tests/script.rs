@@ -1,0 +1,346 @@
+//! Scripts: what is a bad line, and what each call writes.
+
+use second::run;
+
+const REGION: &str = "call=create-region\nname=1\nstart=4\nlength=1020\npage=64\norder=0\n";
+const REGION_ANSWER: &str = "status=0\nvalue=1\n";
+
+/// Writes a script from one line for each call: the name and then `key=value`
+/// pairs, with spaces between.
+fn script_of(calls: &str) -> String {
+    let mut script = String::new();
+    for call in calls.lines().map(str::trim).filter(|call| !call.is_empty()) {
+        script.push_str("call=");
+        script.push_str(&call.split_whitespace().collect::<Vec<_>>().join("\n"));
+        script.push('\n');
+    }
+    script
+}
+
+fn output_of(script: &str) -> String {
+    String::from_utf8(run(script.as_bytes())).unwrap()
+}
+
+fn assert_output(script: &str, output: &str) {
+    assert_eq!(output_of(script), output, "script:\n{script}");
+}
+
+/// The script is good up to the line with this number, which ends the run.
+fn assert_bad(script: &str, line: u32) {
+    assert_output(script, &format!("bad={line}\n"));
+}
+
+/// Runs calls, one a line, and compares the answer that stands behind the
+/// `->`: status, values, and for each notice its task, status and address.
+fn assert_answers(lines: &str) {
+    let pair = |line: &str| {
+        let (call, answer) = line.split_once("->").expect("a call and its answer");
+        (call.to_string(), answer.trim().to_string())
+    };
+    let (calls, answers): (Vec<_>, Vec<_>) = lines.lines().map(pair).unzip();
+    let mut seen: Vec<String> = Vec::new();
+    for line in output_of(&script_of(&calls.join("\n"))).lines() {
+        let (key, value) = line.split_once('=').unwrap();
+        match (key, seen.last_mut()) {
+            ("status", _) => seen.push(value.to_string()),
+            ("task", Some(last)) => last.push_str(&format!(" task {value}")),
+            ("with", Some(last)) => last.push_str(&format!(" with {value}")),
+            ("value", Some(last)) => last.push_str(&format!(" {value}")),
+            _ => panic!("unexpected line {line}"),
+        }
+    }
+    assert_eq!(seen, answers);
+}
+
+#[test]
+fn every_call_and_every_status() {
+    assert_answers(
+        "create-region name=1 start=4 length=1020 page=64 order=0 -> 0 1
+         create-region name=0 start=4 length=1020 page=64 order=0 -> 3 0
+         ident-region name=1 -> 0 1
+         get id=1 size=448 wait=0 task=0 priority=0 ticks=0 -> 0 64
+         get id=1 size=512 wait=1 task=1 priority=1 ticks=0 -> 0 512
+         get id=1 size=64 wait=0 task=0 priority=0 ticks=0 -> 13 0
+         get id=1 size=960 wait=1 task=3 priority=1 ticks=2 -> 255 0
+         get id=1 size=64 wait=1 task=3 priority=1 ticks=2 -> 14 0
+         get id=1 size=64 wait=1 task=17 priority=1 ticks=2 -> 10 0
+         get id=1 size=64 wait=1 task=5 priority=256 ticks=2 -> 19 0
+         get id=1 size=64 wait=1 task=5 priority=255 ticks=0 -> 255 0
+         tick -> 0 0
+         tick -> 0 0 task 3 with 6 0
+         size id=1 address=64 -> 0 448
+         resize id=1 address=64 size=100 -> 0 448
+         resize id=1 address=64 size=512 -> 13 128
+         info id=1 -> 0 1 320 320 2 512 640
+         return id=1 address=512 -> 0 0 task 5 with 0 192
+         return id=1 address=512 -> 9 0
+         delete-region id=1 -> 12 0
+         info id=2 -> 4 0 0 0 0 0 0
+         create-partition name=1 start=1024 length=16 size=8 -> 0 1
+         ident-partition name=1 -> 0 1
+         get-buffer id=1 -> 0 1024
+         delete-partition id=1 -> 12 0
+         return-buffer id=1 address=1024 -> 0 0
+         return-buffer id=1 address=1024 -> 9 0
+         delete-partition id=1 -> 0 0
+         return id=1 address=64 -> 0 0
+         return id=1 address=128 -> 9 0
+         delete-region id=1 -> 12 0",
+    );
+}
+
+#[test]
+fn too_many_and_wrong_sizes() {
+    let create = |index: u32| {
+        let answer = if index < 8 {
+            format!("0 {}", index + 1)
+        } else {
+            "5 0".to_string()
+        };
+        let start = 8 + 8 * index;
+        format!("create-partition name=1 start={start} length=8 size=8 -> {answer}\n")
+    };
+    let lines: String = (0..9).map(create).collect();
+    assert_answers(&(lines + "create-partition name=1 start=800 length=8 size=9 -> 8 0"));
+}
+
+#[test]
+fn notices_are_written_to_the_byte() {
+    let script = script_of(
+        "create-region name=1 start=4 length=1020 page=64 order=0
+         get id=1 size=960 wait=0 task=0 priority=0 ticks=0
+         get id=1 size=640 wait=1 task=3 priority=1 ticks=0
+         get id=1 size=64 wait=1 task=5 priority=1 ticks=0
+         return id=1 address=64",
+    );
+    let output = "status=0\nvalue=1\nstatus=0\nvalue=64\nstatus=255\nvalue=0\n\
+                  status=255\nvalue=0\nstatus=0\nvalue=0\n\
+                  task=3\nwith=0\nvalue=64\ntask=5\nwith=0\nvalue=704\n";
+    assert_output(&script, output);
+}
+
+#[test]
+fn refused_information_is_written_to_the_byte() {
+    let zeros = "value=0\n".repeat(6);
+    assert_output("call=info\nid=1\n", &format!("status=4\n{zeros}"));
+}
+
+#[test]
+fn numbers_that_are_bad() {
+    let bad = [
+        "",
+        "00",
+        "01",
+        "0001",
+        "4294967296",
+        "4294967300",
+        "42949672950",
+        "9999999999",
+        "18446744073709551616",
+        "99999999999999999999",
+        "-1",
+        "-0",
+        "+1",
+        " 1",
+        "1 ",
+        "1\t",
+        "1\r",
+        "0x1",
+        "1_000",
+        "1,000",
+        "1.0",
+        "1e3",
+        "a",
+        "1a",
+        "=1",
+        "1=",
+        "\u{661}",
+        "1\0",
+    ];
+    for number in bad {
+        assert_bad(&format!("call=ident-region\nname={number}\n"), 2);
+    }
+}
+
+#[test]
+fn numbers_that_are_good() {
+    for number in ["0", "1", "9", "10", "2147483648", "4294967295"] {
+        let script = format!("call=ident-region\nname={number}\n");
+        assert_output(&script, "status=3\nvalue=0\n");
+    }
+}
+
+#[test]
+fn lines_that_are_bad() {
+    for line in [
+        "",
+        "\r",
+        " ",
+        "call",
+        "call=",
+        "call=\r",
+        "call=tick\r",
+        "call=tick ",
+        " call=tick",
+        "call=tick=",
+        "call =tick",
+        "call= tick",
+        "call:tick",
+        "CALL=tick",
+        "Call=tick",
+        "call=Tick",
+        "call=TICK",
+        "call=ticks",
+        "call=tic",
+        "call=create",
+        "call=get-",
+        "call=get_buffer",
+        "name=1",
+        "tick",
+        "=tick",
+        "=",
+        "call=tick\0",
+        "#",
+        "\u{feff}call=tick",
+    ] {
+        assert_bad(&format!("{line}\n"), 1);
+        let script = format!("{REGION}{line}\n");
+        assert_output(&script, &format!("{REGION_ANSWER}bad=7\n"));
+    }
+}
+
+#[test]
+fn bytes_that_are_no_text() {
+    assert_eq!(run(b"call=\xff\xfe\n"), b"bad=1\n");
+    assert_eq!(run(b"call=info\nid=1\xff\n"), b"bad=2\n");
+    assert_eq!(run(b"\0"), b"bad=1\n");
+}
+
+#[test]
+fn keys_that_are_wrong_or_out_of_order() {
+    // Another key, the right one too early, and a key too many.
+    assert_bad("call=info\nname=1\n", 2);
+    assert_bad("call=info\nid1\n", 2);
+    assert_bad("call=info\nid\n", 2);
+    assert_bad("call=info\nid =1\n", 2);
+    assert_bad("call=info\nidd=1\n", 2);
+    assert_bad("call=info\nID=1\n", 2);
+    assert_bad("call=return\naddress=64\nid=1\n", 2);
+    assert_bad(
+        "call=create-region\nname=1\nlength=1020\nstart=4\npage=64\norder=0\n",
+        3,
+    );
+    assert_bad(
+        "call=create-partition\nname=1\nstart=4\nlength=8\npage=8\n",
+        5,
+    );
+    assert_bad("call=info\ncall=tick\n", 2);
+    assert_output("call=tick\nid=1\n", "status=0\nvalue=0\nbad=2\n");
+    assert_output(
+        "call=ident-region\nname=1\nname=1\n",
+        "status=3\nvalue=0\nbad=3\n",
+    );
+}
+
+#[test]
+fn order_and_wait_are_0_or_1() {
+    for order in ["2", "00", "01", "10", "4294967295", "", "true"] {
+        let script = REGION.replace("order=0", &format!("order={order}"));
+        assert_bad(&script, 6);
+    }
+    assert_output(&REGION.replace("order=0", "order=1"), REGION_ANSWER);
+    for wait in ["2", "00", "01", "10", "4294967295", "", "yes"] {
+        let get = format!("call=get\nid=1\nsize=1\nwait={wait}\ntask=1\npriority=1\nticks=1\n");
+        assert_bad(&get, 4);
+        assert_output(
+            &format!("{REGION}{get}"),
+            &format!("{REGION_ANSWER}bad=10\n"),
+        );
+    }
+    for wait in ["0", "1"] {
+        let get = format!("call=get\nid=1\nsize=1\nwait={wait}\ntask=1\npriority=1\nticks=1\n");
+        assert_output(&get, "status=4\nvalue=0\n");
+    }
+}
+
+#[test]
+fn a_call_with_a_bad_last_key_does_not_run() {
+    let script = format!("{REGION}call=delete-region\nid=01\n{REGION}");
+    assert_output(&script, &format!("{REGION_ANSWER}bad=8\n"));
+}
+
+#[test]
+fn a_line_of_64_bytes_and_one_of_65() {
+    // No good line is that long: both are bad, and nothing after them is read.
+    for length in [63, 64, 65, 66, 1_000, 20_000] {
+        let line = format!("call={}\n", "a".repeat(length - 6));
+        assert_eq!(line.len(), length);
+        assert_bad(&line, 1);
+        let line = format!("name={}\n", "1".repeat(length - 6));
+        assert_eq!(line.len(), length);
+        assert_bad(&format!("call=ident-region\n{line}call=tick\n"), 2);
+    }
+}
+
+#[test]
+fn a_last_line_without_its_newline_is_bad() {
+    assert_bad("call=tick", 1);
+    assert_bad("c", 1);
+    assert_output("call=tick\ncall=tick", "status=0\nvalue=0\nbad=2\n");
+    assert_bad("call=info\nid=1", 2);
+    assert_output(REGION.trim_end(), "bad=6\n");
+}
+
+#[test]
+fn a_missing_line_has_the_next_number() {
+    assert_bad("call=info\n", 2);
+    assert_bad("call=get\nid=1\nsize=1\n", 4);
+    for lines in 1..6 {
+        let script: String = REGION.split_inclusive('\n').take(lines).collect();
+        assert_bad(&script, lines as u32 + 1);
+    }
+    assert_output(
+        &format!("{REGION}call=info\n"),
+        &format!("{REGION_ANSWER}bad=8\n"),
+    );
+}
+
+#[test]
+fn carriage_returns_are_bad() {
+    assert_bad(&REGION.replace('\n', "\r\n"), 1);
+    assert_bad(&REGION.replace('\n', "\r"), 1);
+    assert_bad(&REGION.replace("page=64", "page=64\r"), 5);
+}
+
+/// A good script of exactly this many bytes, and how many calls it has.
+fn script_of_length(length: usize) -> (String, usize) {
+    let tick = "call=tick\n";
+    let ticks = (length - 25) / tick.len();
+    let rest = length - ticks * tick.len();
+    let last = format!("call=ident-region\nname={}\n", "1".repeat(rest - 24));
+    (tick.repeat(ticks) + &last, ticks + 1)
+}
+
+#[test]
+fn scripts_at_the_limit() {
+    for length in [32_766, 32_767, 32_768] {
+        let (script, calls) = script_of_length(length);
+        assert_eq!(script.len(), length);
+        let output = output_of(&script);
+        assert_eq!(output.matches("status=").count(), calls);
+        assert!(output.ends_with("status=3\nvalue=0\n"));
+    }
+    for length in [32_769, 32_770, 70_000] {
+        let (script, _) = script_of_length(length);
+        assert_eq!(script.len(), length);
+        assert_bad(&script, 0);
+    }
+}
+
+#[test]
+fn too_long_is_said_before_any_bad_line() {
+    assert_bad(&"x".repeat(32_768), 1);
+    assert_bad(&"x".repeat(32_769), 0);
+    assert_bad(&"\n".repeat(32_768), 1);
+    assert_bad(&"\n".repeat(32_769), 0);
+}
