@@ -1,7 +1,7 @@
 -- A create: the lowest empty slot has the partition that was asked for, all its buffers chained by address, and its entry lends none.
 -- Its area meets no other, so all other objects stay as they were. Assumes nothing.
 use mathlib.Core.Path.{_≡_, refl, _∙_}
-use mathlib.Core.Bool.{true, false}
+use mathlib.Core.Bool.{false}
 use mathlib.Core.List.{List, []}
 use mathlib.Core.Logic.{inr}
 use mathlib.Core.Option.{some}
@@ -22,7 +22,6 @@ use Rattle.manager.proofs.Laws.Partition.Created.{addresses, all-length, all-cl
 use Rattle.manager.proofs.Laws.Partition.Area.{create-outside}
 use Rattle.manager.proofs.Laws.Partition.Live.{new-laid, new-created, live-new}
 use Rattle.manager.specs.Partitions.{partitionNamed, newPartition, createPartition}
-use Rattle.manager.specs.Sound.{sound}
 use Rattle.manager.specs.declared.Manager.{Manager}
 use Rattle.manager.specs.declared.Partition.{Partition}
 use Rattle.manager.specs.declared.Call.the-variants.{CreatePartition}
@@ -33,6 +32,7 @@ use Rattle.trace.proofs.Buffers.{length-buffers, numbered-buffers, buff
 use Rattle.trace.proofs.Clients.{NoLink, owned-no-link}
 use Rattle.trace.proofs.Regions.Picture.{put-here}
 use Rattle.trace.proofs.Regions.Checks.{Passed, Kept, kept-checked}
+use Rattle.trace.proofs.Regions.Queue.{sound-inv}
 use Rattle.trace.proofs.Partitions.Slot.{keeping, put-keeps, outside, kept-done}
 
 -- the addresses of buffers, by number and one after the other
@@ -105,10 +105,10 @@ module _ (m : List ℕ) (d : Manager) (t : Receipts) (v : Inv m d t) (name start
         (λ w h h′. words w (owned-no-link _ _ (keeping (idOf slot) (some e) t) after (idOf slot) e (put-here (idOf slot) (some e) (t .partitions)) w h′))
 
   -- A CREATE KEEPS THE PICTURE
-  pub keeps-create : sound m d ≡ true → Kept (CreatePartition name start bytes size) m t (createPartition m d name start bytes size)
+  pub keeps-create : Kept (CreatePartition name start bytes size) m t (createPartition m d name start bytes size)
   unfolding createPartition lists.every Passed
-  keeps-create ok =
-      kept-checked (CreatePartition name start bytes size) m d t v _ _ ok refl
+  keeps-create =
+      kept-checked (CreatePartition name start bytes size) m d t v _ _ (sound-inv m d t v) refl
       (λ c. let named = eqb-false name 0 (c .0) in
       let started = eqb-false start 0 (c .1 .0) in
       let aligned = eqb-true (start % 4) 0 (not-false (eqb (start % 4) 0) (c .1 .1 .0)) in
