@@ -1,25 +1,15 @@
--- Document 01, "Bench examples": the ones marked M, as one table about the definitions, and one theorem that all of it holds.
+-- Document 01, "Bench examples": the ones marked M, as one table about the definitions; the theorem that all of it holds is in proofs/.
 -- Region A: start 4, length 1,020, page 64. Memory 16,384 words. Assumes nothing.
-use Prim.Native.Nat.{ℕ, zero, suc, _+_, _-_, _*_}
-use mathlib.Core.Path.{_≡_, refl}
+use Prim.Native.Nat.{ℕ, _+_, _*_}
 use mathlib.Core.Bool.{Bool, true, false, _&&_}
-use mathlib.Core.List.{List, [], _∷_, _++_}
+use mathlib.Core.List.{List, [], _∷_}
 use lib.ListN.{replicate}
 use lib.Dec.{eqb}
-use Rattle.arith.specs.Layout.{largest, pageCount, firstPage}
+use Rattle.arith.specs.Layout.{pageCount, firstPage}
 use Rattle.manager.specs.Status.{numberOf}
 use Rattle.manager.specs.Record.{mostWords, fresh, regionOf}
-use Rattle.manager.specs.Result.{Result, checked}
-use Rattle.manager.specs.Lists.{every, some, indexOf, pairwise, adjacent}
-use Rattle.manager.specs.Map.{draw, decode, soundFrom, soundMap, freeSizes, heldSizes}
-use Rattle.manager.specs.Paged.{free+, lead, rest, placeFrom, take, heldFrom, reachFrom, changeFrom}
-use Rattle.manager.specs.Region.{mapWords, regionAreas, partitionAreas}
-use Rattle.manager.specs.Queue.{goesBefore, push, insert, removeAt, enqueue, dequeue, staying, leaving, afterTick}
-use Rattle.manager.specs.Serve.{serveUpTo, serve}
-use Rattle.manager.specs.Partition.{follow, linked, linkAll, afterGet, afterReturn}
-use Rattle.manager.specs.Sound.{liveRegion, livePartition, soundRegion, soundPartition, soundWaiter, soundPlace, soundQueue, sound}
-use Rattle.manager.specs.Regions.{createRegion, getSegment, returnSegment}
-use Rattle.manager.specs.Partitions.{createPartition, getBuffer, returnBuffer}
+use Rattle.manager.specs.Result.{Result}
+use Rattle.manager.specs.Region.{mapWords}
 use Rattle.manager.specs.Perform.{perform}
 use Rattle.manager.specs.declared.Call.{Call}
 use Rattle.manager.specs.declared.Call.the-variants.{CreateRegion, GetSegment, ReturnSegment, CreatePartition, GetBuffer, ReturnBuffer}
@@ -120,7 +110,3 @@ table =
     -- 10. A partition at start 1,020, length 24, size 24, beside A: 9.
     ∷ calls (a ∷ step (CreatePartition 1 1020 24 24) 9 0 [] ∷ [])
     ∷ []
-
-pub examples : every holds table ≡ true
-unfolding largest pageCount checked every some indexOf pairwise adjacent draw decode soundFrom soundMap freeSizes heldSizes free+ lead rest placeFrom take heldFrom reachFrom changeFrom regionAreas partitionAreas goesBefore push insert removeAt enqueue dequeue staying leaving afterTick serveUpTo serve follow linked linkAll afterGet afterReturn liveRegion livePartition soundRegion soundPartition soundWaiter soundPlace soundQueue sound createRegion getSegment returnSegment createPartition getBuffer returnBuffer perform
-examples = refl
