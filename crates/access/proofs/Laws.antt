@@ -12,19 +12,20 @@ use lib.Dec.{leb}
 use lib.ListN.{length, take, drop, set, getD, length-drop, drop-of-length-le}
 use lib.Pow.{pow-pos, pow-add}
 use lib.Seq.{sets, sets-eq, drop-cons, drop-drop, take-all}
-use Rattle.arith.specs.Layout.Laws.{count-end}
+use Rattle.arith.proofs.Laws.Layout.{count-end}
 use Rattle.manager.specs.Access.{readSegment, writeSegment}
-use Rattle.manager.specs.Lists.Laws.{and-first, and-second}
+use Rattle.manager.proofs.Laws.Lists.{and-first, and-second}
 use Rattle.manager.specs.Map.{held, total}
-use Rattle.manager.specs.Map.Laws.{Well, total-append, total-cons}
+use Rattle.manager.proofs.Laws.Map.{Well, total-append, total-cons}
 use Rattle.manager.specs.Paged.{heldFrom}
-use Rattle.manager.specs.Paged.Laws.{Spot, spot, held-at}
+use Rattle.manager.proofs.Laws.Paged.{Spot, spot, held-at}
 use Rattle.manager.specs.Record.{regionOf}
 use Rattle.manager.specs.Region.{baseOf, heldAt, pageAt, pagesOf, segments, startsPage}
 use Rattle.manager.specs.Result.{Result, Performs, answerOf, checked, refused, replied, done}
-use Rattle.manager.specs.Result.Laws.{performs-by, performs-reply}
+use Rattle.manager.proofs.Laws.Result.{performs-by, performs-reply}
 use Rattle.manager.specs.Sound.{sound}
-use Rattle.manager.specs.Sound.Laws.{Sited, sited, well-segments, total-segments}
+use Rattle.manager.specs.Sound.{Sited}
+use Rattle.manager.proofs.Laws.Sound.{sited, well-segments, total-segments}
 use Rattle.manager.specs.declared.Answer.{Answer}
 use Rattle.manager.specs.declared.Manager.{Manager}
 use Rattle.manager.specs.declared.Region.{Region}

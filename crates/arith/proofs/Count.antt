@@ -8,7 +8,7 @@ use native.Mathlib.Nat.{div-mul-le-self, le-div-iff-mul-le, mul-add, suc-mul, eq
 use native.Mathlib.Numerals.{sub-one}
 use native.Mathlib.Omega.{arith}
 use Rattle.arith.specs.Layout.{mapStart, firstPage, fits, pageCount}
-use Rattle.arith.specs.Layout.Laws.{fits-le, le-fits, fits-room, first-lt, count-unique}
+use Rattle.arith.proofs.Laws.Layout.{fits-le, le-fits, fits-room, first-lt, count-unique}
 
 -- what the quotient's pages and words take of the room
 pub quotient-room : (room page : ℕ) → room / (page + 4) * page + room / (page + 4) * 4 ≤ room

@@ -9,7 +9,7 @@ use borrow.Author.Tests.{le-leb, lt-leb, eq-eqb, ne-eqb, eqb-true, not-true, not
 use lib.Dec.{eqb, leb}
 use lib.ListN.{length, replicate}
 use lib.Seq.{sets}
-use Rattle.manager.specs.Lists.Laws.{and-first}
+use Rattle.manager.proofs.Laws.Lists.{and-first}
 use Rattle.manager.specs.Record.{fresh, slots, tasks, noNotice}
 use Rattle.manager.specs.Result.{Result, Performs, pad}
 use Rattle.manager.specs.Status.{numberOf}

@@ -1,5 +1,4 @@
 -- Tests over a whole list: what the definitions of document 01 say of every slot, place or area. Assumes nothing.
-pub mod Laws
 use Prim.Native.Nat.{ℕ, zero, suc}
 use mathlib.Core.Bool.{Bool, true, false, cond, _&&_, _||_}
 use mathlib.Core.List.{List, [], _∷_}

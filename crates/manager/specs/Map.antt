@@ -1,5 +1,4 @@
 -- Document 01, "Regions: Map": a region's map as segments, the words that draw it, and what a sound map is. Assumes nothing.
-pub mod Laws
 use Prim.Native.Nat.{ℕ, zero, suc, _+_, _-_, _*_, _/_, _%_, max}
 use mathlib.Core.Bool.{Bool, true, false, cond, _&&_, _||_}
 use mathlib.Core.List.{List, [], _∷_, _++_}
@@ -73,3 +72,8 @@ unfoldable pub total : List Segment → ℕ
 total [] = 0
 total (free n ∷ s) = n + total s
 total (held n ∷ s) = n + total s
+
+-- the pages of a segment
+abbrev pub sizeOf : Segment → ℕ
+sizeOf (free n) = n
+sizeOf (held n) = n

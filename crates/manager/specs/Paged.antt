@@ -1,6 +1,5 @@
 -- Document 01, "Regions: Get, Return, Resize": how a region of pages places, frees and resizes segments. A kind of region is one
 -- record of such functions, and the directives and the queue are stated over it. Assumes nothing.
-pub mod Laws
 use Prim.Native.Nat.{ℕ, zero, suc, _+_, _-_}
 use mathlib.Core.Bool.{Bool, cond}
 use mathlib.Core.List.{List, [], _∷_}

@@ -1,10 +1,5 @@
 -- Document 01, "Regions: Queue, Tick": the wait queue. The record keeps one array of waiters, by region and within a region in the
 -- order in which they are served; unused places are at the end. Assumes nothing.
-pub mod Parts
-pub mod Laws
-pub mod Used
-pub mod Entry
-pub mod Room
 use Prim.Native.Nat.{ℕ, _-_}
 use mathlib.Core.Bool.{Bool, true, false, cond, not, _&&_, _||_}
 use mathlib.Core.List.{List, [], _∷_, _++_}

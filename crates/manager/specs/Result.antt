@@ -1,5 +1,4 @@
 -- What a directive leaves: the memory, the answer and the manager record, as the contracts state them. Assumes nothing.
-pub mod Laws
 use Prim.Native.Nat.{ℕ, _-_}
 use mathlib.Core.Path.{_≡_}
 use mathlib.Core.Bool.{Bool, true, false, cond}

@@ -1,12 +1,13 @@
 -- Document 01, "Sound books": what a sound manager record over a memory is, clause by clause. Assumes nothing.
-pub mod Laws
-use Prim.Native.Nat.{ℕ, _+_, _*_, _/_, _%_}
+use Prim.Native.Nat.{ℕ, _+_, _*_, _%_, _≤_}
+use mathlib.Core.Path.{_≡_}
 use mathlib.Core.Bool.{Bool, true, false, cond, not, _&&_, _||_}
 use mathlib.Core.List.{List, [], _∷_}
 use lib.ListN.{length}
 use lib.Dec.{eqb, leb, ltb}
 use Rattle.manager.specs.Record.{tasks, mostWords, regionOf}
 use Rattle.manager.specs.Lists.{every, pairwise, adjacent}
+use Rattle.manager.specs.Map.{soundMap}
 use Rattle.manager.specs.Paged.{Kind}
 use Rattle.manager.specs.Region.{dead, kind, pagesOf, mapWords, anyHeld, pagesAsked, areas, overlap}
 use Rattle.manager.specs.Partition.{deadPartition, soundChain}
@@ -108,3 +109,18 @@ sound m d =
     && (every (soundRegion m) (d .regions)
     && (every (soundPartition m) (d .partitions)
     && (soundAreas d && soundQueue m d)))
+
+-- ---- what the functions of a directive ask of the region that they act on
+
+-- a region whose map and pages lie in a memory
+pub record Laid (m : List ℕ) (r : Region) : Type 0 where
+  pub words : length m ≤ 16384
+  pub inside : r .start + r .length ≤ 4 * length m
+  pub page-low : 8 ≤ r .page
+  pub page-high : r .page ≤ 4096
+  pub some : 1 ≤ pagesOf r
+
+-- and whose map is sound: a live region
+pub record Sited (m : List ℕ) (r : Region) : Type 0 where
+  pub laid : Laid m r
+  pub sound : soundMap (mapWords m r) ≡ true

@@ -9,7 +9,7 @@ use native.Mathlib.Omega.{arith}
 use borrow.Author.Tests.{eq-eqb, ne-eqb, le-leb, lt-leb}
 use lib.Dec.{eqb}
 use lib.ListN.{length, getD, drop, drop-of-length-le}
-use Rattle.manager.specs.Lists.Laws.{rest-cons}
+use Rattle.manager.proofs.Laws.Lists.{rest-cons}
 use Rattle.manager.specs.Map.{soundFrom, soundMap}
 
 -- HOW FAR THE CHECK HAS COME: to word i

@@ -8,7 +8,7 @@ use borrow.Author.Tests.{eq-eqb, ne-eqb, le-leb, lt-leb}
 use lib.ListN.{length, take, drop, length-drop, drop-of-length-le}
 use lib.Seq.{take-all, take-nil}
 use Rattle.arith.specs.Layout.{firstPage}
-use Rattle.arith.specs.Layout.Laws.{count-zero}
+use Rattle.arith.proofs.Laws.Layout.{count-zero}
 use Rattle.manager.specs.Lists.{some}
 use Rattle.manager.specs.Map.{decode, isHeldSegment}
 use Rattle.manager.specs.Paged.{heldFrom}

@@ -11,7 +11,7 @@ use borrow.Author.Tests.{eq-eqb, ne-eqb, eqb-true}
 use lib.Dec.{eqb}
 use lib.ListN.{length, getD, drop, drop-of-length-le}
 use Rattle.manager.specs.Lists.{some}
-use Rattle.manager.specs.Lists.Laws.{rest-cons, Seeking, some-next, some-here, some-end}
+use Rattle.manager.proofs.Laws.Lists.{rest-cons, Seeking, some-next, some-here, some-end}
 use Rattle.manager.specs.Map.{Segment, free, held, isHeld, isHeldSegment, decode}
 use Rattle.manager.specs.Paged.{heldFrom, reachFrom, lead}
 

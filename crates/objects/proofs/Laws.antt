@@ -15,7 +15,7 @@ use Rattle.manager.specs.declared.Area.{Area}
 use Rattle.manager.specs.Record.{slots, slotOf, withRegion, withPartition}
 use Rattle.manager.specs.Result.{pad}
 use Rattle.manager.specs.Lists.{every, some, indexOf, pairwise}
-use Rattle.manager.specs.Lists.Laws.{Placing, index-start, index-next, index-here, index-end, rest-cons, every-cons, every-none, Pairing, pairwise-start, pairwise-next, pairwise-fail, pairwise-end, some-start, some-missed, some-found, some-end}
+use Rattle.manager.proofs.Laws.Lists.{Placing, index-start, index-next, index-here, index-end, rest-cons, every-cons, every-none, Pairing, pairwise-start, pairwise-next, pairwise-fail, pairwise-end, some-start, some-missed, some-found, some-end}
 use Rattle.manager.specs.Region.{areasOf, areaOf, regionAreas, partitionAreas, overlap}
 use Rattle.objects.specs.Areas.{noArea}
 use Rattle.objects.proofs.Fill.{Filling, fill-start, fill-from, fill-put, fill-end, fill-full}

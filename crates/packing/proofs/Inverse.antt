@@ -11,7 +11,7 @@ use lib.Dec.{leb, eqb}
 use lib.ListN.{length, take, drop, getD, length-append, take-append-drop}
 use lib.Seq.{getD-append-add, getD-append-seam, drop-cons, take-add, take-all, drop-drop}
 use Rattle.manager.specs.Record.{slots, tasks}
-use Rattle.manager.specs.Lists.Laws.{and-first, and-second}
+use Rattle.manager.proofs.Laws.Lists.{and-first, and-second}
 use Rattle.manager.specs.declared.Manager.{Manager}
 use Rattle.manager.specs.declared.Region.{Region}
 use Rattle.manager.specs.declared.Partition.{Partition}

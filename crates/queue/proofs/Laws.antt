@@ -16,7 +16,7 @@ use Rattle.manager.specs.declared.Order.{Order}
 use Rattle.manager.specs.declared.Order.the-variants.{Fifo, Priority}
 use Rattle.manager.specs.Record.{tasks, noWaiter, regionOf, withQueue}
 use Rattle.manager.specs.Lists.{some, indexOf}
-use Rattle.manager.specs.Lists.Laws.{Placing, index-start, index-next, index-here, index-end, Seeking, some-start, some-next, some-here, some-end}
+use Rattle.manager.proofs.Laws.Lists.{Placing, index-start, index-next, index-here, index-end, Seeking, some-start, some-next, some-here, some-end}
 use Rattle.manager.specs.Queue.{goesBefore, push, insert, pull, removeAt, enqueue, dequeue, waitsFor}
 use Rattle.objects.proofs.Laws.{unmapped}
 

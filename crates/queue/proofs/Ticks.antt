@@ -9,7 +9,7 @@ use Rattle.manager.specs.declared.Manager.{Manager}
 use Rattle.manager.specs.declared.Waiter.{Waiter}
 use Rattle.manager.specs.declared.Notice.{Notice}
 use Rattle.manager.specs.Record.{tasks, noWaiter, noNotice, withQueue}
-use Rattle.manager.specs.Lists.Laws.{rest-cons}
+use Rattle.manager.proofs.Laws.Lists.{rest-cons}
 use Rattle.manager.specs.Queue.{staying, leaving, aged, expired, afterTick}
 use Rattle.objects.proofs.Laws.{unmapped}
 use Rattle.queue.specs.Tick.{Ticks}

@@ -14,10 +14,10 @@ use mir.Val.{Fits}
 use borrow.Author.Needs.{fits-under}
 use borrow.Author.Tests.{eq-eqb, ne-eqb, le-leb, lt-leb, lt-ltb, le-ltb, leb-true, ltb-true, ltb-false, eqb-false, not-true, not-false}
 use Rattle.arith.specs.Round.{roundUp}
-use Rattle.arith.specs.Round.Laws.{pages-some, round-ge, round-least}
+use Rattle.arith.proofs.Laws.Round.{pages-some, round-ge, round-least}
 use Rattle.manager.specs.Record.{slots, noInformation, regionOf, slotOf, idOf, withRegion}
 use Rattle.manager.specs.Result.{Result, Performs, Check, check, checked, answerOf, replied, refused, done, pad}
-use Rattle.manager.specs.Result.Laws.{performs-by, performs-reply, checked-passes}
+use Rattle.manager.proofs.Laws.Result.{performs-by, performs-reply, checked-passes}
 use Rattle.manager.specs.Map.{Segment, free, held, total}
 use Rattle.manager.specs.Paged.{free+, heldFrom, reachFrom, changeFrom}
 use Rattle.manager.specs.Region.{dead, pagesOf, baseOf, pageAt, startsPage, segments, withSegments, heldAt, addressOf, pagesAsked}
@@ -25,7 +25,8 @@ use Rattle.manager.specs.Queue.{enqueue}
 use Rattle.manager.specs.Serve.{onPlace, placed, taken, serve, Served, fromServed}
 use Rattle.manager.specs.Regions.{overlaps, pastMemory, regionNamed, newRegion, createRegion, waitChecks, unplaced, getSegment, returnSegment, resizeSegment}
 use Rattle.manager.specs.Sound.{sound}
-use Rattle.manager.specs.Sound.Laws.{Laid, Sited, sited, sound-words, pages-end, total-segments}
+use Rattle.manager.specs.Sound.{Laid, Sited}
+use Rattle.manager.proofs.Laws.Sound.{sited, sound-words, pages-end, total-segments}
 use Rattle.manager.specs.declared.Manager.{Manager}
 use Rattle.manager.specs.declared.Region.{Region}
 use Rattle.manager.specs.declared.Waiter.{Waiter}

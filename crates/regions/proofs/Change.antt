@@ -10,9 +10,10 @@ use lib.ListN.{length, getD, set, length-append}
 use lib.Dec.{eqb}
 use borrow.Author.Tests.{eq-eqb, ne-eqb}
 use Rattle.manager.specs.Map.{Segment, free, held, isHeldSegment, wordsOf, draw, decode, soundMap, total}
-use Rattle.manager.specs.Map.Laws.{Well, sizeOf, markOf, redraw, reread, well-decoded, well-at, well-after, sound-drawn, draw-append, draw-cons, length-draw, length-words, total-append, total-cons}
+use Rattle.manager.specs.Map.{sizeOf}
+use Rattle.manager.proofs.Laws.Map.{Well, markOf, redraw, reread, well-decoded, well-at, well-after, sound-drawn, draw-append, draw-cons, length-draw, length-words, total-append, total-cons}
 use Rattle.manager.specs.Paged.{free+, held+, lead, rest, heldFrom, reachFrom, changeFrom}
-use Rattle.manager.specs.Paged.Laws.{onto, onto-append, onto-last, Spot, spot, held-at, reach-at, change-at, free-none, free-join, lead-rest, well-rest, lead-none, rest-none, well-change}
+use Rattle.manager.proofs.Laws.Paged.{onto, onto-append, onto-last, Spot, spot, held-at, reach-at, change-at, free-none, free-join, lead-rest, well-rest, lead-none, rest-none, well-change}
 use Rattle.regions.specs.Leaf.{holding, beforeFrom, Extends}
 use Rattle.regions.proofs.Words.{word-at, words-in, holding-words, set-past, set-mark, join-words}
 use Rattle.regions.proofs.Take.{draw-free}

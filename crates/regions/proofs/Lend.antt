@@ -12,12 +12,13 @@ use lib.Seq.{drop-drop, drop-length}
 use borrow.Author.Fill.{fill-more}
 use borrow.Rule.Slice.PartMut.{putMid}
 use Rattle.manager.specs.Map.{Segment, decode, draw, soundMap, total}
-use Rattle.manager.specs.Map.Laws.{Well, redraw}
+use Rattle.manager.proofs.Laws.Map.{Well, redraw}
 use Rattle.manager.specs.Paged.{free+, take, placeFrom, heldFrom, reachFrom, changeFrom}
-use Rattle.manager.specs.Paged.Laws.{take-none, well-take, total-take, well-change, total-change, well-free, total-free}
+use Rattle.manager.proofs.Laws.Paged.{take-none, well-take, total-take, well-change, total-change, well-free, total-free}
 use Rattle.manager.specs.Region.{pagesOf, mapAt, mapWords, segments, withSegments}
 use Rattle.manager.specs.Serve.{placed, taken}
-use Rattle.manager.specs.Sound.Laws.{Laid, Sited, map-in, map-long, pages-few, with-is, sited-with, well-segments, total-segments}
+use Rattle.manager.specs.Sound.{Laid, Sited}
+use Rattle.manager.proofs.Laws.Sound.{map-in, map-long, pages-few, with-is, sited-with, well-segments, total-segments}
 use Rattle.manager.specs.declared.Region.{Region}
 use Rattle.manager.specs.declared.Place.{Place}
 use Rattle.manager.specs.declared.Place.the-variants.{At, Nowhere}

@@ -9,22 +9,23 @@ use lib.ListN.{length, getD, set, replicate}
 use lib.Dec.{eqb, leb, ltb}
 use borrow.Author.Tests.{lt-ltb, le-ltb, leb-true, le-leb, eq-eqb, ne-eqb, eqb-true, eqb-false, not-true}
 use Rattle.arith.specs.Round.{pagesFor}
-use Rattle.arith.specs.Round.Laws.{pages-some}
+use Rattle.arith.proofs.Laws.Round.{pages-some}
 use Rattle.manager.specs.Record.{tasks, noWaiter, noNotice, regionOf, withQueue}
 use Rattle.manager.specs.Result.{pad}
 use Rattle.manager.specs.Lists.{every, indexOf}
-use Rattle.manager.specs.Lists.Laws.{and-first, and-second, every-at}
+use Rattle.manager.proofs.Laws.Lists.{and-first, and-second, every-at}
 use Rattle.manager.specs.Map.{Segment, free, held, total}
-use Rattle.manager.specs.Map.Laws.{total-append, total-cons}
+use Rattle.manager.proofs.Laws.Map.{total-append, total-cons}
 use Rattle.manager.specs.Paged.{placeFrom}
-use Rattle.manager.specs.Paged.Laws.{Hit, hit, take-none}
+use Rattle.manager.proofs.Laws.Paged.{Hit, hit, take-none}
 use Rattle.manager.specs.Region.{pagesOf, anyHeld, segments, withSegments, addressOf, pagesAsked}
 use Rattle.manager.specs.Queue.{firstOf, waitsFor, dequeue}
-use Rattle.manager.specs.Queue.Laws.{dequeue-every, sound-every}
-use Rattle.manager.specs.Queue.Parts.{every-imp, by-case}
+use Rattle.manager.proofs.Laws.Queue.{dequeue-every, sound-every}
+use Rattle.manager.proofs.Laws.Appended.{every-imp, by-case}
 use Rattle.manager.specs.Serve.{onPlace, placed, taken, Served, quiet, granted, telling, serveUpTo, serve}
 use Rattle.manager.specs.Sound.{sound, soundPlace, soundWaiter, unused, soundQueue}
-use Rattle.manager.specs.Sound.Laws.{Laid, Sited, sound-queue, address-in, total-segments, same-segments}
+use Rattle.manager.specs.Sound.{Laid, Sited}
+use Rattle.manager.proofs.Laws.Sound.{sound-queue, address-in, total-segments, same-segments}
 use Rattle.manager.specs.declared.Manager.{Manager}
 use Rattle.manager.specs.declared.Region.{Region}
 use Rattle.manager.specs.declared.Waiter.{Waiter}

@@ -6,9 +6,9 @@ use mathlib.Core.List.{List, [], _∷_, _++_}
 use native.Mathlib.Omega.{arith}
 use lib.ListN.{length, getD}
 use Rattle.manager.specs.Map.{Segment, free, held, wordsOf, draw, decode, soundMap, total}
-use Rattle.manager.specs.Map.Laws.{Well, redraw, well-decoded, well-at, draw-append, draw-cons, length-draw, total-decoded}
+use Rattle.manager.proofs.Laws.Map.{Well, redraw, well-decoded, well-at, draw-append, draw-cons, length-draw, total-decoded}
 use Rattle.manager.specs.Paged.{free+, placeFrom, take}
-use Rattle.manager.specs.Paged.Laws.{Hit, hit, free-none, free-front}
+use Rattle.manager.proofs.Laws.Paged.{Hit, hit, free-none, free-front}
 use Rattle.manager.specs.declared.Place.{Place}
 use Rattle.manager.specs.declared.Place.the-variants.{At, Nowhere}
 use Rattle.regions.specs.Leaf.{holding}

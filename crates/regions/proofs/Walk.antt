@@ -8,7 +8,7 @@ use lib.ListN.{length, getD, drop}
 use lib.Dec.{leb}
 use borrow.Author.Tests.{le-leb, lt-leb, eq-eqb, ne-eqb}
 use Rattle.manager.specs.Map.{Segment, decode, soundMap}
-use Rattle.manager.specs.Map.Laws.{size-of, Here, Step, walk-start, walk-step, walk-end, says-free, says-held, next-here}
+use Rattle.manager.proofs.Laws.Map.{size-of, Here, Step, walk-start, walk-step, walk-end, says-free, says-held, next-here}
 use Rattle.manager.specs.Paged.{placeFrom}
 use Rattle.regions.specs.Leaf.{beforeFrom}
 use Rattle.manager.specs.declared.Place.{Place}

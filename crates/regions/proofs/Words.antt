@@ -12,7 +12,7 @@ use lib.Seq.{set-at, getD-at}
 use lib.Dec.{ltb}
 use borrow.Author.Tests.{lt-ltb, le-ltb}
 use Rattle.manager.specs.Map.{wordsOf}
-use Rattle.manager.specs.Map.Laws.{length-words}
+use Rattle.manager.proofs.Laws.Map.{length-words}
 use Rattle.regions.specs.Leaf.{holding}
 
 -- a store past a prefix

@@ -6,7 +6,7 @@ use mathlib.Core.List.{List, [], _∷_}
 use lib.ListN.{set}
 use lib.Dec.{eqb, ltb}
 use Rattle.manager.specs.Map.{Segment, decode, draw}
-use Rattle.manager.specs.Map.Laws.{sizeOf}
+use Rattle.manager.specs.Map.{sizeOf}
 use Rattle.manager.specs.Paged.{reachFrom, changeFrom}
 
 -- the words where of a segment of so many pages at page i the first k are held and the others free

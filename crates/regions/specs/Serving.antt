@@ -11,7 +11,7 @@ use Rattle.manager.specs.Lists.{every}
 use Rattle.manager.specs.Region.{addressOf, pagesAsked}
 use Rattle.manager.specs.Queue.{firstOf}
 use Rattle.manager.specs.Serve.{onPlace, placed, taken, granted, Served}
-use Rattle.manager.specs.Sound.Laws.{Sited}
+use Rattle.manager.specs.Sound.{Sited}
 use Rattle.manager.specs.declared.Manager.{Manager}
 use Rattle.manager.specs.declared.Waiter.{Waiter}
 use Rattle.manager.specs.declared.Notice.{Notice}

@@ -24,7 +24,7 @@ ghost use Rattle.manager.specs.Region.{pagesOf, pageAt, addressOf, segments, wi
 ghost use Rattle.manager.specs.Serve.{onPlace, placed, taken, serve, fromServed};
 ghost use Rattle.manager.specs.Regions.{newRegion, createRegion, unplaced, getSegment, returnSegment, resizeSegment};
 ghost use Rattle.manager.specs.Sound.{sound};
-ghost use Rattle.manager.specs.Sound.Laws.{Laid, Sited};
+ghost use Rattle.manager.specs.Sound.{Laid, Sited};
 ghost use Rattle.manager.specs.declared.Status.the-variants.{Unsatisfied};
 ghost use Rattle.regions.specs.Serving.{Asking};
 

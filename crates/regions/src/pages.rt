@@ -7,7 +7,7 @@ ghost use mathlib.Core.List.{[]};
 ghost use Prim.Native.Nat.{ℕ, _≤_};
 ghost use Rattle.manager.specs.Paged.{free+, heldFrom, reachFrom, changeFrom};
 ghost use Rattle.manager.specs.Region.{pagesOf, segments};
-ghost use Rattle.manager.specs.Sound.Laws.{Laid, Sited};
+ghost use Rattle.manager.specs.Sound.{Laid, Sited};
 ghost use Rattle.regions.specs.Pages.{Draws, Takes};
 
 // Takes k pages of the region where there is room, and says where.

@@ -10,7 +10,7 @@ ghost use Prim.Native.Nat.{ℕ, _≤_};
 ghost use Rattle.manager.specs.Record.{regionOf};
 ghost use Rattle.manager.specs.Region.{addressOf};
 ghost use Rattle.manager.specs.Serve.{serve};
-ghost use Rattle.manager.specs.Sound.Laws.{Sited};
+ghost use Rattle.manager.specs.Sound.{Sited};
 ghost use Rattle.regions.specs.Serving.{Asking, Serves, Turns};
 
 // The manager record and the notices after serving.

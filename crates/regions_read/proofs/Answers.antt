@@ -14,14 +14,15 @@ use mir.Val.{Fits}
 use borrow.Author.Needs.{fits-under}
 use Rattle.manager.specs.Record.{slots, tasks, noRegion, noNotice, noInformation, regionOf, slotOf, idOf, withRegion}
 use Rattle.manager.specs.Result.{Result, Performs, answerOf, replied, refused, done, checked, pad}
-use Rattle.manager.specs.Result.Laws.{performs-by, performs-reply}
+use Rattle.manager.proofs.Laws.Result.{performs-by, performs-reply}
 use Rattle.manager.specs.Map.{Segment, free, held, decode, soundMap, total, freeSizes, heldSizes}
 use Rattle.manager.specs.Paged.{heldFrom}
 use Rattle.manager.specs.Region.{dead, pagesOf, pageAt, startsPage, segments, mapWords, heldAt, anyHeld}
 use Rattle.manager.specs.Queue.{leaving, afterTick}
 use Rattle.manager.specs.Regions.{regionNamed, identRegion, deleteRegion, segmentSize, regionInformation, informationOf, tick}
 use Rattle.manager.specs.Sound.{sound}
-use Rattle.manager.specs.Sound.Laws.{Laid, Sited, sited, map-long, pages-few, pages-end, total-segments}
+use Rattle.manager.specs.Sound.{Laid, Sited}
+use Rattle.manager.proofs.Laws.Sound.{sited, map-long, pages-few, pages-end, total-segments}
 use Rattle.manager.specs.declared.Manager.{Manager}
 use Rattle.manager.specs.declared.Region.{Region}
 use Rattle.manager.specs.declared.Answer.{Answer}

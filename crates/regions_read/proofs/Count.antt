@@ -11,7 +11,8 @@ use mir.Syntax.{w32}
 use mir.Val.{Fits}
 use borrow.Author.Needs.{fits-under}
 use Rattle.manager.specs.Map.{Segment, free, held, decode, soundMap, freeSizes, heldSizes, largestOf, sumOf, total}
-use Rattle.manager.specs.Map.Laws.{Well, well-decoded, total-decoded, Here, walk-start, walk-step, walk-end, says-free, says-held, next-here, sizeOf}
+use Rattle.manager.specs.Map.{sizeOf}
+use Rattle.manager.proofs.Laws.Map.{Well, well-decoded, total-decoded, Here, walk-start, walk-step, walk-end, says-free, says-held, next-here}
 use Rattle.manager.specs.Record.{noInformation}
 use Rattle.manager.specs.Regions.{informationOf}
 use Rattle.manager.specs.declared.Information.{Information}

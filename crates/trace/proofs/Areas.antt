@@ -13,7 +13,7 @@ use lib.Seq.{getD-append-add, getD-set-same, getD-set-other}
 use lib.Dec.{leb, ltb}
 use borrow.Author.Tests.{leb-true, leb-false, ltb-false, le-ltb, lt-ltb, not-true}
 use Rattle.manager.specs.Lists.{every, some as someOf, pairwise}
-use Rattle.manager.specs.Lists.Laws.{and-first, and-second, every-at}
+use Rattle.manager.proofs.Laws.Lists.{and-first, and-second, every-at}
 use Rattle.manager.specs.Record.{slots, noRegion, noPartition, slotOf, idOf, regionOf, partitionOf, withRegion, withPartition}
 use Rattle.manager.specs.Region.{areaOf, regionAreas, partitionAreas, areas, overlap}
 use Rattle.manager.specs.Regions.{overlaps}
@@ -22,7 +22,7 @@ use Rattle.manager.specs.declared.Area.{Area}
 use Rattle.manager.specs.declared.Manager.{Manager}
 use Rattle.manager.specs.declared.Region.{Region}
 use Rattle.manager.specs.declared.Partition.{Partition}
-use Rattle.manager.specs.Queue.Parts.{or-first, or-second}
+use Rattle.manager.proofs.Laws.Appended.{or-first, or-second}
 use Rattle.trace.specs.Receipts.{RegionEntry, PartitionEntry}
 use Rattle.trace.specs.Trace.{Object, region, partition}
 use Rattle.trace.proofs.Invariant.{Inside, Only, regionFor, RegionSlot, PartitionSlot, empty, live}

@@ -11,15 +11,15 @@ use lib.ListN.{length, getD, take, drop, set, length-take, length-drop, length-s
 use lib.Seq.{sets, length-sets, sets-eq, getD-set-other, getD-take, getD-drop, ext-getD, take-at, drop-at, length-take-le}
 use lib.Dec.{eqb, leb}
 use borrow.Author.Tests.{eqb-false, leb-true, ne-eqb, le-leb, not-true}
-use Rattle.arith.specs.Round.Laws.{round-multiple}
+use Rattle.arith.proofs.Laws.Round.{round-multiple}
 use Rattle.arith.specs.Layout.{mapStart, firstPage, pageCount}
-use Rattle.arith.specs.Layout.Laws.{map-ge, count-map, count-end}
-use Rattle.manager.specs.Lists.Laws.{and-first, and-second}
+use Rattle.arith.proofs.Laws.Layout.{map-ge, count-map, count-end}
+use Rattle.manager.proofs.Laws.Lists.{and-first, and-second}
 use Rattle.manager.specs.Map.{draw}
 use Rattle.manager.specs.Region.{pagesOf, baseOf, mapAt, mapWords, withSegments}
 use Rattle.manager.specs.Partition.{isBuffer, chain}
-use Rattle.manager.specs.Partition.Distinct.{On, same-or-not}
-use Rattle.manager.specs.Partition.Laws.{Shaped, Laid, Buffer, buffer-of, Placed, placed, apart, linked-on, Same, follow-same, linked-same, live-laid, live-size, live-chain, live-made}
+use Rattle.manager.proofs.Laws.Distinct.{On, same-or-not}
+use Rattle.manager.proofs.Laws.Partition.{Shaped, Laid, Buffer, buffer-of, Placed, placed, apart, linked-on, Same, follow-same, linked-same, live-laid, live-size, live-chain, live-made}
 use Rattle.manager.specs.Sound.{inside}
 use Rattle.manager.specs.declared.Region.{Region}
 use Rattle.manager.specs.declared.Partition.{Partition}

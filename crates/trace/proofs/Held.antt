@@ -8,7 +8,7 @@ use native.Mathlib.Nat.{div-add-mod', mul-div-left, mul-mod-left}
 use native.Mathlib.Omega.{arith}
 use lib.Dec.{eqb, leb}
 use borrow.Author.Tests.{eqb-true, leb-true, eq-eqb, le-leb}
-use Rattle.manager.specs.Lists.Laws.{and-first, and-second}
+use Rattle.manager.proofs.Laws.Lists.{and-first, and-second}
 use Rattle.manager.specs.Map.{decode}
 use Rattle.manager.specs.Paged.{heldFrom}
 use Rattle.manager.specs.Region.{baseOf, startsPage, segments, heldAt}

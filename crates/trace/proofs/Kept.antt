@@ -8,7 +8,7 @@ use lib.ListN.{length}
 use lib.Dec.{eqb}
 use borrow.Author.Tests.{eqb-true, not-true}
 use Rattle.manager.specs.Lists.{every, some, pairwise, adjacent}
-use Rattle.manager.specs.Lists.Laws.{and-first, and-second}
+use Rattle.manager.proofs.Laws.Lists.{and-first, and-second}
 use Rattle.manager.specs.Record.{slots, tasks, regionOf}
 use Rattle.manager.specs.Sound.{soundLength, soundRegion, soundPartition, soundAreas, soundPlace, otherTask, inOrder, soundQueue, sound}
 use Rattle.manager.specs.Region.{anyHeld}
@@ -18,7 +18,7 @@ use Rattle.manager.specs.Perform.{perform}
 use Rattle.manager.specs.declared.Manager.{Manager}
 use Rattle.manager.specs.declared.Waiter.{Waiter}
 use Rattle.manager.specs.declared.Call.{Call}
-use Rattle.manager.specs.Queue.Parts.{by-case}
+use Rattle.manager.proofs.Laws.Appended.{by-case}
 use Rattle.trace.proofs.Access.{write-keeps}
 use Rattle.trace.proofs.Queue.Line.{true-false}
 use Rattle.trace.proofs.Queue.Places.{in-some, in-every}

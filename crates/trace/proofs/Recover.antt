@@ -12,7 +12,7 @@ use Prim.Native.Nat.{ℕ, _≤_}
 use native.Mathlib.Omega.{arith}
 use lib.ListN.{length}
 use Rattle.manager.specs.Lists.{every}
-use Rattle.manager.specs.Lists.Laws.{and-first, and-second, every-at}
+use Rattle.manager.proofs.Laws.Lists.{and-first, and-second, every-at}
 use Rattle.manager.specs.Record.{slots, tasks, noRegion, noPartition, slotOf, regionOf, partitionOf}
 use Rattle.manager.specs.Sound.{soundLength, soundRegion, soundPartition, soundAreas, soundQueue, sound}
 use Rattle.manager.specs.declared.Manager.{Manager}

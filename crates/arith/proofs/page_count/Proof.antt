@@ -3,8 +3,8 @@
 use Prim.Native.Nat.{_+_, _-_, _*_, _/_}
 use mathlib.Core.Path.{refl, sym}
 use Rattle.arith.specs.Layout.{mapStart}
-use Rattle.arith.specs.Layout.Laws.{count-zero}
-use Rattle.arith.specs.Round.Laws.{round-under}
+use Rattle.arith.proofs.Laws.Layout.{count-zero}
+use Rattle.arith.proofs.Laws.Round.{round-under}
 use Rattle.arith.proofs.Count.{quotient-room, count-none, count-exact, count-less, count-empty}
 use native.Mathlib.Omega.{arith}
 use borrow.Author.Needs.{needs}

@@ -1,6 +1,6 @@
 -- `pages_for` meets its contract: there are never more pages than bytes, so the quotient fits 32 bits again. Assumes nothing.
 use mathlib.Core.Path.{sym}
-use Rattle.arith.specs.Round.Laws.{pages-under, pages-zero}
+use Rattle.arith.proofs.Laws.Round.{pages-under, pages-zero}
 use native.Mathlib.Omega.{arith}
 use borrow.Author.Needs.{needs}
 use Rattle.arith.proofs.pages_for.Statement.{statement}

@@ -1,6 +1,6 @@
 -- `up` meets its contract: the product is at most x + (p - 1), so nothing wraps, and 0 has no multiple but 0. Assumes nothing.
 use mathlib.Core.Path.{sym}
-use Rattle.arith.specs.Round.Laws.{round-under, round-zero}
+use Rattle.arith.proofs.Laws.Round.{round-under, round-zero}
 use native.Mathlib.Omega.{arith}
 use borrow.Author.Needs.{needs}
 use Rattle.arith.proofs.up.Statement.{statement}

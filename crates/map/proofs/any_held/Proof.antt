@@ -3,7 +3,7 @@ use Prim.Native.Nat.{_-_}
 use lib.ListN.{length}
 use borrow.Author.Needs.{needs}
 use Rattle.manager.specs.Lists.{some}
-use Rattle.manager.specs.Lists.Laws.{Seeking}
+use Rattle.manager.proofs.Laws.Lists.{Seeking}
 use Rattle.manager.specs.Map.{decode, isHeld, isHeldSegment}
 use Rattle.map.proofs.Scan.{finding}
 use Rattle.map.proofs.any_held.Statement.{statement}

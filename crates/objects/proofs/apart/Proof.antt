@@ -3,7 +3,7 @@ use Prim.Native.Nat.{_-_}
 use mathlib.Core.Bool.{not}
 use Rattle.manager.specs.Region.{overlap}
 use Rattle.manager.specs.Lists.{pairwise}
-use Rattle.manager.specs.Lists.Laws.{Pairing}
+use Rattle.manager.proofs.Laws.Lists.{Pairing}
 use Rattle.objects.proofs.Laws.{parting}
 use borrow.Author.Needs.{needs}
 use Rattle.objects.proofs.apart.Statement.{statement}

@@ -2,7 +2,7 @@
 use Prim.Native.Nat.{_-_}
 use Rattle.manager.specs.Region.{overlap}
 use Rattle.manager.specs.Lists.{some}
-use Rattle.manager.specs.Lists.Laws.{Seeking}
+use Rattle.manager.proofs.Laws.Lists.{Seeking}
 use Rattle.objects.proofs.Laws.{parting}
 use borrow.Author.Needs.{needs}
 use Rattle.objects.proofs.overlaps.Statement.{statement}

@@ -2,7 +2,7 @@
 use Prim.Native.Nat.{_-_}
 use Rattle.manager.specs.Record.{tasks}
 use Rattle.manager.specs.Lists.{indexOf}
-use Rattle.manager.specs.Lists.Laws.{Placing, index-loop}
+use Rattle.manager.proofs.Laws.Lists.{Placing, index-loop}
 use Rattle.manager.specs.Queue.{goesBefore}
 use borrow.Author.Needs.{needs}
 use Rattle.queue.proofs.place_for.Statement.{statement}

@@ -8,7 +8,7 @@ use native.Mathlib.Omega.{arith}
 use lib.ListN.{length}
 use Rattle.manager.specs.Lists.{some}
 use Rattle.manager.specs.Map.{Segment, isHeldSegment, draw, decode, soundMap, freeSizes, heldSizes}
-use Rattle.manager.specs.Map.Laws.{redraw}
+use Rattle.manager.proofs.Laws.Map.{redraw}
 use Rattle.manager.specs.Paged.{paged, placeFrom, take, heldFrom, reachFrom, changeFrom}
 use Rattle.manager.specs.declared.Place.{Place}
 use Rattle.trace.specs.Loans.{Loan, amend, Lent, drawn, runs, Ordered, Run, Lowest, Room, loanPages, sum}

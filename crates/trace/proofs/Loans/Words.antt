@@ -9,9 +9,9 @@ use native.Mathlib.Omega.{arith}
 use lib.ListN.{length}
 use Rattle.manager.specs.Lists.{some}
 use Rattle.manager.specs.Map.{Segment, free, held, isHeldSegment, draw, decode, soundMap, freeSizes, heldSizes, total}
-use Rattle.manager.specs.Map.Laws.{Well, sound-drawn, reread, well-decoded, length-draw, total-decoded}
+use Rattle.manager.proofs.Laws.Map.{Well, sound-drawn, reread, well-decoded, length-draw, total-decoded}
 use Rattle.manager.specs.Paged.{free+}
-use Rattle.manager.specs.Paged.Laws.{free-join, total-free, well-free, free-front}
+use Rattle.manager.proofs.Laws.Paged.{free-join, total-free, well-free, free-front}
 use Rattle.trace.specs.Loans.{Loan, loan, Lent, run+, size+, drawn, runs, Ordered, loanPages, sum}
 use Rattle.trace.specs.Claims.{freePages}
 use Rattle.trace.proofs.Loans.Drawn.{next, onward, drawn-next, ordered-next, ordered-from}

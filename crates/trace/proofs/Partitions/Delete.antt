@@ -12,10 +12,10 @@ use lib.Dec.{eqb}
 use borrow.Author.Tests.{eq-eqb, ne-eqb}
 use Rattle.manager.specs.Record.{noPartition, partitionOf, slotOf, withPartition}
 use Rattle.manager.specs.Result.{Result, refused, done}
-use Rattle.manager.specs.Result.Laws.{checked-passes, checked-fails, not-fails, not-passes}
+use Rattle.manager.proofs.Laws.Result.{checked-passes, checked-fails, not-fails, not-passes}
 use Rattle.manager.specs.Lists as lists
 use Rattle.manager.specs.Partition.{buffers}
-use Rattle.manager.specs.Partition.Distinct.{same-or-not}
+use Rattle.manager.proofs.Laws.Distinct.{same-or-not}
 use Rattle.manager.specs.Partitions.{deletePartition, identPartition}
 use Rattle.manager.specs.Perform.{perform}
 use Rattle.manager.specs.Sound.{sound}

@@ -10,11 +10,11 @@ use lib.ListN.{length}
 use borrow.Author.Tests.{eqb-false, eq-eqb, ne-eqb}
 use Rattle.manager.specs.Record.{slotOf, partitionOf, withPartition}
 use Rattle.manager.specs.Result.{Result, refused, done}
-use Rattle.manager.specs.Result.Laws.{checked-passes, checked-fails}
+use Rattle.manager.proofs.Laws.Result.{checked-passes, checked-fails}
 use Rattle.manager.specs.Lists as lists
 use Rattle.manager.specs.Partition.{isBuffer, chain, afterGet, gotten}
-use Rattle.manager.specs.Partition.Distinct.{same-or-not}
-use Rattle.manager.specs.Partition.Laws.{get-chain, get-buffer, get-length, get-outside, live-get, live-chain}
+use Rattle.manager.proofs.Laws.Distinct.{same-or-not}
+use Rattle.manager.proofs.Laws.Partition.{get-chain, get-buffer, get-length, get-outside, live-get, live-chain}
 use Rattle.manager.specs.Partitions.{getBuffer}
 use Rattle.manager.specs.Perform.{perform}
 use Rattle.manager.specs.Sound.{sound}

@@ -14,7 +14,7 @@ use Rattle.manager.specs.Record.{slots, tasks, noWaiter}
 use Rattle.manager.specs.Result.{pad}
 use Rattle.manager.specs.Lists.{indexOf}
 use Rattle.manager.specs.Queue.{waitsFor, firstOf, removeAt, dequeue}
-use Rattle.manager.specs.Queue.Used.{length-pad}
+use Rattle.manager.proofs.Laws.Used.{length-pad}
 use Rattle.manager.specs.declared.Manager.{Manager}
 use Rattle.manager.specs.declared.Waiter.{Waiter}
 use Rattle.trace.specs.Receipts.{Receipts, RegionEntry, Wait, Distinct, withWaits, without, waitOf}

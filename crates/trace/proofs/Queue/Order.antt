@@ -13,7 +13,7 @@ use Rattle.manager.specs.Record.{idOf}
 use Rattle.manager.specs.Queue.{urgent}
 use Rattle.manager.specs.declared.Order.{Order}
 use Rattle.manager.specs.declared.Order.the-variants.{Fifo, Priority}
-use Rattle.manager.specs.Queue.Parts.{by-case}
+use Rattle.manager.proofs.Laws.Appended.{by-case}
 use Rattle.trace.specs.Receipts.{Receipts, RegionEntry, Wait}
 use Rattle.trace.specs.Claims.{waitsIn, urgentThan, behind, arranged, queueOf}
 use Rattle.trace.proofs.Invariant.{queueAt, queuesFrom}

@@ -12,11 +12,11 @@ use Rattle.manager.specs.Record.{noWaiter}
 use Rattle.manager.specs.Result.{pad}
 use Rattle.manager.specs.Lists.{every, some, indexOf, pairwise, adjacent}
 use Rattle.manager.specs.Queue.{goesBefore, insert, removeAt}
-use Rattle.manager.specs.Queue.Used as places
+use Rattle.manager.proofs.Laws.Used as places
 use Rattle.manager.specs.declared.Waiter.{Waiter}
 use Rattle.manager.specs.declared.Order.{Order}
-use Rattle.manager.specs.Lists.Laws.{and-first, and-second}
-use Rattle.manager.specs.Queue.Parts.{by-case}
+use Rattle.manager.proofs.Laws.Lists.{and-first, and-second}
+use Rattle.manager.proofs.Laws.Appended.{by-case}
 use Rattle.trace.proofs.Queue.Line.{true-false, In, keep, settle, in-append}
 
 -- ONE ENTERED

@@ -16,7 +16,7 @@ use Rattle.manager.specs.Queue.{goesBefore, waitsFor, waiting}
 use Rattle.manager.specs.declared.Manager.{Manager}
 use Rattle.manager.specs.declared.Waiter.{Waiter}
 use Rattle.manager.specs.declared.Order.{Order}
-use Rattle.manager.specs.Queue.Parts.{by-case}
+use Rattle.manager.proofs.Laws.Appended.{by-case}
 use Rattle.trace.specs.Receipts.{Receipts, RegionEntry, Wait, Within, Distinct}
 use Rattle.trace.specs.Claims.{waitsIn, queueOf, waiterOf, waitersOf, waitersFor}
 use Rattle.trace.proofs.Invariant.{Waits, tasksOf, queuesFrom}

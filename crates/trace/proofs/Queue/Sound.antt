@@ -18,7 +18,7 @@ use Rattle.manager.specs.Sound.{soundWaiter, soundPlace, otherTask, inOrder, so
 use Rattle.manager.specs.declared.Manager.{Manager}
 use Rattle.manager.specs.declared.Waiter.{Waiter}
 use Rattle.manager.specs.declared.Order.{Order}
-use Rattle.manager.specs.Queue.Parts.{by-case}
+use Rattle.manager.proofs.Laws.Appended.{by-case}
 use Rattle.trace.specs.Receipts.{Receipts, Wait, Within, Distinct}
 use Rattle.trace.specs.Claims.{waiterOf, waitersOf}
 use Rattle.trace.proofs.Invariant.{WaitIs, Waits, tasksOf, queuesFrom}

@@ -10,7 +10,7 @@ use native.Mathlib.Omega.{arith}
 use lib.ListN.{length}
 use lib.Dec.{eqb}
 use borrow.Author.Tests.{eq-eqb, ne-eqb}
-use Rattle.manager.specs.Queue.Parts.{by-case}
+use Rattle.manager.proofs.Laws.Appended.{by-case}
 use Rattle.trace.specs.Loans.{Loan}
 use Rattle.trace.specs.Receipts.{Receipts, withLoans, Wait, Within, Distinct, strike, without, waitOf}
 use Rattle.trace.proofs.Invariant.{WaitIs, AllWaits, tasksOf}

@@ -12,14 +12,14 @@ use borrow.Author.Tests.{eqb-true, eqb-false, eq-eqb, ne-eqb, not-true}
 use Rattle.manager.specs.Record.{slots, tasks, noWaiter, idOf}
 use Rattle.manager.specs.Result.{pad}
 use Rattle.manager.specs.Lists as Lists
-use Rattle.manager.specs.Lists.Laws.{and-first, and-second}
+use Rattle.manager.proofs.Laws.Lists.{and-first, and-second}
 use Rattle.manager.specs.Queue.{leaving, staying, aged, afterTick}
-use Rattle.manager.specs.Queue.Used.{told-pad, tick-pad}
+use Rattle.manager.proofs.Laws.Used.{told-pad, tick-pad}
 use Rattle.manager.specs.declared.Manager.{Manager}
 use Rattle.manager.specs.declared.Waiter.{Waiter}
 use Rattle.manager.specs.declared.Notice.{Notice}
 use Rattle.manager.specs.declared.Status.the-variants.{Timeout}
-use Rattle.manager.specs.Queue.Parts.{by-case}
+use Rattle.manager.proofs.Laws.Appended.{by-case}
 use Rattle.trace.specs.Receipts.{Receipts, RegionEntry, Wait, Distinct, withWaits, without, later, allLater, allNoticed}
 use Rattle.trace.specs.Claims.{waiterOf, waitersOf, dueIn, dueOf, dueFrom}
 use Rattle.trace.proofs.Invariant.{WaitIs, Waits, tasksOf, queueAt, queuesFrom}

@@ -9,14 +9,14 @@ use native.Mathlib.Omega.{arith}
 use lib.ListN.{length}
 use lib.Dec.{eqb}
 use borrow.Author.Tests.{eqb-true, eqb-false}
-use Rattle.manager.specs.Lists.Laws.{and-first, and-second}
+use Rattle.manager.proofs.Laws.Lists.{and-first, and-second}
 use Rattle.manager.specs.Record.{noPartition}
 use Rattle.manager.specs.Partition.{deadPartition, buffers, chain}
 use Rattle.manager.specs.Sound.{emptyPartition, livePartition, soundPartition}
 use Rattle.manager.specs.declared.Partition.{Partition}
 use Rattle.trace.specs.Receipts.{PartitionEntry, buffersFrom, Within, Distinct, strike}
 use Rattle.trace.proofs.Invariant.{PartitionIs, PartitionSlot, empty, live}
-use Rattle.manager.specs.Partition.Laws.{live-laid, live-chain, linked-on}
+use Rattle.manager.proofs.Laws.Partition.{live-laid, live-chain, linked-on}
 use Rattle.trace.proofs.Buffers.{chain-once, within-on, within-or-not, within-strike, strike-other, strike-keeps, strike-distinct, strike-length, length-buffers, distinct-buffers, buffer-within, within-buffer}
 
 -- ---- several numbers struck

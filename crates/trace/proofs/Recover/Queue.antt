@@ -11,12 +11,12 @@ use lib.ListN.{length, replicate}
 use lib.Dec.{eqb, ltb}
 use borrow.Author.Tests.{not-true, eq-eqb}
 use Rattle.manager.specs.Lists.{every, pairwise, adjacent}
-use Rattle.manager.specs.Lists.Laws.{and-first, and-second}
+use Rattle.manager.proofs.Laws.Lists.{and-first, and-second}
 use Rattle.manager.specs.Record.{slots, tasks, noWaiter, regionOf}
 use Rattle.manager.specs.Result.{pad}
 use Rattle.manager.specs.Queue.{urgent, goesBefore}
-use Rattle.manager.specs.Queue.Parts.{or-second}
-use Rattle.manager.specs.Partition.Distinct.{either}
+use Rattle.manager.proofs.Laws.Appended.{or-second}
+use Rattle.manager.proofs.Laws.Distinct.{either}
 use Rattle.manager.specs.Sound.{unused, soundPlace, otherTask, inOrder, soundQueue, soundRegion}
 use Rattle.manager.specs.declared.Manager.{Manager}
 use Rattle.manager.specs.declared.Waiter.{Waiter}

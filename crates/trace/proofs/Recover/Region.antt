@@ -9,7 +9,7 @@ use native.Mathlib.Omega.{arith}
 use lib.ListN.{length}
 use lib.Dec.{eqb, leb}
 use borrow.Author.Tests.{eqb-true, eqb-false, leb-true}
-use Rattle.manager.specs.Lists.Laws.{and-first, and-second}
+use Rattle.manager.proofs.Laws.Lists.{and-first, and-second}
 use Rattle.manager.specs.Map.{soundMap, draw}
 use Rattle.manager.specs.Record.{noRegion}
 use Rattle.manager.specs.Region.{dead, pagesOf, mapWords, segments}
@@ -22,7 +22,7 @@ use Rattle.trace.specs.Receipts.{RegionEntry, unit, pagesIn}
 use Rattle.trace.proofs.Invariant.{regionFor, RegionIs, RegionSlot, empty, live}
 use Rattle.trace.proofs.Frame.{map-fits, map-length, inside-parts}
 use Rattle.trace.proofs.Loans.Words.{loansOf, sound-loans}
-use Rattle.manager.specs.Map.Laws.{redraw}
+use Rattle.manager.proofs.Laws.Map.{redraw}
 
 -- the clauses of a live region
 pub record RegionParts (m : List ℕ) (r : Region) : Type 0 where

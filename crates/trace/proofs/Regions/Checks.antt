@@ -8,8 +8,8 @@ use native.Mathlib.Omega.{arith}
 use lib.Dec.{eqb}
 use borrow.Author.Tests.{not-true}
 use Rattle.manager.specs.Lists.{every}
-use Rattle.manager.specs.Lists.Laws.{and-first, and-second}
-use Rattle.manager.specs.Queue.Parts.{by-case}
+use Rattle.manager.proofs.Laws.Lists.{and-first, and-second}
+use Rattle.manager.proofs.Laws.Appended.{by-case}
 use Rattle.manager.specs.Status.{numberOf}
 use Rattle.manager.specs.Result.{Result, Check, checked, replied, refused}
 use Rattle.manager.specs.Regions.{answered}

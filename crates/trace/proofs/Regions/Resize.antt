@@ -9,7 +9,7 @@ use native.Mathlib.Omega.{arith}
 use lib.Dec.{eqb, leb}
 use borrow.Author.Tests.{eqb-false, ne-eqb}
 use Rattle.arith.specs.Round.{pagesFor}
-use Rattle.arith.specs.Round.Laws.{pages-some}
+use Rattle.arith.proofs.Laws.Round.{pages-some}
 use Rattle.manager.specs.Record.{regionOf}
 use Rattle.manager.specs.Result.{Result, done, replied}
 use Rattle.manager.specs.Lists.{every}

@@ -10,7 +10,7 @@ use lib.Dec.{eqb, leb, ltb}
 use borrow.Author.Tests.{ne-eqb, lt-ltb, le-ltb}
 use Rattle.manager.specs.Lists as lists
 use Rattle.manager.specs.Lists.{indexOf}
-use Rattle.manager.specs.Queue.Parts.{by-case, some-append}
+use Rattle.manager.proofs.Laws.Appended.{by-case, some-append}
 use Rattle.manager.specs.Record.{slots, noRegion, noPartition, idOf, regionOf, partitionOf}
 use Rattle.manager.specs.Region.{areaOf, regionAreas, partitionAreas, overlap}
 use Rattle.manager.specs.Regions.{overlaps, regionNamed}

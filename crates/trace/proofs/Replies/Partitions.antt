@@ -10,7 +10,7 @@ use lib.Dec.{eqb}
 use borrow.Author.Tests.{eqb-true, eqb-false, eq-eqb, ne-eqb}
 use Rattle.manager.specs.Record.{noPartition, partitionOf, slotOf, withPartition}
 use Rattle.manager.specs.Result.{check, checked, done}
-use Rattle.manager.specs.Queue.Parts.{by-case}
+use Rattle.manager.proofs.Laws.Appended.{by-case}
 use Rattle.manager.specs.Partition.{buffers, isBuffer, isFree, chain, afterGet, gotten, afterReturn, returned}
 use Rattle.manager.specs.Partitions.{partitionNamed, createPartition, identPartition, deletePartition, getBuffer, returnBuffer}
 use Rattle.manager.specs.declared.Manager.{Manager}

@@ -9,13 +9,13 @@ use native.Mathlib.Omega.{arith}
 use lib.ListN.{length, replicate}
 use lib.Dec.{eqb, ltb}
 use borrow.Author.Tests.{eqb-true, eqb-false, eq-eqb}
-use Rattle.arith.specs.Round.Laws.{pages-some}
+use Rattle.arith.proofs.Laws.Round.{pages-some}
 use Rattle.manager.specs.Record.{slots, tasks, noWaiter, regionOf}
 use Rattle.manager.specs.Result.{Result, check, checked, done}
 use Rattle.manager.specs.Map.{Segment}
 use Rattle.manager.specs.Region.{pagesOf, addressOf, heldAt, pagesAsked}
 use Rattle.manager.specs.Queue.{waiting}
-use Rattle.manager.specs.Queue.Parts.{by-case}
+use Rattle.manager.proofs.Laws.Appended.{by-case}
 use Rattle.manager.specs.Serve.{onPlace, placed, taken, fromServed}
 use Rattle.manager.specs.Regions.{waitChecks, unplaced, getSegment, returnSegment, tick}
 use Rattle.manager.specs.declared.Manager.{Manager}

@@ -3,7 +3,7 @@ use Prim.Native.Nat.{_-_}
 use borrow.Author.Tests.{not-false}
 use Rattle.invariant.proofs.Tests.{neighbours}
 use Rattle.manager.specs.Lists.{adjacent}
-use Rattle.manager.specs.Lists.Laws.{Following, adjacent-passed}
+use Rattle.manager.proofs.Laws.Lists.{Following, adjacent-passed}
 use Rattle.manager.specs.Record.{noWaiter}
 use Rattle.manager.specs.Sound.{inOrder}
 use borrow.Author.Needs.{needs}

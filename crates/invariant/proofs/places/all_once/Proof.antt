@@ -2,7 +2,7 @@
 use Prim.Native.Nat.{_-_}
 use Rattle.invariant.proofs.Tests.{pairs}
 use Rattle.manager.specs.Lists.{pairwise}
-use Rattle.manager.specs.Lists.Laws.{Pairing}
+use Rattle.manager.proofs.Laws.Lists.{Pairing}
 use Rattle.manager.specs.Sound.{otherTask}
 use borrow.Author.Needs.{needs}
 use Rattle.invariant.proofs.places.all_once.Statement.{statement}

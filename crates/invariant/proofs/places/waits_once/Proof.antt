@@ -3,7 +3,7 @@ use Prim.Native.Nat.{_-_}
 use lib.ListN.{drop}
 use Rattle.invariant.proofs.Tests.{each}
 use Rattle.manager.specs.Lists.{every}
-use Rattle.manager.specs.Lists.Laws.{Passing}
+use Rattle.manager.proofs.Laws.Lists.{Passing}
 use Rattle.manager.specs.Sound.{otherTask}
 use borrow.Author.Needs.{needs}
 use Rattle.invariant.proofs.places.waits_once.Statement.{statement}

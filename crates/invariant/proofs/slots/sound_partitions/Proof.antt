@@ -2,7 +2,7 @@
 use Prim.Native.Nat.{_-_}
 use Rattle.invariant.proofs.Tests.{each}
 use Rattle.manager.specs.Lists.{every}
-use Rattle.manager.specs.Lists.Laws.{Passing}
+use Rattle.manager.proofs.Laws.Lists.{Passing}
 use Rattle.manager.specs.Sound.{soundPartition}
 use borrow.Author.Needs.{needs}
 use Rattle.invariant.proofs.slots.sound_partitions.Statement.{statement}

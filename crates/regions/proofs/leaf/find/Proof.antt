@@ -2,7 +2,7 @@
 use native.Mathlib.Omega.{arith}
 use Prim.Native.Nat.{_+_, _-_, _/_, _≤_, _<_}
 use lib.ListN.{length, getD}
-use Rattle.manager.specs.Map.Laws.{next-in, next-past}
+use Rattle.manager.proofs.Laws.Map.{next-in, next-past}
 use Rattle.regions.proofs.Walk.{Placing, placing}
 use borrow.Author.Needs.{needs}
 use Rattle.regions.proofs.leaf.find.Statement.{statement}

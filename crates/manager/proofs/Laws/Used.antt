@@ -11,10 +11,10 @@ use lib.ListN.{length, take, drop, replicate, length-append, length-replicate, r
 use Rattle.manager.specs.Record.{tasks, noWaiter}
 use Rattle.manager.specs.Result.{pad}
 use Rattle.manager.specs.Lists.{every, some, pairwise}
-use Rattle.manager.specs.Lists.Laws.{and-first, and-second}
+use Rattle.manager.proofs.Laws.Lists.{and-first, and-second}
 use Rattle.manager.specs.Queue.{goesBefore, push, insert, removeAt, enqueue, dequeue, waitsFor, firstOf, aged, expired, staying, leaving, afterTick}
-use Rattle.manager.specs.Queue.Parts.{by-case, and-both, some-behind, index-there, index-beyond, every-imp, pairwise-imp, adjacent-pairwise}
-use Rattle.manager.specs.Queue.Laws.{orderAt, in-order, order-trans, every-stay, sound-every, sound-order}
+use Rattle.manager.proofs.Laws.Appended.{by-case, and-both, some-behind, index-there, index-beyond, every-imp, pairwise-imp, adjacent-pairwise}
+use Rattle.manager.proofs.Laws.Queue.{orderAt, in-order, order-trans, every-stay, sound-every, sound-order}
 use Rattle.manager.specs.Sound.{unused, emptyWaiter, soundWaiter, soundPlace, inOrder, soundQueue}
 use Rattle.manager.specs.declared.Manager.{Manager}
 use Rattle.manager.specs.declared.Waiter.{Waiter}

@@ -11,7 +11,8 @@ use lib.Dec.{eqb, leb}
 use lib.ListN.{length}
 use borrow.Author.Tests.{leb-true, leb-false, le-leb, lt-leb, eqb-true, eqb-false, eq-eqb, ne-eqb}
 use Rattle.manager.specs.Map.{Segment, free, held, isHeldSegment, wordsOf, draw, decode, soundMap, total}
-use Rattle.manager.specs.Map.Laws.{sizeOf, Well, well-after, well-decoded, sound-drawn, reread, redraw, length-draw, total-decoded, total-cons}
+use Rattle.manager.specs.Map.{sizeOf}
+use Rattle.manager.proofs.Laws.Map.{Well, well-after, well-decoded, sound-drawn, reread, redraw, length-draw, total-decoded, total-cons}
 use Rattle.manager.specs.Paged.{free+, held+, lead, rest, placeFrom, take, heldFrom, reachFrom, changeFrom}
 use Rattle.manager.specs.declared.Place.{Place}
 use Rattle.manager.specs.declared.Place.the-variants.{At, Nowhere}

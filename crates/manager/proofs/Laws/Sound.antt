@@ -11,29 +11,16 @@ use lib.Seq.{drop-drop, sets, length-sets, sets-eq, take-at, drop-at, length-tak
 use lib.Dec.{eqb, leb, ltb}
 use borrow.Author.Tests.{leb-true, ltb-true, ltb-false}
 use Rattle.arith.specs.Layout.{mapStart, firstPage, pageCount}
-use Rattle.arith.specs.Layout.Laws.{count-map, count-end}
+use Rattle.arith.proofs.Laws.Layout.{count-map, count-end}
 use Rattle.manager.specs.Record.{mostWords, noRegion, regionOf, slotOf}
 use Rattle.manager.specs.Lists.{every, pairwise}
-use Rattle.manager.specs.Lists.Laws.{and-first, and-second, every-at}
+use Rattle.manager.proofs.Laws.Lists.{and-first, and-second, every-at}
 use Rattle.manager.specs.Map.{Segment, decode, draw, soundMap, total}
-use Rattle.manager.specs.Map.Laws.{Well, redraw, reread, sound-drawn, length-draw, total-decoded, well-decoded}
+use Rattle.manager.proofs.Laws.Map.{Well, redraw, reread, sound-drawn, length-draw, total-decoded, well-decoded}
 use Rattle.manager.specs.Region.{dead, pagesOf, baseOf, mapAt, mapWords, segments, withSegments, addressOf}
-use Rattle.manager.specs.Sound.{sound, soundLength, inside, soundPage, liveRegion, soundRegion, emptyRegion, soundPartition, soundAreas, soundQueue}
+use Rattle.manager.specs.Sound.{Laid, Sited, sound, soundLength, inside, soundPage, liveRegion, soundRegion, emptyRegion, soundPartition, soundAreas, soundQueue}
 use Rattle.manager.specs.declared.Manager.{Manager}
 use Rattle.manager.specs.declared.Region.{Region}
-
--- a region whose map and pages lie in a memory
-pub record Laid (m : List ℕ) (r : Region) : Type 0 where
-  pub words : length m ≤ 16384
-  pub inside : r .start + r .length ≤ 4 * length m
-  pub page-low : 8 ≤ r .page
-  pub page-high : r .page ≤ 4096
-  pub some : 1 ≤ pagesOf r
-
--- and whose map is sound: a live region
-pub record Sited (m : List ℕ) (r : Region) : Type 0 where
-  pub laid : Laid m r
-  pub sound : soundMap (mapWords m r) ≡ true
 
 -- the clauses of sound books
 module _ (m : List ℕ) (d : Manager) (ok : sound m d ≡ true) where

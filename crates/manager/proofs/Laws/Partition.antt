@@ -15,9 +15,9 @@ use lib.Dec.{eqb, leb, ltb}
 use borrow.Author.Tests.{eqb-true, eqb-false, leb-true, ltb-true, ltb-false, not-true, eq-eqb, ne-eqb, le-leb, lt-ltb}
 use Rattle.manager.specs.Record.{noPartition, slotOf, partitionOf}
 use Rattle.manager.specs.Lists.{some, every}
-use Rattle.manager.specs.Lists.Laws.{and-first, and-second}
+use Rattle.manager.proofs.Laws.Lists.{and-first, and-second}
 use Rattle.manager.specs.Partition.{buffers, bufferAt, isBuffer, nextOf, beforeOf, setNext, setBefore, link, follow, chain, isFree, linked, soundChain, linkAll, afterGet, gotten, afterReturn, returned}
-use Rattle.manager.specs.Partition.Distinct.{On, Off, either, same-or-not, on-off, on-nil, off-nil, on-head, on-tail, on-cases, off-cons, off-head, off-tail, off-by, distinct, distinct-cons, distinct-head, distinct-tail, few}
+use Rattle.manager.proofs.Laws.Distinct.{On, Off, either, same-or-not, on-off, on-nil, off-nil, on-head, on-tail, on-cases, off-cons, off-head, off-tail, off-by, distinct, distinct-cons, distinct-head, distinct-tail, few}
 use Rattle.manager.specs.Partitions.{newPartition}
 use Rattle.manager.specs.Sound.{soundLength, inside, soundSize, livePartition, soundRegion, soundPartition, sound}
 use Rattle.manager.specs.declared.Manager.{Manager}

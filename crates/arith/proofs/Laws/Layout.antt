@@ -8,7 +8,7 @@ use mathlib.Core.Bool.{Bool, true, false, cond, true≢false}
 use native.Mathlib.Nat.{le-div-iff-mul-le, mul-add, zero-mul, mul-le-mul-left, le-trans, le-antisymm, eq-or-lt-of-le, eq-zero-or-pos}
 use native.Mathlib.Omega.{arith}
 use borrow.Author.Tests.{leb-true, le-leb, eq-eqb, ne-eqb}
-use Rattle.arith.specs.Round.Laws.{round-ge, round-lt}
+use Rattle.arith.proofs.Laws.Round.{round-ge, round-lt}
 use Rattle.arith.specs.Layout.{mapStart, firstPage, fits, largest, pageCount}
 
 -- one step of the search

@@ -11,17 +11,12 @@ use lib.ListN.{length, replicate, getD, drop, length-append, length-replicate, l
 use lib.Seq.{drop-cons, drop-drop, drop-length, getD-at, drop-at}
 use lib.Dec.{eqb, leb}
 use borrow.Author.Tests.{leb-true, le-leb, eqb-true, ne-eqb}
-use Rattle.manager.specs.Map.{Segment, free, held, isHeldSegment, wordsOf, draw, isHeld, segmentOf, decode, soundFrom, soundMap, total}
+use Rattle.manager.specs.Map.{sizeOf, Segment, free, held, isHeldSegment, wordsOf, draw, isHeld, segmentOf, decode, soundFrom, soundMap, total}
 
 -- both of two tests hold
 pub both-true : (a b : Bool) → (a && b) ≡ true → (a ≡ true) × (b ≡ true)
 both-true true b e = (refl, e)
 both-true false b e = (e, cc)
-
--- the pages of a segment, and its mark
-abbrev pub sizeOf : Segment → ℕ
-sizeOf (free n) = n
-sizeOf (held n) = n
 
 abbrev pub bit : Bool → ℕ
 bit true = 1

@@ -11,9 +11,9 @@ use lib.Dec.{eqb, ltb}
 use lib.ListN.{length}
 use Rattle.manager.specs.Record.{tasks, noWaiter, regionOf, withQueue}
 use Rattle.manager.specs.Lists.{every, some, pairwise, adjacent}
-use Rattle.manager.specs.Lists.Laws.{and-first, and-second}
+use Rattle.manager.proofs.Laws.Lists.{and-first, and-second}
 use Rattle.manager.specs.Queue.{urgent, goesBefore, push, insert, removeAt, enqueue, dequeue, waiting, aged, staying, afterTick}
-use Rattle.manager.specs.Queue.Parts.{by-case, and-both, or-first, or-second, every-imp, every-behind, pairwise-behind, pairwise-adjacent, adjacent-pairwise}
+use Rattle.manager.proofs.Laws.Appended.{by-case, and-both, or-first, or-second, every-imp, every-behind, pairwise-behind, pairwise-adjacent, adjacent-pairwise}
 use Rattle.manager.specs.Sound.{emptyWaiter, soundWaiter, soundPlace, otherTask, inOrder, soundQueue}
 use Rattle.manager.specs.declared.Manager.{Manager}
 use Rattle.manager.specs.declared.Waiter.{Waiter}

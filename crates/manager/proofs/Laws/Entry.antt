@@ -5,11 +5,11 @@ use mathlib.Core.Bool.{true, false, cond, not}
 use mathlib.Core.List.{List, [], _∷_, _++_}
 use native.Mathlib.Omega.{arith}
 use Rattle.manager.specs.Lists.{every, pairwise}
-use Rattle.manager.specs.Lists.Laws.{and-first, and-second}
+use Rattle.manager.proofs.Laws.Lists.{and-first, and-second}
 use Rattle.manager.specs.Queue.{goesBefore}
-use Rattle.manager.specs.Queue.Parts.{by-case, and-both, every-imp}
-use Rattle.manager.specs.Queue.Laws.{orderAt, not-before, before-not, in-order, order-in, order-trans}
-use Rattle.manager.specs.Queue.Used.{enter}
+use Rattle.manager.proofs.Laws.Appended.{by-case, and-both, every-imp}
+use Rattle.manager.proofs.Laws.Queue.{orderAt, not-before, before-not, in-order, order-in, order-trans}
+use Rattle.manager.proofs.Laws.Used.{enter}
 use Rattle.manager.specs.Sound.{inOrder}
 use Rattle.manager.specs.declared.Manager.{Manager}
 use Rattle.manager.specs.declared.Waiter.{Waiter}

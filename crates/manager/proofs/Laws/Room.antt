@@ -11,12 +11,12 @@ use lib.Dec.{eqb, leb}
 use lib.ListN.{length}
 use Rattle.manager.specs.Record.{tasks}
 use Rattle.manager.specs.Lists.{every, some, pairwise}
-use Rattle.manager.specs.Lists.Laws.{and-first, and-second}
+use Rattle.manager.proofs.Laws.Lists.{and-first, and-second}
 use Rattle.manager.specs.Queue.{waiting, enqueue}
-use Rattle.manager.specs.Queue.Parts.{by-case, and-both, every-imp, adjacent-pairwise}
-use Rattle.manager.specs.Queue.Laws.{not-waiting, orderAt, order-trans, sound-every, sound-once, sound-order}
-use Rattle.manager.specs.Queue.Used.{isUsed, used, all-used, used-every, used-pairwise, enqueue-used}
-use Rattle.manager.specs.Queue.Entry.{Entered, entered}
+use Rattle.manager.proofs.Laws.Appended.{by-case, and-both, every-imp, adjacent-pairwise}
+use Rattle.manager.proofs.Laws.Queue.{not-waiting, orderAt, order-trans, sound-every, sound-once, sound-order}
+use Rattle.manager.proofs.Laws.Used.{isUsed, used, all-used, used-every, used-pairwise, enqueue-used}
+use Rattle.manager.proofs.Laws.Entry.{Entered, entered}
 use Rattle.manager.specs.Sound.{unused, emptyWaiter, soundWaiter, soundPlace, otherTask, inOrder, soundQueue}
 use Rattle.manager.specs.declared.Manager.{Manager}
 use Rattle.manager.specs.declared.Waiter.{Waiter}

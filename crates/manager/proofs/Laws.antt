@@ -1,0 +1,13 @@
+-- What follows from the definitions: a file for each file of specs/, and the laws of lists that they need.
+pub mod Lists
+pub mod Appended
+pub mod Distinct
+pub mod Result
+pub mod Map
+pub mod Paged
+pub mod Sound
+pub mod Partition
+pub mod Queue
+pub mod Used
+pub mod Entry
+pub mod Room
