@@ -16,7 +16,8 @@ use Rattle.manager.specs.Result.{Result, Performs, Check, check, checked, answe
 use Rattle.manager.specs.Sound.{sound, livePartition}
 use Rattle.manager.specs.Partition.{deadPartition, buffers, isBuffer, isFree, linkAll, afterGet, gotten, afterReturn, returned}
 use Rattle.manager.proofs.Laws.Distinct.{same-or-not}
-use Rattle.manager.proofs.Laws.Partition.{live-laid, live-chain, sound-live, sound-most, free-fewer}
+use Rattle.manager.proofs.Laws.Partition.Live.{live-laid, live-chain, sound-live, sound-most}
+use Rattle.manager.proofs.Laws.Partition.Repeats.{free-fewer}
 use Rattle.manager.specs.Regions.{overlaps, pastMemory}
 use Rattle.manager.specs.Partitions.{partitionNamed, newPartition, createPartition, identPartition, deletePartition, getBuffer, returnBuffer}
 use Rattle.partitions.specs.Checks.{sizeRefused}

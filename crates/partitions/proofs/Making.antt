@@ -13,7 +13,8 @@ use lib.Dec.{eqb, leb, ltb}
 use borrow.Author.Tests.{eq-eqb, ne-eqb, lt-ltb, le-ltb}
 use Rattle.manager.specs.Partition.{buffers, bufferAt, link, linkAll}
 use Rattle.manager.proofs.Laws.Distinct.{same-or-not}
-use Rattle.manager.proofs.Laws.Partition.{link-length, some-buffer, beforeAddress}
+use Rattle.manager.proofs.Laws.Partition.Created.{link-length, beforeAddress}
+use Rattle.manager.proofs.Laws.Partition.Live.{some-buffer}
 use Rattle.manager.specs.declared.Partition.{Partition}
 use Rattle.partitions.specs.Checks.{sizeRefused}
 

@@ -12,7 +12,9 @@ use lib.Dec.{eqb}
 use borrow.Author.Tests.{eqb-true, eqb-false, eq-eqb}
 use Rattle.manager.specs.Partition.{buffers, isBuffer, chain}
 use Rattle.manager.proofs.Laws.Distinct.{On, distinct, on-off, on-nil, on-head, on-tail, on-cases, distinct-head, distinct-tail}
-use Rattle.manager.proofs.Laws.Partition.{Shaped, buffer-of, of-buffer, chain-distinct, live-laid, live-chain}
+use Rattle.manager.proofs.Laws.Partition.Buffers.{Shaped, buffer-of, of-buffer}
+use Rattle.manager.proofs.Laws.Partition.Repeats.{chain-distinct}
+use Rattle.manager.proofs.Laws.Partition.Live.{live-laid, live-chain}
 use Rattle.manager.specs.Sound.{livePartition}
 use Rattle.manager.specs.declared.Partition.{Partition}
 use Rattle.trace.specs.Receipts.{buffersFrom, Within, Distinct, strike}

@@ -19,7 +19,10 @@ use Rattle.manager.specs.Map.{draw}
 use Rattle.manager.specs.Region.{pagesOf, baseOf, mapAt, mapWords, withSegments}
 use Rattle.manager.specs.Partition.{isBuffer, chain}
 use Rattle.manager.proofs.Laws.Distinct.{On, same-or-not}
-use Rattle.manager.proofs.Laws.Partition.{Shaped, Laid, Buffer, buffer-of, Placed, placed, apart, linked-on, Same, follow-same, linked-same, live-laid, live-size, live-chain, live-made}
+use Rattle.manager.proofs.Laws.Partition.Buffers.{Shaped, Laid, Buffer, buffer-of, Placed, placed, apart}
+use Rattle.manager.proofs.Laws.Partition.Chain.{linked-on}
+use Rattle.manager.proofs.Laws.Partition.Links.{Same, follow-same, linked-same}
+use Rattle.manager.proofs.Laws.Partition.Live.{live-laid, live-size, live-chain, live-made}
 use Rattle.manager.specs.Sound.{inside}
 use Rattle.manager.specs.declared.Region.{Region}
 use Rattle.manager.specs.declared.Partition.{Partition}

@@ -16,7 +16,10 @@ use Rattle.manager.specs.Lists as lists
 use Rattle.manager.specs.Region.{areaOf}
 use Rattle.manager.specs.Regions.{overlaps}
 use Rattle.manager.specs.Partition.{bufferAt, linkAll}
-use Rattle.manager.proofs.Laws.Partition.{Shaped, addresses, all-length, create-chain, create-outside, new-laid, new-created, live-new}
+use Rattle.manager.proofs.Laws.Partition.Buffers.{Shaped}
+use Rattle.manager.proofs.Laws.Partition.Created.{addresses, all-length, create-chain}
+use Rattle.manager.proofs.Laws.Partition.Area.{create-outside}
+use Rattle.manager.proofs.Laws.Partition.Live.{new-laid, new-created, live-new}
 use Rattle.manager.specs.Partitions.{partitionNamed, newPartition, createPartition}
 use Rattle.manager.specs.Sound.{sound}
 use Rattle.manager.specs.declared.Manager.{Manager}

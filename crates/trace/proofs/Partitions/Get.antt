@@ -14,7 +14,9 @@ use Rattle.manager.proofs.Laws.Result.{checked-passes, checked-fails}
 use Rattle.manager.specs.Lists as lists
 use Rattle.manager.specs.Partition.{isBuffer, chain, afterGet, gotten}
 use Rattle.manager.proofs.Laws.Distinct.{same-or-not}
-use Rattle.manager.proofs.Laws.Partition.{get-chain, get-buffer, get-length, get-outside, live-get, live-chain}
+use Rattle.manager.proofs.Laws.Partition.Links.{get-chain, get-buffer}
+use Rattle.manager.proofs.Laws.Partition.Area.{get-length, get-outside}
+use Rattle.manager.proofs.Laws.Partition.Live.{live-get, live-chain}
 use Rattle.manager.specs.Partitions.{getBuffer}
 use Rattle.manager.specs.Perform.{perform}
 use Rattle.manager.specs.Sound.{sound}

@@ -14,7 +14,9 @@ use Rattle.manager.specs.Result.{done}
 use Rattle.manager.specs.Lists as lists
 use Rattle.manager.specs.Partition.{isBuffer, isFree, chain, afterReturn, returned}
 use Rattle.manager.proofs.Laws.Distinct.{on-off, same-or-not}
-use Rattle.manager.proofs.Laws.Partition.{return-chain, return-length, return-outside, live-return, live-chain}
+use Rattle.manager.proofs.Laws.Partition.Links.{return-chain}
+use Rattle.manager.proofs.Laws.Partition.Area.{return-length, return-outside}
+use Rattle.manager.proofs.Laws.Partition.Live.{live-return, live-chain}
 use Rattle.manager.specs.Partitions.{returnBuffer}
 use Rattle.manager.specs.Sound.{sound}
 use Rattle.manager.specs.declared.Manager.{Manager}

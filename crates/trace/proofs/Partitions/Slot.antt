@@ -14,7 +14,10 @@ use Rattle.manager.specs.Record.{slots, slotOf, idOf, regionOf, partitionOf, wi
 use Rattle.manager.specs.Result.{done}
 use Rattle.manager.specs.Region.{areaOf}
 use Rattle.manager.specs.Partition.{deadPartition, buffers}
-use Rattle.manager.proofs.Laws.Partition.{Shaped, Outside, chain-length, live-chain}
+use Rattle.manager.proofs.Laws.Partition.Buffers.{Shaped}
+use Rattle.manager.proofs.Laws.Partition.Area.{Outside}
+use Rattle.manager.proofs.Laws.Partition.Repeats.{chain-length}
+use Rattle.manager.proofs.Laws.Partition.Live.{live-chain}
 use Rattle.manager.specs.declared.Manager.{Manager}
 use Rattle.manager.specs.declared.Partition.{Partition}
 use Rattle.manager.specs.declared.Call.{Call}

@@ -16,7 +16,8 @@ use Rattle.manager.specs.Sound.{emptyPartition, livePartition, soundPartition}
 use Rattle.manager.specs.declared.Partition.{Partition}
 use Rattle.trace.specs.Receipts.{PartitionEntry, buffersFrom, Within, Distinct, strike}
 use Rattle.trace.proofs.Invariant.{PartitionIs, PartitionSlot, empty, live}
-use Rattle.manager.proofs.Laws.Partition.{live-laid, live-chain, linked-on}
+use Rattle.manager.proofs.Laws.Partition.Live.{live-laid, live-chain}
+use Rattle.manager.proofs.Laws.Partition.Chain.{linked-on}
 use Rattle.trace.proofs.Buffers.{chain-once, within-on, within-or-not, within-strike, strike-other, strike-keeps, strike-distinct, strike-length, length-buffers, distinct-buffers, buffer-within, within-buffer}
 
 -- ---- several numbers struck

@@ -1,0 +1,153 @@
+-- The live partitions of sound records: laid in the memory, with a sound chain; a get and a return leave them so. Assumes nothing.
+use Prim.Native.Nat.{ℕ, zero, suc, _+_, _-_, _*_, _/_, _%_, _≤_, _<_}
+use mathlib.Core.Path.{_≡_, refl, ap}
+use mathlib.Core.Bool.{Bool, true, false, not}
+use mathlib.Core.List.{List, [], _∷_}
+use mathlib.Core.Logic.{_⊎_, inl, inr, ⊎-elim}
+use native.Mathlib.Omega.{arith}
+use native.Mathlib.Nat.{lt-div-mul-add}
+use lib.ListN.{length, getD}
+use lib.Dec.{eqb, leb}
+use borrow.Author.Tests.{eqb-true, eqb-false, leb-true, not-true, eq-eqb, ne-eqb, le-leb}
+use Rattle.manager.specs.Record.{noPartition, slotOf, partitionOf}
+use Rattle.manager.specs.Lists.{every}
+use Rattle.manager.proofs.Laws.Lists.{and-first, and-second}
+use Rattle.manager.specs.Partition.{buffers, isBuffer, isFree, soundChain, linkAll, afterGet, gotten, afterReturn, returned}
+use Rattle.manager.proofs.Laws.Distinct.{same-or-not}
+use Rattle.manager.specs.Partitions.{newPartition}
+use Rattle.manager.specs.Sound.{soundLength, inside, soundSize, livePartition, soundRegion, soundPartition, sound}
+use Rattle.manager.specs.declared.Manager.{Manager}
+use Rattle.manager.specs.declared.Partition.{Partition}
+use Rattle.manager.proofs.Laws.Partition.Buffers.{Laid}
+use Rattle.manager.proofs.Laws.Partition.Links.{get-sound, return-sound}
+use Rattle.manager.proofs.Laws.Partition.Created.{all-length, Created, create-sound}
+use Rattle.manager.proofs.Laws.Partition.Area.{get-length, return-length}
+
+module _ (m : List ℕ) (p : Partition) where
+  pub live-laid : livePartition m p ≡ true → Laid m p
+  unfolding livePartition
+  live-laid e =
+      let i = and-first (inside m (p .start) (p .length)) _ e in
+      let r = and-second (inside m (p .start) (p .length)) _ e in
+      let a = and-first (eqb (p .start % 4) 0) _ r in
+      let z = and-first (soundSize (p .length) (p .size)) _ (and-second (eqb (p .start % 4) 0) _ r) in
+      let y = and-second (leb (p .size) (p .length)) _ z in
+      let n : p .start ≡ 0 → ⊥ = eqb-false _ _ (not-true _ (and-first (not (eqb (p .start) 0)) _ i)) in
+      record {
+        shaped =
+            record {
+              start-in = ⊎-elim (λ (q : p .start ≡ 0). absurd (n q)) (λ (q : p .start ≡ 0 → ⊥). omega arith) (same-or-not (p .start) 0);
+              aligned = eqb-true _ _ a;
+              whole = eqb-true _ _ (and-first (eqb (p .size % 4) 0) _ y);
+              big = leb-true _ _ (and-second (eqb (p .size % 4) 0) _ y);
+            };
+        inside = leb-true _ _ (and-second (not (eqb (p .start) 0)) _ i);
+      }
+
+  pub live-size : livePartition m p ≡ true → p .size ≤ p .length
+  unfolding livePartition
+  live-size e =
+      let r = and-second (inside m (p .start) (p .length)) _ e in
+      leb-true _ _ (and-first (leb (p .size) (p .length)) _ (and-first (soundSize (p .length) (p .size)) _ (and-second (eqb (p .start % 4) 0) _ r)))
+
+  pub live-chain : livePartition m p ≡ true → soundChain m p ≡ true
+  unfolding livePartition
+  live-chain e =
+      let r = and-second (inside m (p .start) (p .length)) _ e in
+      and-second (soundSize (p .length) (p .size)) _ (and-second (eqb (p .start % 4) 0) _ r)
+
+  pub live-made : Laid m p → p .size ≤ p .length → soundChain m p ≡ true → livePartition m p ≡ true
+  unfolding livePartition
+  live-made g h e =
+      let z : p .start ≡ 0 → ⊥ = λ q. omega (arith, g .shaped .start-in) in
+      rw (ne-eqb _ _ z, le-leb _ _ (g .inside), eq-eqb _ _ (g .shaped .aligned), le-leb _ _ h, eq-eqb _ _ (g .shaped .whole), le-leb _ _ (g .shaped .big), e)
+
+-- the same area and size, over a memory of the same length
+laid-too : (m m′ : List ℕ) (p p′ : Partition) → p′ .start ≡ p .start → p′ .length ≡ p .length → p′ .size ≡ p .size → length m′ ≡ length m → Laid m p → Laid m′ p′
+laid-too m m′ p p′ a b c d g =
+    let s = g .shaped in
+    record {
+      shaped = record { start-in = rw a (s .start-in); aligned = rw a (s .aligned); whole = rw c (s .whole); big = rw c (s .big) };
+      inside = rw (a, b, d) (g .inside);
+    }
+
+-- A get and a return leave a live partition live
+module _ (m : List ℕ) (p : Partition) (e : livePartition m p ≡ true) where
+  pub live-get : 0 < p .free → livePartition (afterGet m p) (gotten m p) ≡ true
+  live-get h =
+      let g = live-laid m p e in
+      live-made (afterGet m p) (gotten m p) (laid-too m (afterGet m p) p (gotten m p) refl refl refl (get-length m p) g) (live-size m p e)
+      (get-sound m p g (live-chain m p e) h)
+
+  pub live-return : (a : ℕ) → isBuffer p a ≡ true → isFree m p a ≡ false → livePartition (afterReturn m p a) (returned p a) ≡ true
+  live-return a q o =
+      let g = live-laid m p e in
+      live-made (afterReturn m p a) (returned p a) (laid-too m (afterReturn m p a) p (returned p a) refl refl refl (return-length m p a) g) (live-size m p e)
+      (return-sound m p g (live-chain m p e) a q o)
+
+-- what was tested of a new partition makes it one
+pub some-buffer : (p : Partition) → 0 < p .size → p .size ≤ p .length → 0 < buffers p
+some-buffer p z h =
+    let u : p .length < buffers p * p .size + p .size = lt-div-mul-add z in
+    ⊎-elim
+    (λ (q : buffers p ≡ 0).
+    let w : p .length < 0 * p .size + p .size = rw q at u in
+    omega arith)
+    (λ (q : buffers p ≡ 0 → ⊥). omega arith)
+    (same-or-not (buffers p) 0)
+
+module _ (m : List ℕ) (name start bytes size : ℕ) (a : start ≡ 0 → ⊥) (b : start % 4 ≡ 0) (c : start + bytes ≤ 4 * length m) (d : size ≤ bytes)
+    (e : size % 4 ≡ 0) (f : 8 ≤ size) where
+  pub new-laid : Laid m (newPartition name start bytes size)
+  new-laid =
+      record {
+        shaped =
+            record {
+              start-in = ⊎-elim (λ (q : start ≡ 0). absurd (a q)) (λ (q : start ≡ 0 → ⊥). omega arith) (same-or-not start 0);
+              aligned = b;
+              whole = e;
+              big = f;
+            };
+        inside = c;
+      }
+
+  pub new-created : Created (newPartition name start bytes size)
+  new-created =
+      record {
+        front = refl;
+        rear = refl;
+        free = refl;
+        some-in = some-buffer (newPartition name start bytes size) (omega arith) d;
+      }
+
+  pub live-new : livePartition (linkAll (bytes / size) m (newPartition name start bytes size) 0) (newPartition name start bytes size) ≡ true
+  live-new =
+      let p = newPartition name start bytes size in
+      let M = linkAll (buffers p) m p 0 in
+      live-made M p (laid-too m M p p refl refl refl (all-length (buffers p) m p 0) new-laid) d (create-sound m p new-laid new-created)
+
+-- sound records: the memory is not long, and what an id names is live, if it is not dead
+pub sound-most : (m : List ℕ) (d : Manager) → sound m d ≡ true → length m ≤ 16384
+unfolding sound
+sound-most m d e = leb-true _ _ (and-second (leb 1 (length m)) _ (and-first (soundLength m) _ e))
+
+every-at : {A : Type 0} (t : A → Bool) (l : List A) (i : ℕ) (z : A) → every t l ≡ true → (t (getD l i z) ≡ true) ⊎ (getD l i z ≡ z)
+unfolding every
+every-at t [] i z e = inr refl
+every-at t (x ∷ l) zero z e = inl (and-first (t x) _ e)
+every-at t (x ∷ l) (suc i) z e = every-at t l i z (and-second (t x) _ e)
+
+module _ (m : List ℕ) (d : Manager) (e : sound m d ≡ true) where
+  every-partition : every (soundPartition m) (d .partitions) ≡ true
+  unfolding sound
+  every-partition =
+      let r = and-second (soundLength m) _ e in
+      and-first (every (soundPartition m) (d .partitions)) _ (and-second (every (soundRegion m) (d .regions)) _ r)
+
+  pub sound-live : (id : ℕ) → (partitionOf d id .name ≡ 0 → ⊥) → livePartition m (partitionOf d id) ≡ true
+  unfolding soundPartition
+  sound-live id n =
+      ⊎-elim
+      (λ (q : soundPartition m (partitionOf d id) ≡ true). rw (ne-eqb _ _ n) at q)
+      (λ (q : partitionOf d id ≡ noPartition). absurd (n (ap (λ (p : Partition). p .name) q)))
+      (every-at (soundPartition m) (d .partitions) (slotOf id) noPartition every-partition)
