@@ -8,12 +8,13 @@ use lib.Dec.{eqb, leb, ltb}
 use Rattle.arith.specs.Round.{pagesFor}
 use Rattle.arith.specs.Layout.{mapStart, firstPage, pageCount}
 use Rattle.manager.specs.Lists.{some}
-use Rattle.manager.specs.Map.{Segment, isHeldSegment, decode, draw}
-use Rattle.manager.specs.Paged.{Kind, kindOf}
+use Rattle.manager.specs.Map.{Segment, isHeldSegment, decode, draw, freeSizes, heldSizes}
+use Rattle.manager.specs.Paged.{Kind, kindOf, free+}
 use Rattle.manager.specs.declared.Region.{Region}
 use Rattle.manager.specs.declared.Partition.{Partition}
 use Rattle.manager.specs.declared.Manager.{Manager}
 use Rattle.manager.specs.declared.Area.{Area}
+use Rattle.manager.specs.declared.Place.{Place}
 
 -- a region of a name is live; an empty slot is not
 abbrev pub dead : Region → Bool
@@ -54,17 +55,44 @@ segments m r = decode (mapWords m r)
 abbrev pub withSegments : List ℕ → Region → List Segment → List ℕ
 withSegments m r s = sets m (mapAt r) (draw s)
 
--- the pages of the held segment that starts at an address; 0 where none does
+-- WHAT THE DIRECTIVES SAY OF A REGION AND ITS MAP. They cite these names, and nothing of a map or of a kind
+
+-- its map with nothing held, as create draws it
+abbrev pub opened : List ℕ → Region → List ℕ
+opened m r = withSegments m r (free+ (pagesOf r) [])
+
+-- the pages of the held segment that starts at an address (0 where none does), and the most that it can have
 abbrev pub heldAt : List ℕ → Region → ℕ → ℕ
 heldAt m r a = cond (startsPage r a) (kind r .held (pageAt r a) (segments m r)) 0
+
+abbrev pub roomAt : List ℕ → Region → ℕ → ℕ
+roomAt m r a = kind r .reach (pageAt r a) (segments m r)
+
+-- the memory after that segment has k pages; 0: it is returned
+abbrev pub changed : List ℕ → Region → ℕ → ℕ → List ℕ
+changed m r a k = withSegments m r (kind r .change (pageAt r a) k (segments m r))
 
 -- something of it is held
 abbrev pub anyHeld : List ℕ → Region → Bool
 anyHeld m r = some isHeldSegment (segments m r)
 
+-- the pages of its free segments and of its held ones
+abbrev pub frees : List ℕ → Region → List ℕ
+frees m r = freeSizes (segments m r)
+
+abbrev pub helds : List ℕ → Region → List ℕ
+helds m r = heldSizes (segments m r)
+
 -- Get: bytes are rounded up to whole pages, as its kind gives them
 abbrev pub pagesAsked : Region → ℕ → ℕ
 pagesAsked r size = kind r .rounded (pagesFor size (r .page))
+
+-- where k pages of it are placed, and the memory after they are taken there
+abbrev pub placed : List ℕ → Region → ℕ → Place
+placed m r k = kind r .place k (segments m r)
+
+abbrev pub taken : List ℕ → Region → ℕ → List ℕ
+taken m r k = withSegments m r (kind r .take k (segments m r))
 
 -- the areas of objects: the whole asked area counts. A region has one
 abbrev pub areasOf : Region → List Area

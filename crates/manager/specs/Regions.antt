@@ -8,11 +8,10 @@ use Rattle.arith.specs.Round.{roundUp}
 use Rattle.manager.specs.Record.{slots, tasks, noRegion, noInformation, regionOf, slotOf, idOf, withRegion}
 use Rattle.manager.specs.Result.{Result, Check, check, checked, refused, done, replied}
 use Rattle.manager.specs.Lists.{some, indexOf}
-use Rattle.manager.specs.Map.{Segment, freeSizes, heldSizes, largestOf, sumOf}
-use Rattle.manager.specs.Paged.{Kind, free+}
-use Rattle.manager.specs.Region.{dead, kind, pagesOf, pageAt, addressOf, segments, withSegments, heldAt, anyHeld, pagesAsked, areas, overlap}
+use Rattle.manager.specs.Map.{largestOf, sumOf}
+use Rattle.manager.specs.Region.{dead, pagesOf, addressOf, opened, heldAt, roomAt, changed, anyHeld, frees, helds, pagesAsked, placed, taken, areas, overlap}
 use Rattle.manager.specs.Queue.{enqueue, waiting, leaving, afterTick}
-use Rattle.manager.specs.Serve.{onPlace, placed, taken, serve, fromServed}
+use Rattle.manager.specs.Serve.{onPlace, serve, fromServed}
 use Rattle.manager.specs.Sound.{sound}
 use Rattle.manager.specs.declared.Manager.{Manager}
 use Rattle.manager.specs.declared.Region.{Region}
@@ -59,7 +58,7 @@ createRegion m d name start bytes page order =
     ∷ check (overlaps d (record { start = start; length = bytes })) InvalidAddress
     ∷ check (leb slots slot) TooMany
     ∷ [])
-    (done (withSegments m r (free+ (pagesOf r) [])) (withRegion d slot r) (idOf slot))
+    (done (opened m r) (withRegion d slot r) (idOf slot))
 
 -- ident: 3
 unfoldable pub identRegion : List ℕ → Manager → ℕ → Result
@@ -116,7 +115,7 @@ returnSegment m d id address =
     (check (dead r) InvalidId
     ∷ check (eqb (heldAt m r address) 0) InvalidAddress
     ∷ [])
-    (fromServed (serve (withSegments m r (kind r .change (pageAt r address) 0 (segments m r))) d id))
+    (fromServed (serve (changed m r address 0) d id))
 
 -- size: 4, 9; the length of the held segment
 unfoldable pub segmentSize : List ℕ → Manager → ℕ → ℕ → Result
@@ -133,15 +132,14 @@ unfoldable pub resizeSegment : List ℕ → Manager → ℕ → ℕ → ℕ → 
 resizeSegment m d id address size =
     let r = regionOf d id in
     let old = heldAt m r address in
-    let p = pageAt r address in
     let k = pagesAsked r size in
     answered m d
     (check (eqb size 0) InvalidSize
     ∷ check (dead r) InvalidId
     ∷ check (eqb old 0) InvalidAddress
     ∷ [])
-    (cond (leb k (kind r .reach p (segments m r)))
-    (done (withSegments m r (kind r .change p k (segments m r))) d (old * r .page))
+    (cond (leb k (roomAt m r address))
+    (done (changed m r address k) d (old * r .page))
     (replied m d Unsatisfied (old * r .page)))
 
 -- information: 4; count, largest and total bytes of free, then of held segments
@@ -165,7 +163,7 @@ regionInformation m d id =
     answered m d
     (check (dead r) InvalidId
     ∷ [])
-    (informed m d (informationOf (r .page) (freeSizes (segments m r)) (heldSizes (segments m r))))
+    (informed m d (informationOf (r .page) (frees m r) (helds m r)))
 
 -- tick: no check of its own; it serves nobody
 unfoldable pub tick : List ℕ → Manager → Result

@@ -7,8 +7,7 @@ use lib.ListN.{getD}
 use lib.Dec.{ltb}
 use Rattle.manager.specs.Record.{tasks, noWaiter, noInformation, regionOf}
 use Rattle.manager.specs.Result.{Result}
-use Rattle.manager.specs.Paged.{Kind}
-use Rattle.manager.specs.Region.{kind, segments, withSegments, addressOf, pagesAsked}
+use Rattle.manager.specs.Region.{addressOf, pagesAsked, placed, taken}
 use Rattle.manager.specs.Queue.{firstOf, dequeue}
 use Rattle.manager.specs.declared.Manager.{Manager}
 use Rattle.manager.specs.declared.Region.{Region}
@@ -22,13 +21,6 @@ use Rattle.manager.specs.declared.Status.the-variants.{Successful}
 abbrev pub onPlace : {A : Type 0} → Place → (ℕ → A) → A → A
 onPlace (At p) f z = f p
 onPlace Nowhere f z = z
-
--- where k pages of a region are placed, and the memory after they are taken there
-abbrev pub placed : List ℕ → Region → ℕ → Place
-placed m r k = kind r .place k (segments m r)
-
-abbrev pub taken : List ℕ → Region → ℕ → List ℕ
-taken m r k = withSegments m r (kind r .take k (segments m r))
 
 -- what serving leaves: the memory, the record, and the notices in order
 pub record Served : Type 0 where

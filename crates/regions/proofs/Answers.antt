@@ -20,9 +20,9 @@ use Rattle.manager.specs.Result.{Result, Performs, Check, check, checked, answe
 use Rattle.manager.proofs.Laws.Result.{performs-by, performs-reply, checked-passes}
 use Rattle.manager.specs.Map.{Segment, free, held, total}
 use Rattle.manager.specs.Paged.{free+, heldFrom, reachFrom, changeFrom}
-use Rattle.manager.specs.Region.{dead, pagesOf, baseOf, pageAt, startsPage, segments, withSegments, heldAt, addressOf, pagesAsked}
+use Rattle.manager.specs.Region.{dead, pagesOf, baseOf, pageAt, startsPage, segments, withSegments, heldAt, addressOf, pagesAsked, placed, taken}
 use Rattle.manager.specs.Queue.{enqueue}
-use Rattle.manager.specs.Serve.{onPlace, placed, taken, serve, Served, fromServed}
+use Rattle.manager.specs.Serve.{onPlace, serve, Served, fromServed}
 use Rattle.manager.specs.Regions.{overlaps, pastMemory, regionNamed, newRegion, createRegion, waitChecks, unplaced, getSegment, returnSegment, resizeSegment}
 use Rattle.manager.specs.Sound.{sound}
 use Rattle.manager.specs.Sound.{Laid, Sited}

@@ -15,8 +15,7 @@ use Rattle.manager.specs.Map.{Segment, decode, draw, soundMap, total}
 use Rattle.manager.proofs.Laws.Map.{Well, redraw}
 use Rattle.manager.specs.Paged.{free+, take, placeFrom, heldFrom, reachFrom, changeFrom}
 use Rattle.manager.proofs.Laws.Paged.{take-none, well-take, total-take, well-change, total-change, well-free, total-free}
-use Rattle.manager.specs.Region.{pagesOf, mapAt, mapWords, segments, withSegments}
-use Rattle.manager.specs.Serve.{placed, taken}
+use Rattle.manager.specs.Region.{pagesOf, mapAt, mapWords, segments, withSegments, placed, taken}
 use Rattle.manager.specs.Sound.{Laid, Sited}
 use Rattle.manager.proofs.Laws.Sound.{map-in, map-long, pages-few, with-is, sited-with, well-segments, total-segments}
 use Rattle.manager.specs.declared.Region.{Region}

@@ -18,11 +18,11 @@ use Rattle.manager.specs.Map.{Segment, free, held, total}
 use Rattle.manager.proofs.Laws.Map.{total-append, total-cons}
 use Rattle.manager.specs.Paged.{placeFrom}
 use Rattle.manager.proofs.Laws.Paged.{Hit, hit, take-none}
-use Rattle.manager.specs.Region.{pagesOf, anyHeld, segments, withSegments, addressOf, pagesAsked}
+use Rattle.manager.specs.Region.{pagesOf, anyHeld, segments, withSegments, addressOf, pagesAsked, placed, taken}
 use Rattle.manager.specs.Queue.{firstOf, waitsFor, dequeue}
 use Rattle.manager.proofs.Laws.Queue.{dequeue-every, sound-every}
 use Rattle.manager.proofs.Laws.Appended.{every-imp, by-case}
-use Rattle.manager.specs.Serve.{onPlace, placed, taken, Served, quiet, granted, telling, serveUpTo, serve}
+use Rattle.manager.specs.Serve.{onPlace, Served, quiet, granted, telling, serveUpTo, serve}
 use Rattle.manager.specs.Sound.{sound, soundPlace, soundWaiter, unused, soundQueue}
 use Rattle.manager.specs.Sound.{Laid, Sited}
 use Rattle.manager.proofs.Laws.Sound.{sound-queue, address-in, total-segments, same-segments}

@@ -3,8 +3,7 @@ use Prim.Native.Nat.{ℕ}
 use mathlib.Core.Path.{_≡_}
 use mathlib.Core.List.{List}
 use Rattle.manager.specs.Map.{Segment}
-use Rattle.manager.specs.Region.{withSegments}
-use Rattle.manager.specs.Serve.{placed, taken}
+use Rattle.manager.specs.Region.{withSegments, placed, taken}
 use Rattle.manager.specs.Sound.{Sited}
 use Rattle.manager.specs.declared.Region.{Region}
 use Rattle.manager.specs.declared.Place.{Place}

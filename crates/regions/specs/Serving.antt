@@ -8,9 +8,9 @@ use lib.ListN.{getD}
 use Rattle.manager.specs.Record.{tasks, noWaiter, noNotice, regionOf}
 use Rattle.manager.specs.Result.{pad}
 use Rattle.manager.specs.Lists.{every}
-use Rattle.manager.specs.Region.{addressOf, pagesAsked}
+use Rattle.manager.specs.Region.{addressOf, pagesAsked, placed, taken}
 use Rattle.manager.specs.Queue.{firstOf}
-use Rattle.manager.specs.Serve.{onPlace, placed, taken, granted, Served}
+use Rattle.manager.specs.Serve.{onPlace, granted, Served}
 use Rattle.manager.specs.Sound.{Sited}
 use Rattle.manager.specs.declared.Manager.{Manager}
 use Rattle.manager.specs.declared.Waiter.{Waiter}

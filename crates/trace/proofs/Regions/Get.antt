@@ -13,9 +13,9 @@ use Rattle.manager.specs.Record.{tasks, regionOf}
 use Rattle.manager.specs.Result.{Result, done, replied, refused}
 use Rattle.manager.specs.Lists.{every}
 use Rattle.manager.specs.Map.{Segment}
-use Rattle.manager.specs.Region.{kind, pagesOf, addressOf, segments, withSegments, pagesAsked}
+use Rattle.manager.specs.Region.{kind, pagesOf, addressOf, segments, withSegments, pagesAsked, placed, taken}
 use Rattle.manager.specs.Queue.{enqueue}
-use Rattle.manager.specs.Serve.{onPlace, placed, taken}
+use Rattle.manager.specs.Serve.{onPlace}
 use Rattle.manager.specs.Regions.{waitChecks, unplaced, getSegment}
 use Rattle.manager.specs.Perform.{perform}
 use Rattle.manager.specs.Sound.{sound}

@@ -12,9 +12,9 @@ use Rattle.arith.specs.Round.{pagesFor}
 use Rattle.arith.proofs.Laws.Round.{pages-some}
 use Rattle.manager.specs.Record.{slots, tasks, noWaiter, regionOf}
 use Rattle.manager.specs.Map.{Segment}
-use Rattle.manager.specs.Region.{addressOf, withSegments, pagesAsked}
+use Rattle.manager.specs.Region.{addressOf, withSegments, pagesAsked, placed, taken}
 use Rattle.manager.specs.Queue.{firstOf, dequeue}
-use Rattle.manager.specs.Serve.{onPlace, placed, taken, Served, quiet, granted, telling, serveUpTo}
+use Rattle.manager.specs.Serve.{onPlace, Served, quiet, granted, telling, serveUpTo}
 use Rattle.manager.specs.declared.Manager.{Manager}
 use Rattle.manager.specs.declared.Region.{Region}
 use Rattle.manager.specs.declared.Waiter.{Waiter}

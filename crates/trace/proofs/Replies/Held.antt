@@ -9,8 +9,7 @@ use native.Mathlib.Omega.{arith}
 use lib.Dec.{eqb}
 use borrow.Author.Tests.{eq-eqb, ne-eqb}
 use Rattle.manager.specs.Paged.{placeFrom, reachFrom}
-use Rattle.manager.specs.Serve.{placed}
-use Rattle.manager.specs.Region.{kind, segments, heldAt, anyHeld}
+use Rattle.manager.specs.Region.{kind, segments, heldAt, anyHeld, placed}
 use Rattle.trace.specs.Loans.{Loan, loan, Lent, Ordered, drawn}
 use Rattle.trace.specs.Receipts.{RegionEntry, pagesIn, addressIn, pageIn}
 use Rattle.trace.specs.Replies.{lendsAny, pagesAt, upTo, mostPagesAt, lowestRun}

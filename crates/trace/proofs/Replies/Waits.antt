@@ -13,10 +13,10 @@ use Rattle.arith.proofs.Laws.Round.{pages-some}
 use Rattle.manager.specs.Record.{slots, tasks, noWaiter, regionOf}
 use Rattle.manager.specs.Result.{Result, check, checked, done}
 use Rattle.manager.specs.Map.{Segment}
-use Rattle.manager.specs.Region.{pagesOf, addressOf, heldAt, pagesAsked}
+use Rattle.manager.specs.Region.{pagesOf, addressOf, heldAt, pagesAsked, placed, taken}
 use Rattle.manager.specs.Queue.{waiting}
 use Rattle.manager.proofs.Laws.Appended.{by-case}
-use Rattle.manager.specs.Serve.{onPlace, placed, taken, fromServed}
+use Rattle.manager.specs.Serve.{onPlace, fromServed}
 use Rattle.manager.specs.Regions.{waitChecks, unplaced, getSegment, returnSegment, tick}
 use Rattle.manager.specs.declared.Manager.{Manager}
 use Rattle.manager.specs.declared.Waiter.{Waiter}
