@@ -94,9 +94,9 @@ pub enum Place {
 
 // The manager record (document 01's desk). The queue is kept by region, and within one in the order in which it is served.
 pub struct Manager {
-    pub regions: [Region; 8],
-    pub partitions: [Partition; 8],
-    pub waiters: [Waiter; 16],
+    pub regions: [Region; Manager::SLOTS],
+    pub partitions: [Partition; Manager::SLOTS],
+    pub waiters: [Waiter; Manager::TASKS],
 }
 
 // What a call answers, with the manager record after it.
@@ -104,7 +104,7 @@ pub struct Answer {
     pub status: Status,
     pub value: u32,
     pub information: Information,
-    pub notices: [Notice; 16],
+    pub notices: [Notice; Manager::TASKS],
     pub manager: Manager,
 }
 

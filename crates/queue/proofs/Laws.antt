@@ -2,7 +2,7 @@
 use mathlib.Core.Path.{_≡_, refl, ap, sym, _∙_}
 use mathlib.Core.List.{List, [], _∷_, _++_, append-nil}
 use mathlib.Core.Bool.{Bool, true, false}
-use Prim.Native.Nat.{ℕ, suc, _+_, _≤_, _<_}
+use Prim.Native.Nat.{ℕ, suc, _+_, _-_, _≤_, _<_}
 use native.Mathlib.Numerals.{add-one}
 use native.Mathlib.Omega.{arith}
 use borrow.Author.Tests.{eq-eqb, ne-eqb, lt-ltb, le-ltb}
@@ -102,7 +102,7 @@ module _ (a : List Waiter) (i : ℕ) where
       rw (set-split a i noWaiter h'', drop-cons a i noWaiter h'', drop-of-length-le a {i = suc i} (omega arith))
 
 pub record Pulling (at : ℕ) (ws a : List Waiter) (i : ℕ) : Type 0 where
-  pub within : i ≤ 15
+  pub within : i ≤ tasks - 1
   pub size : length a ≡ tasks
   pub rest : take i a ++ pull (drop i a) ≡ removeAt at ws
 
@@ -111,11 +111,11 @@ module _ (at : ℕ) (ws : List Waiter) where
   unfolding removeAt
   pull-start h k = record { within = omega arith; size = h; rest = refl }
 
-  pub pull-turn : (a : List Waiter) (i : ℕ) → Pulling at ws a i → i < 15 → Pulling at ws (set a i (getD a (i + 1) noWaiter)) (i + 1)
+  pub pull-turn : (a : List Waiter) (i : ℕ) → Pulling at ws a i → i < tasks - 1 → Pulling at ws (set a i (getD a (i + 1) noWaiter)) (i + 1)
   pull-turn a i v h = record { within = omega arith; size = simp length-set (v .size); rest = pull-step a i (omega (arith, v .size)) ∙ v .rest }
 
-  pub pulled : (a : List Waiter) (i : ℕ) → Pulling at ws a i → 15 ≤ i → (z : Waiter) → z ≡ noWaiter → set a 15 z ≡ removeAt at ws
-  pulled a i v h z u = let e : i ≡ 15 = omega (arith, v .within) in rw u (pull-end a 15 (v .size) ∙ (rw e at (v .rest)))
+  pub pulled : (a : List Waiter) (i : ℕ) → Pulling at ws a i → tasks - 1 ≤ i → (z : Waiter) → z ≡ noWaiter → set a (tasks - 1) z ≡ removeAt at ws
+  pulled a i v h z u = let e : i ≡ tasks - 1 = omega (arith, v .within) in rw u (pull-end a (tasks - 1) (v .size) ∙ (rw e at (v .rest)))
 
   pub pulled-none : length ws ≡ tasks → tasks ≤ at → ws ≡ removeAt at ws
   unfolding removeAt

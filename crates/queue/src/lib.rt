@@ -34,7 +34,7 @@ pub fn goes_before(o: Order, w: Waiter, x: Waiter) -> bool
 }
 
 // The place of the first that w goes before; the number of places where there is none.
-fn place_for(o: Order, w: Waiter, ws: [Waiter; 16]) -> usize
+fn place_for(o: Order, w: Waiter, ws: [Waiter; Manager::TASKS]) -> usize
     ensures { λ r. ⌜ r ≡ indexOf (goesBefore o w) ws ⌝ }
 {
     let mut i: usize = 0;
@@ -61,8 +61,11 @@ fn unused() -> Waiter
     }
 }
 
+// The last place.
+const LAST: usize = Manager::TASKS - 1;
+
 // w at a place; what stood there and behind goes one place on, and the last falls off.
-fn push_at(ws: [Waiter; 16], at: usize, w: Waiter) -> [Waiter; 16]
+fn push_at(ws: [Waiter; Manager::TASKS], at: usize, w: Waiter) -> [Waiter; Manager::TASKS]
     ensures { λ r. ⌜ r ≡ take at ws ++ push w (drop at ws) ⌝ }
 {
     let mut a = ws;
@@ -78,18 +81,18 @@ fn push_at(ws: [Waiter; 16], at: usize, w: Waiter) -> [Waiter; 16]
 }
 
 // The queue without the waiter at a place: those behind it go one place on, and the last place is unused.
-fn remove_at(ws: [Waiter; 16], at: usize) -> [Waiter; 16]
+fn remove_at(ws: [Waiter; Manager::TASKS], at: usize) -> [Waiter; Manager::TASKS]
     ensures { λ r. ⌜ r ≡ removeAt at ws ⌝ }
 {
     let mut a = ws;
     if at < Manager::TASKS {
         let mut i = at;
-        while i < 15 {
+        while i < LAST {
             let x = a[i + 1];
             a[i] = x;
             i = i + 1;
         }
-        a[15] = unused();
+        a[LAST] = unused();
     }
     a
 }
@@ -155,7 +158,7 @@ pub fn waiting(d: Manager, task: u32) -> bool
 // What a tick leaves: the record, and the notices of those whose time ran out, in the order of the queue.
 pub struct Ticked {
     pub manager: Manager,
-    pub notices: [Notice; 16],
+    pub notices: [Notice; Manager::TASKS],
 }
 
 // A waiter with a tick less; without a limit it has none to lose.
@@ -193,8 +196,8 @@ pub fn after_tick(d: Manager) -> Ticked
         status: Status::Successful,
         address: 0,
     };
-    let mut kept = [u; 16];
-    let mut told = [none; 16];
+    let mut kept = [u; Manager::TASKS];
+    let mut told = [none; Manager::TASKS];
     let mut k: usize = 0;
     let mut n: usize = 0;
     let mut i: usize = 0;

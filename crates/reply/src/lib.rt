@@ -11,7 +11,7 @@ ghost use Rattle.manager.specs.Record.{tasks, noNotice, noInformation};
 ghost use Rattle.manager.specs.Result.{answerOf, replied};
 
 // No notices: unused places are zero.
-pub fn no_notices() -> [Notice; 16]
+pub fn no_notices() -> [Notice; Manager::TASKS]
     ensures { λ r. ⌜ r ≡ replicate tasks noNotice ⌝ }
 {
     let none = Notice {
