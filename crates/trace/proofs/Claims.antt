@@ -23,8 +23,8 @@ use Rattle.manager.specs.declared.Status.the-variants.{InternalError}
 use Rattle.trace.specs.Loans.{Lent, loanPages, sum}
 use Rattle.trace.specs.Receipts.{RegionEntry, PartitionEntry, Wait, Reply, replyOf, unit, firstIn, pageIn, pageLoans, buffersIn, buffersFrom, Within}
 use Rattle.trace.specs.Replies.{pagesOver, byReceipts, readByReceipts, queueOf, dueFrom}
-use Rattle.trace.specs.Trace.{State}
-use Rattle.trace.specs.Claims.{freePages, Chained, none, next, RegionClaims, PartitionClaims}
+use Rattle.trace.specs.Trace.{State, answer}
+use Rattle.trace.specs.Claims.{freePages, Chained, null, link, RegionClaims, PartitionClaims}
 use Rattle.trace.proofs.Invariant.{regionFor, PartitionIs, Inv}
 use Rattle.trace.proofs.Frame.{unit-least, inside-parts, partition-shaped, buffer-lies, chained-buffer}
 use Rattle.trace.proofs.Buffers.{buffer-within, within-buffer}
@@ -46,31 +46,31 @@ use Rattle.trace.proofs.Replies.Undamaged.{not-damaged, reply-sound}
 chained-from : (m : List ℕ) (p : Partition) → ((a : ℕ) → isBuffer p a ≡ true → ¬ (a ≡ 0)) → (n before a : ℕ) → linked n m p before a ≡ true
     → Chained m a (follow n m a)
 unfolding follow
-chained-from m p h zero before a l = subst (λ (b : ℕ). Chained m b []) (sym (linked-last m p before a l)) none
+chained-from m p h zero before a l = subst (λ (b : ℕ). Chained m b []) (sym (linked-last m p before a l)) null
 chained-from m p h (suc n) before a l =
-    next (h a (linked-buffer m p n before a l)) (chained-from m p h n a (nextOf m a) (linked-rest m p n before a l))
+    link (h a (linked-buffer m p n before a l)) (chained-from m p h n a (nextOf m a) (linked-rest m p n before a l))
 
 -- ---- what is claimed of answers
 
 module _ (i : Implementation) (s : State) (v : Inv (s .memory) (s .manager) (s .receipts))
-    (replies : (c : Call) → replyOf (i .call (s .memory) (s .manager) c) ≡ byReceipts (length (s .memory)) (s .receipts) c)
+    (replies : (c : Call) → replyOf (answer i s c) ≡ byReceipts (length (s .memory)) (s .receipts) c)
     (reads : (id address : ℕ) → i .read (s .memory) (s .manager) id address ≡ readByReceipts (s .memory) (s .receipts) id address) where
   -- a call's status, value and notices
-  status-by : (c : Call) → i .call (s .memory) (s .manager) c .status ≡ byReceipts (length (s .memory)) (s .receipts) c .status
+  status-by : (c : Call) → answer i s c .status ≡ byReceipts (length (s .memory)) (s .receipts) c .status
   status-by c = ap (λ (r : Reply). r .status) (replies c)
 
-  value-by : (c : Call) → i .call (s .memory) (s .manager) c .value ≡ byReceipts (length (s .memory)) (s .receipts) c .value
+  value-by : (c : Call) → answer i s c .value ≡ byReceipts (length (s .memory)) (s .receipts) c .value
   value-by c = ap (λ (r : Reply). r .value) (replies c)
 
-  notices-by : (c : Call) → i .call (s .memory) (s .manager) c .notices ≡ byReceipts (length (s .memory)) (s .receipts) c .notices
+  notices-by : (c : Call) → answer i s c .notices ≡ byReceipts (length (s .memory)) (s .receipts) c .notices
   notices-by c = ap (λ (r : Reply). r .notices) (replies c)
 
   -- NO ANSWER IS 25
-  pub sound-claim : (c : Call) → ¬ (i .call (s .memory) (s .manager) c .status ≡ InternalError)
+  pub sound-claim : (c : Call) → ¬ (answer i s c .status ≡ InternalError)
   sound-claim c e = not-damaged _ (reply-sound (length (s .memory)) (s .receipts) c) (sym (status-by c) ∙ e)
 
   -- A TICK
-  pub tick-claim : i .call (s .memory) (s .manager) Tick .notices ≡ dueFrom slots 1 (s .receipts)
+  pub tick-claim : answer i s Tick .notices ≡ dueFrom slots 1 (s .receipts)
   unfolding byReceipts
   tick-claim = notices-by Tick
 

@@ -188,10 +188,11 @@ module _ (m : List ℕ) (e : RegionEntry) (is : RegionIs m e) where
         map = map-same m m′ (regionFor e) s h ∙ is .map;
       }
 
-  -- A LIVE REGION WITH OTHER LOANS, and the map drawn from them
+  -- loans given by pages are these by pages
   pub lent-pages : (l : List Loan) → pageLoans (lentPages l e) ≡ l
   lent-pages l = pages-back (firstIn e) (unit e) region-unit l
 
+  -- A LIVE REGION WITH OTHER LOANS, and the map drawn from them
   pub region-redrawn : (l : List Loan) → Ordered (pagesIn e) 0 l → RegionIs (withSegments m (regionFor e) (drawn (pagesIn e) 0 l)) (lentPages l e)
   region-redrawn l o =
       record {

@@ -16,7 +16,7 @@ use Rattle.trace.specs.Replies.{lowestRun, pagesOver, grantTo, grantsIn}
 use Rattle.trace.specs.Claims.{Grants, all, stop, grant}
 use Rattle.trace.proofs.Invariant.{atAddresses}
 use Rattle.trace.proofs.Loans.Addresses.{pages-back, enter-at}
-use Rattle.trace.proofs.Loans.Get.{Got, gave, none, got-from, lowest-from}
+use Rattle.trace.proofs.Loans.Get.{Got, gave, lacks, got-from, lowest-from}
 use Rattle.trace.proofs.Queue.Line.{In}
 
 -- ---- the lowest run
@@ -28,7 +28,7 @@ pub data Found (n : ℕ) (l : List Loan) (k : ℕ) : Place → Type 0 where
 
 found-got : (n k : ℕ) (l : List Loan) (g : Place) (s : List Segment) → Got n 0 l k g s → Found n l k g
 found-got n k l g s (gave p e o b run low) = found p (record { run = run; first = λ q u. low q (omega arith) u }) o
-found-got n k l g s (none e no-run) = nowhere (λ p u. no-run p (omega arith) u)
+found-got n k l g s (lacks e no-run) = nowhere (λ p u. no-run p (omega arith) u)
 
 -- THE LOWEST RUN THAT IS COMPUTED IS THE LOWEST RUN
 pub lowest-found : (n k : ℕ) (l : List Loan) → 0 < k → Ordered n 0 l → Found n l k (lowestRun n k 0 l)

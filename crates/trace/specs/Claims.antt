@@ -1,6 +1,7 @@
 -- Document 01, demand 3: what holds after every list of calls, a field for each sentence. "By the receipts" is said by the receipts
 -- alone. The heart is `replies`: every reply is the one that the receipts give. The fields about single answers follow from it, and say
--- what it comes to in the words of document 01. Assumes nothing.
+-- what it comes to in the words of document 01. Of the record only the queue and the kept front of a chain are looked at; of the memory
+-- the maps, the chains and what clients hold. Assumes nothing.
 use mathlib.Core.Path.{_≡_}
 use mathlib.Core.Bool.{cond, not, _&&_}
 use mathlib.Core.List.{List, [], _∷_}
@@ -24,7 +25,7 @@ use Rattle.manager.specs.declared.Status.the-variants.{Successful, Unsatisfied,
 use Rattle.trace.specs.Loans.{Loan, Lent, Run, Lowest, Room, Ordered, drawn, loanPages, sum, enter, amend}
 use Rattle.trace.specs.Receipts.{Receipts, RegionEntry, PartitionEntry, Wait, replyOf, isSuccess, unit, pagesIn, addressIn, pageIn, byPage, pageLoans, buffersIn, buffersFrom, Within, Distinct}
 use Rattle.trace.specs.Replies.{queueOf, dueFrom, informationIn, grantTo, byReceipts, writeByReceipts, readByReceipts}
-use Rattle.trace.specs.Trace.{Ask, call, read, write, State, after, Object, Loaned, Owned, Runs, start}
+use Rattle.trace.specs.Trace.{Ask, call, read, write, State, answer, answerWrite, after, Object, Loaned, Owned, Runs, start}
 
 -- a wait as the record keeps it: with the ticks that it has left
 abbrev pub left : Wait → ℕ
@@ -75,37 +76,37 @@ pub record RegionClaims (i : Implementation) (s : State) (id : ℕ) (e : RegionE
   -- "A get is valid if its checks ahead of 13, the one for 25 aside, refuse nothing": one that won't wait is answered 13 exactly when no
   -- run of adjoining unheld pages is long enough
   pub unsatisfied : (size task priority ticks : ℕ) → 0 < size → pagesFor size (unit e) ≤ pagesIn e
-      → (i .call (s .memory) (s .manager) (GetSegment id size No task priority ticks) .status ≡ Unsatisfied)
+      → (answer i s (GetSegment id size No task priority ticks) .status ≡ Unsatisfied)
       ↔ ((p : ℕ) → ¬ Run (pagesIn e) (pageLoans e) (pagesFor size (unit e)) p)
   -- else the address is the lowest that fits
   pub lowest : (size task priority ticks : ℕ) → 0 < size → pagesFor size (unit e) ≤ pagesIn e
-      → (i .call (s .memory) (s .manager) (GetSegment id size No task priority ticks) .status ≡ Unsatisfied)
+      → (answer i s (GetSegment id size No task priority ticks) .status ≡ Unsatisfied)
       ⊎ ((p : ℕ) × Lowest (pagesIn e) (pageLoans e) (pagesFor size (unit e)) p
-      × (i .call (s .memory) (s .manager) (GetSegment id size No task priority ticks) .status ≡ Successful)
-      × (i .call (s .memory) (s .manager) (GetSegment id size No task priority ticks) .value ≡ addressIn e p))
+      × (answer i s (GetSegment id size No task priority ticks) .status ≡ Successful)
+      × (answer i s (GetSegment id size No task priority ticks) .value ≡ addressIn e p))
   -- "a read is empty only where the receipts have no loan at that address in that region"
   pub read : (a k : ℕ) → Lent (e .loans) a k → ¬ (i .read (s .memory) (s .manager) id a ≡ [])
   -- information answers the count, largest and total bytes over the runs of unheld pages and over the loans ("sums over held and unheld
   -- pages")
-  pub information : i .call (s .memory) (s .manager) (RegionInformation id) .information ≡ informationIn e
+  pub information : answer i s (RegionInformation id) .information ≡ informationIn e
   -- size and resize answer the loan's length, and resize is 13 exactly when the pages that it lacks aren't unheld
-  pub size : (a k : ℕ) → Lent (e .loans) a k → i .call (s .memory) (s .manager) (SegmentSize id a) .value ≡ k * unit e
+  pub size : (a k : ℕ) → Lent (e .loans) a k → answer i s (SegmentSize id a) .value ≡ k * unit e
   pub resize : (a k size : ℕ) → Lent (e .loans) a k → 0 < size
-      → (i .call (s .memory) (s .manager) (ResizeSegment id a size) .value ≡ k * unit e)
-      × ((i .call (s .memory) (s .manager) (ResizeSegment id a size) .status ≡ Unsatisfied)
+      → (answer i s (ResizeSegment id a size) .value ≡ k * unit e)
+      × ((answer i s (ResizeSegment id a size) .status ≡ Unsatisfied)
       ↔ (¬ Room (pagesIn e) (pageLoans e) (pageIn e a) k (pagesFor size (unit e))))
   -- the queue is the waits of the receipts, in order
   pub queue : waitersFor id (s .manager .waiters) ≡ waitersOf (queueOf id e (s .receipts))
   -- after a return the grants go to the first waits in that order, each to the lowest run at that moment, and stop exactly at the first
   -- that has none ("the stop rule")
   pub return : (a k : ℕ) → Lent (e .loans) a k
-      → (i .call (s .memory) (s .manager) (ReturnSegment id a) .status ≡ Successful)
-      × Grants e (amend a 0 (e .loans)) (queueOf id e (s .receipts)) (i .call (s .memory) (s .manager) (ReturnSegment id a) .notices)
+      → (answer i s (ReturnSegment id a) .status ≡ Successful)
+      × Grants e (amend a 0 (e .loans)) (queueOf id e (s .receipts)) (answer i s (ReturnSegment id a) .notices)
 
 -- "Chained buffers are those met from the kept front by word 0": from an address on, up to 0
 pub data Chained (m : List ℕ) : ℕ → List ℕ → Type 0 where
-  none : Chained m 0 []
-  next : {a : ℕ} {l : List ℕ} → ¬ (a ≡ 0) → Chained m (getD m (a / 4) 0) l → Chained m a (a ∷ l)
+  null : Chained m 0 []
+  link : {a : ℕ} {l : List ℕ} → ¬ (a ≡ 0) → Chained m (getD m (a / 4) 0) l → Chained m a (a ∷ l)
 
 -- OF A PARTITION
 pub record PartitionClaims (i : Implementation) (s : State) (id : ℕ) (e : PartitionEntry) : Type 0 where
@@ -119,9 +120,9 @@ pub record PartitionClaims (i : Implementation) (s : State) (id : ℕ) (e : Part
   pub either : (a : ℕ) → Within a (e .lent) → ¬ Within a (e .unlent)
   pub counted : length (e .lent) + length (e .unlent) ≡ buffersIn e
   -- a get is answered 13 exactly when every buffer is held; else the address is the front of the chain as the receipts have it
-  pub unsatisfied : (i .call (s .memory) (s .manager) (GetBuffer id) .status ≡ Unsatisfied) ↔ (length (e .lent) ≡ buffersIn e)
+  pub unsatisfied : (answer i s (GetBuffer id) .status ≡ Unsatisfied) ↔ (length (e .lent) ≡ buffersIn e)
   pub front : (a : ℕ) (u : List ℕ) → e .unlent ≡ a ∷ u
-      → (i .call (s .memory) (s .manager) (GetBuffer id) .status ≡ Successful) × (i .call (s .memory) (s .manager) (GetBuffer id) .value ≡ a)
+      → (answer i s (GetBuffer id) .status ≡ Successful) × (answer i s (GetBuffer id) .value ≡ a)
 
 -- WHAT CLIENTS HOLD AFTER THE NEXT CALL, by the receipts: "Writing lends on the part that starts at the given word of the segment and
 -- copies the given words there"; a refused write, and any other call, leaves the words as they were
@@ -135,9 +136,9 @@ written t (write id address first words) m =
 pub record Claims (i : Implementation) (s : State) : Type 0 where
   -- every call is answered as the receipts say: status, value, information and notices. So is a write, and a read hands back the words
   -- of the loan at its address
-  pub replies : (c : Call) → replyOf (i .call (s .memory) (s .manager) c) ≡ byReceipts (length (s .memory)) (s .receipts) c
+  pub replies : (c : Call) → replyOf (answer i s c) ≡ byReceipts (length (s .memory)) (s .receipts) c
   pub replies-write : (id address first : ℕ) (words : List ℕ)
-      → replyOf (i .write (s .memory) (s .manager) id address first words) ≡ writeByReceipts (s .receipts) id address first words
+      → replyOf (answerWrite i s id address first words) ≡ writeByReceipts (s .receipts) id address first words
   pub reads : (id address : ℕ) → i .read (s .memory) (s .manager) id address ≡ readByReceipts (s .memory) (s .receipts) id address
   -- a live object, "an id is live if the receipts have it for the call's kind"
   pub region : (id : ℕ) (e : RegionEntry) → s .receipts .regions id ≡ some e → RegionClaims i s id e
@@ -150,12 +151,12 @@ pub record Claims (i : Implementation) (s : State) : Type 0 where
   pub stays : (a : Ask) (w : ℕ) → Owned (s .receipts) w → Owned (after i a s .receipts) w
       → getD (after i a s .memory) w 0 ≡ getD (written (s .receipts) a (s .memory)) w 0
   pub writes : (id address first : ℕ) (words : List ℕ)
-      → i .write (s .memory) (s .manager) id address first words .memory ≡ written (s .receipts) (write id address first words) (s .memory)
+      → answerWrite i s id address first words .memory ≡ written (s .receipts) (write id address first words) (s .memory)
   -- "Never called damaged": no answer is 25
-  pub sound : (c : Call) → ¬ (i .call (s .memory) (s .manager) c .status ≡ InternalError)
-  pub sound-write : (id address first : ℕ) (words : List ℕ) → ¬ (i .write (s .memory) (s .manager) id address first words .status ≡ InternalError)
+  pub sound : (c : Call) → ¬ (answer i s c .status ≡ InternalError)
+  pub sound-write : (id address first : ℕ) (words : List ℕ) → ¬ (answerWrite i s id address first words .status ≡ InternalError)
   -- a tick sends 6 to exactly those waits whose ticks have run out by the ticks counted since they began, and serves nobody ("ticks left")
-  pub tick : i .call (s .memory) (s .manager) Tick .notices ≡ dueFrom slots 1 (s .receipts)
+  pub tick : answer i s Tick .notices ≡ dueFrom slots 1 (s .receipts)
 
 -- "Demand 3 is a single claim about the list and the writes between its calls, and not one for each call": after every list of calls and
 -- writes, from a fresh start over any memory of allowed length

@@ -6,6 +6,7 @@ use mathlib.Core.Option.{some}
 use Prim.Native.Nat.{ℕ, _+_, _*_, _≤_, _<_}
 use lib.ListN.{length, getD}
 use Rattle.manager.specs.Record.{fresh}
+use Rattle.manager.specs.Result.{Result}
 use Rattle.manager.specs.Perform.{Implementation}
 use Rattle.manager.specs.declared.Manager.{Manager}
 use Rattle.manager.specs.declared.Call.{Call}
@@ -28,14 +29,21 @@ pub record State : Type 0 where
 abbrev pub start : List ℕ → State
 start m = record { memory = m; manager = fresh; receipts = blank }
 
+-- what a call of a directive, and a write of a held segment, is answered in a state
+abbrev pub answer : Implementation → State → Call → Result
+answer i s c = i .call (s .memory) (s .manager) c
+
+abbrev pub answerWrite : Implementation → State → ℕ → ℕ → ℕ → List ℕ → Result
+answerWrite i s id address first words = i .write (s .memory) (s .manager) id address first words
+
 -- each call gets what the last one left; the receipts go by its arguments and its answer
 unfoldable pub after : Implementation → Ask → State → State
 after i (call c) s =
-    let a = i .call (s .memory) (s .manager) c in
+    let a = answer i s c in
     record { memory = a .memory; manager = a .manager; receipts = note c (replyOf a) (s .receipts) }
 after i (read id address) s = s
 after i (write id address first words) s =
-    let a = i .write (s .memory) (s .manager) id address first words in
+    let a = answerWrite i s id address first words in
     record { memory = a .memory; manager = a .manager; receipts = s .receipts }
 
 -- an object: of a kind, under an id

@@ -22,7 +22,7 @@ use Rattle.trace.proofs.Loans.Drawn.{next, onward, drawn-next, ordered-
 pub data Got (n at : ℕ) (l : List Loan) (k : ℕ) : Place → List Segment → Type 0 where
   gave : {s : List Segment} (p : ℕ) → s ≡ drawn n at (enter p k l) → Ordered n at (enter p k l) → at ≤ p → Run n l k p
       → ((q : ℕ) → at ≤ q → Run n l k q → p ≤ q) → Got n at l k (At p) s
-  none : {s : List Segment} → s ≡ drawn n at l → ((q : ℕ) → at ≤ q → ¬ Run n l k q) → Got n at l k Nowhere s
+  lacks : {s : List Segment} → s ≡ drawn n at l → ((q : ℕ) → at ≤ q → ¬ Run n l k q) → Got n at l k Nowhere s
 
 -- past the free pages in front
 pub place-gap : (n k at g : ℕ) (l : List Loan) → 0 < k → placeFrom k at (free+ g (onward n l)) ≡ cond (leb k g) (At at) (placeFrom k (at + g) (onward n l))
@@ -79,8 +79,8 @@ behind n at a m l k o h (gave {s} p e i b run low) =
     gave p is (rw there (o .0, o .1, i)) (omega arith)
     (record { some = run .some; upto = run .upto; unheld = λ q c u x. elim x [ inl y ↦ omega arith | inr y ↦ run .unheld q c u y ] })
     (λ q b u. low q (run-from n at a m l k q (o .1) h b u) (run-behind n a m l k q u))
-behind n at a m l k o h (none e no-run) =
-    none (ap (λ (t : List Segment). free+ (a - at) (held m ∷ t)) e ∙ sym (drawn-next n at (loan a m ∷ l)))
+behind n at a m l k o h (lacks e no-run) =
+    lacks (ap (λ (t : List Segment). free+ (a - at) (held m ∷ t)) e ∙ sym (drawn-next n at (loan a m ∷ l)))
     (λ q b u. no-run q (run-from n at a m l k q (o .1) h b u) (run-behind n a m l k q u))
 
 -- A GET OF k PAGES
@@ -89,7 +89,7 @@ unfolding Ordered placeFrom take
 got-from n k at [] o z =
     rw (drawn-next n at [], place-gap n k at (n - at) [] z, take-gap n k (n - at) [] z)
     (by-leb k (n - at) (λ (t : Bool). Got n at [] k (cond t (At at) Nowhere) (cond t (held k ∷ free+ (n - at - k) []) (free+ (n - at) [])))
-    (first n at k [] o z) (λ h. none (sym (drawn-next n at [])) (λ q b u. omega (arith, u .upto))))
+    (first n at k [] o z) (λ h. lacks (sym (drawn-next n at [])) (λ q b u. omega (arith, u .upto))))
 got-from n k at (loan a m ∷ l) o z =
     let there : at + (a - at) ≡ a = omega arith in
     rw (drawn-next n at (loan a m ∷ l), place-gap n k at (a - at) (loan a m ∷ l) z, take-gap n k (a - at) (loan a m ∷ l) z, there)

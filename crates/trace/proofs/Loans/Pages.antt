@@ -15,7 +15,7 @@ use Rattle.trace.specs.Loans.{Loan, amend, Lent, drawn, runs, Ordered, R
 use Rattle.trace.specs.Replies.{lowestRun}
 use Rattle.trace.specs.Claims.{freePages}
 use Rattle.trace.proofs.Loans.Drawn as draws
-use Rattle.trace.proofs.Loans.Get.{Got, gave, none, got-from, lowest-from}
+use Rattle.trace.proofs.Loans.Get.{Got, gave, lacks, got-from, lowest-from}
 use Rattle.trace.proofs.Loans.Change as change
 use Rattle.trace.proofs.Loans.Words as words
 use Rattle.trace.proofs.Loans.Book as book
@@ -27,7 +27,7 @@ pages = record { drawn = λ n l. drawn n 0 l; runs = λ n l. runs n 0 l; Ordered
 
 gets : {n k : ℕ} {l : List Loan} {g : Place} {s : List Segment} → Ordered n 0 l → Got n 0 l k g s → Gets pages n l k g s
 gets o (gave p e i b run low) = given p (record { ordered = i; is = e }) (record { run = run; first = λ q u. low q (omega arith) u })
-gets o (none e no-run) = nothing (record { ordered = o; is = e }) (λ q u. no-run q (omega arith) u)
+gets o (lacks e no-run) = nothing (record { ordered = o; is = e }) (λ q u. no-run q (omega arith) u)
 
 module _ {n : ℕ} {l : List Loan} {s : List Segment} (d : Drawing pages n l s) where
   got : (k : ℕ) → 0 < k → Gets pages n l k (placeFrom k 0 s) (take k s)
