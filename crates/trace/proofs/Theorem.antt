@@ -29,10 +29,10 @@ use Rattle.trace.proofs.Queue.Clock.{keeps-tick}
 use Rattle.trace.proofs.Replies.{replies}
 use Rattle.trace.proofs.Replies.Access.{replies-write, reads}
 use Rattle.trace.proofs.Replies.Undamaged.{not-damaged, write-sound}
-use Rattle.trace.proofs.Partitions.Create as new
-use Rattle.trace.proofs.Partitions.Delete as old
-use Rattle.trace.proofs.Partitions.Get as front
-use Rattle.trace.proofs.Partitions.Return as rear
+use Rattle.trace.proofs.Partitions.Create as partition-create
+use Rattle.trace.proofs.Partitions.Delete as partition-delete
+use Rattle.trace.proofs.Partitions.Get as partition-get
+use Rattle.trace.proofs.Partitions.Return as partition-return
 use Rattle.trace.proofs.Claims.{sound-claim, tick-claim, region-claims, partition-claims}
 
 -- a call of any directive
@@ -46,11 +46,11 @@ performs m d t v (ReturnSegment id a) = keeps-return m d t v id a
 performs m d t v (SegmentSize id a) = keeps-size m d t v id a
 performs m d t v (ResizeSegment id a size) = keeps-resize m d t v id a size
 performs m d t v (RegionInformation id) = keeps-information m d t v id
-performs m d t v (CreatePartition name start bytes size) = new.keeps-create m d t v name start bytes size (sound-inv m d t v)
-performs m d t v (IdentPartition name) = old.keeps-ident m d t v (sound-inv m d t v) name
-performs m d t v (DeletePartition id) = old.keeps-delete m d t v (sound-inv m d t v) id
-performs m d t v (GetBuffer id) = front.keeps-get m d t v id (sound-inv m d t v)
-performs m d t v (ReturnBuffer id a) = rear.keeps-return m d t v id a (sound-inv m d t v)
+performs m d t v (CreatePartition name start bytes size) = partition-create.keeps-create m d t v name start bytes size
+performs m d t v (IdentPartition name) = partition-delete.keeps-ident m d t v name
+performs m d t v (DeletePartition id) = partition-delete.keeps-delete m d t v id
+performs m d t v (GetBuffer id) = partition-get.keeps-get m d t v id
+performs m d t v (ReturnBuffer id a) = partition-return.keeps-return m d t v id a
 performs m d t v Tick = keeps-tick m d t v
 
 module _ (s : State) (v : Inv (s .memory) (s .manager) (s .receipts)) where
@@ -89,7 +89,7 @@ module _ (s : State) (v : Inv (s .memory) (s .manager) (s .receipts)) where
         stays = stays;
         writes = writes-by;
         sound = sound-claim defined s v answered handed;
-        sound-write = λ id a first words e. not-damaged _ (write-sound 0 (s .receipts) id a first words)
+        sound-write = λ id a first words e. not-damaged _ (write-sound (s .receipts) id a first words)
             (sym (ap (λ (r : Reply). r .status) (replies-write (s .memory) (s .manager) (s .receipts) v id a first words)) ∙ e);
         tick = tick-claim defined s v answered handed;
       }

@@ -14,7 +14,6 @@ use Rattle.manager.specs.Lists as lists
 use Rattle.manager.specs.Partition.{isBuffer, chain, afterGet, gotten}
 use Rattle.manager.specs.Partition.Laws.{get-chain, get-buffer, get-length, get-outside, get-only, live-get, live-chain}
 use Rattle.manager.specs.Partitions.{getBuffer}
-use Rattle.manager.specs.Sound.{sound}
 use Rattle.manager.specs.declared.Manager.{Manager}
 use Rattle.manager.specs.declared.Partition.{Partition}
 use Rattle.manager.specs.declared.Call.the-variants.{GetBuffer}
@@ -24,6 +23,7 @@ use Rattle.trace.proofs.Frame.{partition-laid, partition-shaped}
 use Rattle.trace.proofs.Clients.{NoLink, owned-no-link}
 use Rattle.trace.proofs.Buffers.{on-within, strike-here, within-strike, strike-other, strike-length}
 use Rattle.trace.proofs.Regions.Checks.{Passed, Kept, kept-checked}
+use Rattle.trace.proofs.Regions.Queue.{sound-inv}
 use Rattle.trace.proofs.Partitions.Slot.{unlent-once, partition-entry, on-partition, put-keeps, live-slot, live-clear, outside, kept-done}
 
 -- the entry with one buffer more lent
@@ -102,10 +102,10 @@ module _ (m : List ℕ) (d : Manager) (t : Receipts) (v : Inv m d t) (id : ℕ) 
         (λ w o o′. got-words m p e is h w (owned-no-link m d t v id e q w o))
 
   -- A GET KEEPS THE PICTURE
-  pub keeps-get : sound m d ≡ true → Kept (GetBuffer id) m t (getBuffer m d id)
+  pub keeps-get : Kept (GetBuffer id) m t (getBuffer m d id)
   unfolding getBuffer lists.every Passed
-  keeps-get ok =
-      kept-checked (GetBuffer id) m d t v _ _ ok refl
+  keeps-get =
+      kept-checked (GetBuffer id) m d t v _ _ (sound-inv m d t v) refl
       (λ c. let s = partition-entry m (partitionOf d id) (t .partitions id) (v .picture .partitions id) (c .0) in
       let n = eqb-false (partitionOf d id .free) 0 (c .1 .0) in
       act-kept (s .0) (s .1) (s .2) (omega arith))

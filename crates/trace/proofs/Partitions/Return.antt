@@ -16,7 +16,6 @@ use Rattle.manager.specs.Partition.{isBuffer, isFree, chain, afterReturn, retur
 use Rattle.manager.specs.Partition.Distinct.{on-off, same-or-not}
 use Rattle.manager.specs.Partition.Laws.{return-chain, return-length, return-outside, return-only, live-return, live-chain}
 use Rattle.manager.specs.Partitions.{returnBuffer}
-use Rattle.manager.specs.Sound.{sound}
 use Rattle.manager.specs.declared.Manager.{Manager}
 use Rattle.manager.specs.declared.Partition.{Partition}
 use Rattle.manager.specs.declared.Call.the-variants.{ReturnBuffer}
@@ -27,6 +26,7 @@ use Rattle.trace.proofs.Buffers.{within-on, on-within, within-strike, s
 use Rattle.trace.proofs.Clients.{NoLink, owned-no-link}
 use Rattle.trace.proofs.Regions.Picture.{put-here}
 use Rattle.trace.proofs.Regions.Checks.{Passed, Kept, kept-checked}
+use Rattle.trace.proofs.Regions.Queue.{sound-inv}
 use Rattle.trace.proofs.Partitions.Slot.{partition-entry, keeping, on-partition, put-keeps, live-slot, live-clear, outside, kept-done}
 
 -- a number added at the end of a list
@@ -111,9 +111,9 @@ module _ (m : List ℕ) (d : Manager) (t : Receipts) (v : Inv m d t) (id a : ℕ
         (owned-no-link _ _ (keeping id (some (lentLess a e)) t) after id (lentLess a e) (put-here id (some (lentLess a e)) (t .partitions)) w h′))
 
   -- A RETURN KEEPS THE PICTURE
-  pub keeps-return : sound m d ≡ true → Kept (ReturnBuffer id a) m t (returnBuffer m d id a)
+  pub keeps-return : Kept (ReturnBuffer id a) m t (returnBuffer m d id a)
   unfolding returnBuffer lists.every Passed
-  keeps-return ok =
-      kept-checked (ReturnBuffer id a) m d t v _ _ ok refl
+  keeps-return =
+      kept-checked (ReturnBuffer id a) m d t v _ _ (sound-inv m d t v) refl
       (λ c. let s = partition-entry m (partitionOf d id) (t .partitions id) (v .picture .partitions id) (c .0) in
       act-kept (s .0) (s .1) (s .2) (not-false (isBuffer (partitionOf d id) a) (c .1 .0)) (c .1 .1 .0))

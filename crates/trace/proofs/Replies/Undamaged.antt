@@ -94,6 +94,6 @@ module _ (n : ℕ) (t : Receipts) where
   reply-sound (ReturnBuffer id a) = alive (t .partitions id) _ (λ e. checked _ _ refl refl)
   reply-sound Tick = refl
 
-  pub write-sound : (id a first : ℕ) (words : List ℕ) → Undamaged (writeByReceipts t id a first words)
-  unfolding every
-  write-sound id a first words = alive (t .regions id) _ (λ e. checked _ _ refl refl)
+pub write-sound : (t : Receipts) (id a first : ℕ) (words : List ℕ) → Undamaged (writeByReceipts t id a first words)
+unfolding every
+write-sound t id a first words = alive (t .regions id) _ (λ e. checked _ _ refl refl)
