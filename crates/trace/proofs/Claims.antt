@@ -30,7 +30,7 @@ use Rattle.trace.proofs.Frame.{unit-least, inside-parts, partition-shap
 use Rattle.trace.proofs.Buffers.{buffer-within, within-buffer}
 use Rattle.trace.proofs.Clients.{RegionAt, region-at, partition-at, SegmentLoan, segment-in, segment-some}
 use Rattle.trace.proofs.Held.{Regular, regular, loan-holds}
-use Rattle.trace.proofs.Loans.Addresses.{pages-at}
+use Rattle.trace.proofs.Loans.Addresses.{address-pages}
 use Rattle.trace.proofs.Queue.Line.{In, in-line}
 use Rattle.trace.proofs.Queue.Order.{goes, orders, in-waits, queue-of}
 use Rattle.trace.proofs.Queue.Tasks.{all-in}
@@ -113,7 +113,7 @@ module _ (i : Implementation) (s : State) (v : Inv (s .memory) (s .manager) (s .
           ordered = loans .ordered;
           map = at .is .map;
           counted =
-              ap (λ (l : List ℕ). sum l + freePages (segments (s .memory) (regionFor e))) (ap loanPages (loans .placed) ∙ pages-at (firstIn e) (unit e) (pageLoans e))
+              ap (λ (l : List ℕ). sum l + freePages (segments (s .memory) (regionFor e))) (ap loanPages (loans .placed) ∙ address-pages (firstIn e) (unit e) (pageLoans e))
               ∙ law (regionFor e) .counted (map-drawing (s .memory) e (at .is));
           unsatisfied = λ size task priority ticks z h. rw (status-by (GetSegment id size No task priority ticks))
               (unsatisfied-by n t id e q loans size task priority ticks z h);

@@ -15,7 +15,7 @@ use Rattle.trace.specs.Receipts.{RegionEntry, Wait, unit, pagesIn, first
 use Rattle.trace.specs.Replies.{lowestRun, pagesOver, grantTo, grantsIn}
 use Rattle.trace.specs.Claims.{Grants, all, stop, grant}
 use Rattle.trace.proofs.Invariant.{atAddresses}
-use Rattle.trace.proofs.Loans.Addresses.{pages-back, enter-at}
+use Rattle.trace.proofs.Loans.Addresses.{pages-back, enter-address}
 use Rattle.trace.proofs.Loans.Get.{Got, gave, lacks, got-from, lowest-from}
 use Rattle.trace.proofs.Queue.Line.{In}
 
@@ -48,7 +48,7 @@ module _ (e : RegionEntry) (u : 0 < unit e) where
       where
         at-place : (g : Place)
             → onPlace g (λ p. grantTo w (addressIn e p) ∷ grantsIn e (enter (addressIn e p) (pagesOver e (w .size)) (atAddresses e l)) ws) [] ≡ first-grant g
-        at-place (At p) = ap (λ (k : List Loan). grantTo w (addressIn e p) ∷ grantsIn e k ws) (enter-at (firstIn e) (unit e) u p (pagesOver e (w .size)) l)
+        at-place (At p) = ap (λ (k : List Loan). grantTo w (addressIn e p) ∷ grantsIn e k ws) (enter-address (firstIn e) (unit e) u p (pagesOver e (w .size)) l)
         at-place Nowhere = refl
 
   -- THE GRANTS THAT ARE COMPUTED ARE THE GRANTS
@@ -69,6 +69,6 @@ module _ (e : RegionEntry) (u : 0 < unit e) where
       go g (found p low o′) next =
           grant (subst (λ (k : List Loan). Lowest (pagesIn e) k (pagesOver e (w .size)) p) (sym back) low)
           (subst (λ (k : List Loan). Grants e k ws (grantsIn e (atAddresses e (enter p (pagesOver e (w .size)) l)) ws))
-          (sym (enter-at (firstIn e) (unit e) u p (pagesOver e (w .size)) l))
+          (sym (enter-address (firstIn e) (unit e) u p (pagesOver e (w .size)) l))
           (next (enter p (pagesOver e (w .size)) l) o′))
       go g (nowhere no-run) next = stop (subst (λ (k : List Loan). (p : ℕ) → ¬ Run (pagesIn e) k (pagesOver e (w .size)) p) (sym back) no-run)

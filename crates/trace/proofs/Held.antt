@@ -16,7 +16,7 @@ use Rattle.trace.specs.Loans.{Lent, enter, amend, Ordered, drawn}
 use Rattle.trace.specs.Receipts.{RegionEntry, unit, pagesIn, firstIn, addressIn, pageIn, pageLoans}
 use Rattle.trace.proofs.Invariant.{regionFor, atAddresses, RegionIs}
 use Rattle.trace.proofs.Frame.{region-unit}
-use Rattle.trace.proofs.Loans.Addresses.{page-of, lent-at, at-lent, enter-at, amend-at}
+use Rattle.trace.proofs.Loans.Addresses.{page-of, lent-address, address-lent, enter-address, amend-address}
 use Rattle.trace.proofs.Loans.Words.{reads}
 use Rattle.trace.proofs.Loans.Change.{held-lent, held-some}
 
@@ -42,22 +42,22 @@ module _ (e : RegionEntry) (g : Regular e) where
   -- A LOAN AT AN ADDRESS IS ONE AT ITS PAGE
   pub loan-holds : (a k : ℕ) → Lent (e .loans) a k → Holds e a k
   loan-holds a k l =
-      let x = at-lent (firstIn e) (unit e) (pageLoans e) a k (rw (g .placed) at l) in
+      let x = address-lent (firstIn e) (unit e) (pageLoans e) a k (rw (g .placed) at l) in
       let p : x .0 ≡ pageIn e a = sym (page-address (x .0)) ∙ ap (pageIn e) (sym (x .1)) in
       record { at = x .1 ∙ ap (addressIn e) p; lent = subst (λ (q : ℕ). Lent (pageLoans e) q k) p (x .2) }
 
   pub holds-loan : (a k : ℕ) → Holds e a k → Lent (e .loans) a k
   holds-loan a k h =
-      rw (g .placed) (subst (λ (b : ℕ). Lent (atAddresses e (pageLoans e)) b k) (sym (h .at)) (lent-at (firstIn e) (unit e) (pageLoans e) (pageIn e a) k (h .lent)))
+      rw (g .placed) (subst (λ (b : ℕ). Lent (atAddresses e (pageLoans e)) b k) (sym (h .at)) (lent-address (firstIn e) (unit e) (pageLoans e) (pageIn e a) k (h .lent)))
 
   -- a loan entered or amended at the address of a page
   pub entered-at : (p k : ℕ) → enter (addressIn e p) k (e .loans) ≡ atAddresses e (enter p k (pageLoans e))
-  entered-at p k = ap (enter (addressIn e p) k) (g .placed) ∙ enter-at (firstIn e) (unit e) (g .some-unit) p k (pageLoans e)
+  entered-at p k = ap (enter (addressIn e p) k) (g .placed) ∙ enter-address (firstIn e) (unit e) (g .some-unit) p k (pageLoans e)
 
   pub amended-at : (a k : ℕ) → a ≡ addressIn e (pageIn e a) → amend a k (e .loans) ≡ atAddresses e (amend (pageIn e a) k (pageLoans e))
   amended-at a k h =
       ap (λ (b : ℕ). amend b k (e .loans)) h ∙ ap (amend (addressIn e (pageIn e a)) k) (g .placed)
-      ∙ amend-at (firstIn e) (unit e) (g .some-unit) (pageIn e a) k (pageLoans e)
+      ∙ amend-address (firstIn e) (unit e) (g .some-unit) (pageIn e a) k (pageLoans e)
 
 module _ (m : List ℕ) (e : RegionEntry) (is : RegionIs m e) where
   pub starts-page : (p : ℕ) → startsPage (regionFor e) (addressIn e p) ≡ true

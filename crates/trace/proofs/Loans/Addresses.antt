@@ -20,28 +20,28 @@ atPages first page (loan p k ∷ l) = loan (first + p * page) k ∷ atPages firs
 
 module _ (first page : ℕ) where
   -- a loan by its page is one at that page's address, and back
-  pub lent-at : (l : List Loan) (p k : ℕ) → Lent l p k → Lent (atPages first page l) (first + p * page) k
+  pub lent-address : (l : List Loan) (p k : ℕ) → Lent l p k → Lent (atPages first page l) (first + p * page) k
   unfolding Lent atPages
-  lent-at [] p k x = x
-  lent-at (loan q j ∷ l) p k (inl x) = inl (ap (λ (i : ℕ). first + i * page) (x .0), x .1)
-  lent-at (loan q j ∷ l) p k (inr x) = inr (lent-at l p k x)
+  lent-address [] p k x = x
+  lent-address (loan q j ∷ l) p k (inl x) = inl (ap (λ (i : ℕ). first + i * page) (x .0), x .1)
+  lent-address (loan q j ∷ l) p k (inr x) = inr (lent-address l p k x)
 
-  pub at-lent : (l : List Loan) (a k : ℕ) → Lent (atPages first page l) a k → (p : ℕ) × (a ≡ first + p * page) × Lent l p k
+  pub address-lent : (l : List Loan) (a k : ℕ) → Lent (atPages first page l) a k → (p : ℕ) × (a ≡ first + p * page) × Lent l p k
   unfolding Lent atPages
-  at-lent [] a k x = absurd x
-  at-lent (loan q j ∷ l) a k (inl x) = (q, sym (x .0), inl (refl, x .1))
-  at-lent (loan q j ∷ l) a k (inr x) = let y = at-lent l a k x in (y .0, y .1, inr (y .2))
+  address-lent [] a k x = absurd x
+  address-lent (loan q j ∷ l) a k (inl x) = (q, sym (x .0), inl (refl, x .1))
+  address-lent (loan q j ∷ l) a k (inr x) = let y = address-lent l a k x in (y .0, y .1, inr (y .2))
 
   -- they have the same pages, and there is none of the one where there is none of the other
-  pub pages-at : (l : List Loan) → loanPages (atPages first page l) ≡ loanPages l
+  pub address-pages : (l : List Loan) → loanPages (atPages first page l) ≡ loanPages l
   unfolding loanPages atPages
-  pages-at [] = refl
-  pages-at (loan q j ∷ l) = ap (λ (s : List ℕ). j ∷ s) (pages-at l)
+  address-pages [] = refl
+  address-pages (loan q j ∷ l) = ap (λ (s : List ℕ). j ∷ s) (address-pages l)
 
-  pub none-at : (l : List Loan) → atPages first page l ≡ [] → l ≡ []
+  pub address-none : (l : List Loan) → atPages first page l ≡ [] → l ≡ []
   unfolding atPages
-  none-at [] e = refl
-  none-at (loan q j ∷ l) e = let z : _≡_ {A = ℕ} 0 1 = cc in absurd (omega arith)
+  address-none [] e = refl
+  address-none (loan q j ∷ l) e = let z : _≡_ {A = ℕ} 0 1 = cc in absurd (omega arith)
 
   -- where there is a page size
   module _ (h : 0 < page) where
@@ -69,14 +69,14 @@ module _ (first page : ℕ) where
         (λ n. ne-eqb (first + p * page) (first + q * page) (λ e. n (sym (page-of p) ∙ ap (λ (a : ℕ). (a - first) / page) e ∙ page-of q)))
 
     -- A LOAN ENTERED
-    pub enter-at : (p k : ℕ) (l : List Loan) → enter (first + p * page) k (atPages first page l) ≡ atPages first page (enter p k l)
+    pub enter-address : (p k : ℕ) (l : List Loan) → enter (first + p * page) k (atPages first page l) ≡ atPages first page (enter p k l)
     unfolding enter atPages
-    enter-at p k [] = refl
-    enter-at p k (loan q j ∷ l) =
+    enter-address p k [] = refl
+    enter-address p k (loan q j ∷ l) =
         rw (address-le p q)
         (by-leb p q (λ b. cond b (loan (first + p * page) k ∷ atPages first page (loan q j ∷ l)) (loan (first + q * page) j ∷ enter (first + p * page) k (atPages first page l))
         ≡ atPages first page (cond b (loan p k ∷ loan q j ∷ l) (loan q j ∷ enter p k l)))
-        (λ x. refl) (λ x. ap (λ (s : List Loan). loan (first + q * page) j ∷ s) (enter-at p k l)))
+        (λ x. refl) (λ x. ap (λ (s : List Loan). loan (first + q * page) j ∷ s) (enter-address p k l)))
 
     -- A LOAN AMENDED
     amend-here : (q k : ℕ) (l : List Loan) → loan+ (first + q * page) k (atPages first page l) ≡ atPages first page (loan+ q k l)
@@ -84,11 +84,11 @@ module _ (first page : ℕ) where
     amend-here q zero l = refl
     amend-here q (suc k) l = refl
 
-    pub amend-at : (p k : ℕ) (l : List Loan) → amend (first + p * page) k (atPages first page l) ≡ atPages first page (amend p k l)
+    pub amend-address : (p k : ℕ) (l : List Loan) → amend (first + p * page) k (atPages first page l) ≡ atPages first page (amend p k l)
     unfolding amend atPages
-    amend-at p k [] = refl
-    amend-at p k (loan q j ∷ l) =
+    amend-address p k [] = refl
+    amend-address p k (loan q j ∷ l) =
         rw (address-eq q p)
         (by-eqb q p (λ b. cond b (loan+ (first + q * page) k (atPages first page l)) (loan (first + q * page) j ∷ amend (first + p * page) k (atPages first page l))
         ≡ atPages first page (cond b (loan+ q k l) (loan q j ∷ amend p k l)))
-        (λ x. amend-here q k l) (λ x. ap (λ (s : List Loan). loan (first + q * page) j ∷ s) (amend-at p k l)))
+        (λ x. amend-here q k l) (λ x. ap (λ (s : List Loan). loan (first + q * page) j ∷ s) (amend-address p k l)))

@@ -26,7 +26,7 @@ use Rattle.manager.specs.declared.Waiter.{Waiter}
 use Rattle.trace.specs.Receipts.{Receipts, Wait, unit, Within, Distinct}
 use Rattle.trace.specs.Claims.{waiterOf, waitersOf}
 use Rattle.trace.proofs.Invariant.{WaitIs, AllWaits, tasksOf}
-use Rattle.trace.proofs.Loans.Addresses.{none-at}
+use Rattle.trace.proofs.Loans.Addresses.{address-none}
 use Rattle.trace.proofs.Loans.Words.{loansOf}
 use Rattle.trace.proofs.Recover.Region.{entryOf, slotEntry, unit-same, region-parts}
 
@@ -168,7 +168,7 @@ module _ (m : List ℕ) (d : Manager) (t : Receipts) (entries : (id : ℕ) → t
       record {
         entry = entryOf m r;
         found = entries (w .region) ∙ rw (p .alive);
-        lending = λ n. some-loan 0 (segments m r) (p .lending) (none-at (baseOf r) (r .page) (loansOf 0 (segments m r)) n);
+        lending = λ n. some-loan 0 (segments m r) (p .lending) (address-none (baseOf r) (r .page) (loansOf 0 (segments m r)) n);
         task-some = pos (w .task) (eqb-false (w .task) 0 f);
         task-most = p .task-most;
         size-some = p .size-some;

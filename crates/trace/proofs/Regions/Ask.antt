@@ -18,7 +18,7 @@ use Rattle.trace.specs.Receipts.{Receipts, RegionEntry, unit, pagesIn, f
 use Rattle.trace.specs.Replies.{informationIn}
 use Rattle.trace.proofs.Invariant.{regionFor, RegionIs, Inv}
 use Rattle.trace.proofs.Regions.Checks.{Kept, kept-words, kept-checked}
-use Rattle.trace.proofs.Loans.Addresses.{pages-at}
+use Rattle.trace.proofs.Loans.Addresses.{address-pages}
 use Rattle.trace.proofs.Regions.Live.{law, map-drawing}
 use Rattle.trace.proofs.Regions.Queue.{sound-inv}
 
@@ -66,7 +66,7 @@ information-is m e is =
     let w = map-drawing m e is in
     let frees = runs (pagesIn e) 0 (pageLoans e) in
     let helds = loanPages (e .loans) in
-    let same : loanPages (pageLoans e) ≡ helds = sym (ap loanPages (is .placed) ∙ pages-at (firstIn e) (unit e) (pageLoans e)) in
+    let same : loanPages (pageLoans e) ≡ helds = sym (ap loanPages (is .placed) ∙ address-pages (firstIn e) (unit e) (pageLoans e)) in
     ap (λ (l : List ℕ). informationOf (unit e) (freeSizes (segments m (regionFor e))) l) (law (regionFor e) .held-pages w ∙ same)
     ∙ ap (λ (l : List ℕ). informationOf (unit e) l helds) (law (regionFor e) .free-runs w)
     ∙ rw (most-is frees, sum-is frees, most-is helds, sum-is helds)

@@ -17,7 +17,7 @@ use Rattle.trace.specs.Receipts.{Receipts, RegionEntry, Wait, unit, firs
 use Rattle.trace.specs.Replies.{waitsIn, arranged, behind, urgentThan}
 use Rattle.trace.proofs.Invariant.{atAddresses, lentPages, WaitIs, AllWaits, Waits, queueAt, queuesFrom}
 use Rattle.trace.proofs.Loans.Tests.{by-eqb, by-leb}
-use Rattle.trace.proofs.Loans.Addresses.{none-at}
+use Rattle.trace.proofs.Loans.Addresses.{address-none}
 use Rattle.trace.proofs.Queue.Order.{no-waits}
 use Rattle.trace.proofs.Queue.Tasks.{all-in, wait-moved, wait-same}
 use Rattle.trace.proofs.Regions.Picture.{put-here, put-else, lending}
@@ -115,7 +115,7 @@ module _ (t : Receipts) (id : ℕ) (e : RegionEntry) (q : t .regions id ≡ some
           let r : t .regions id ≡ some (a .entry) = subst (λ (j : ℕ). t .regions j ≡ some (a .entry)) s (a .found) in
           let g : a .entry ≡ e = cc in
           wait-moved t (lending id e l t) w (w .since) (atAddresses e l) a (rw (s, put-here id (some (lentPages l e)) (t .regions), g))
-          (λ (n : atAddresses e l ≡ []). h s (none-at (firstIn e) (unit e) l n)) (a .time)
+          (λ (n : atAddresses e l ≡ []). h s (address-none (firstIn e) (unit e) l n)) (a .time)
       go false f = wait-same t (lending id e l t) w a (put-else id (some (lentPages l e)) (t .regions) (w .id) (eqb-false (w .id) id f))
 
   all-lent : (ws : List Wait) → AllWaits t ws → (¬ (l ≡ [])) ⊎ (waitsIn id ws ≡ []) → AllWaits (lending id e l t) ws

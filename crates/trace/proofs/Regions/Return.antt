@@ -47,13 +47,13 @@ module _ (m : List ℕ) (d : Manager) (t : Receipts) (v : Inv m d t) (id a : ℕ
       pub rest-at : amend a 0 (e .loans) ≡ atAddresses e rest
       rest-at = amended-at e (regular m e (at .is)) a 0 (x .at)
 
-      abbrev mended : List ℕ
-      mended = withSegments m (regionFor e) (kind (regionFor e) .change (pageIn e a) 0 (segments m (regionFor e)))
+      abbrev released : List ℕ
+      released = withSegments m (regionFor e) (kind (regionFor e) .change (pageIn e a) 0 (segments m (regionFor e)))
 
       drawing : Drawing pages (pagesIn e) rest (kind (regionFor e) .change (pageIn e a) 0 (segments m (regionFor e)))
       drawing = law (regionFor e) .returned (map-drawing m e (at .is)) (pageIn e a) k (x .lent)
 
-      serving : Serving id e mended d (lending id e rest t) rest (queueOf id e t)
+      serving : Serving id e released d (lending id e rest t) rest (queueOf id e t)
       serving =
           record {
             picture = changed-map m d t (v .picture) id e q rest _ drawing;
@@ -63,7 +63,7 @@ module _ (m : List ℕ) (d : Manager) (t : Receipts) (v : Inv m d t) (id a : ℕ
             queue = refl;
           }
 
-      pub outcome : Outcome e rest (queueOf id e t) mended (onRegion id (giveBack a) t) (returning m d id a (regionFor e))
+      pub outcome : Outcome e rest (queueOf id e t) released (onRegion id (giveBack a) t) (returning m d id a (regionFor e))
       unfolding serve
       outcome = rw struck (served id e tasks _ d _ rest (queueOf id e t) serving (few-queue d t id e (v .waits) (region-ids m d t (v .picture)) q))
 
@@ -72,7 +72,7 @@ module _ (m : List ℕ) (d : Manager) (t : Receipts) (v : Inv m d t) (id a : ℕ
       unfolding note
       act-kept =
           kept-map (ReturnSegment id a) m d t v id e q (fromServed (returning m d id a (regionFor e)))
-          (only-trans _ _ m mended (returning m d id a (regionFor e) .memory) (changed-words m d t (v .picture) id e q rest _ drawing) (outcome .only))
+          (only-trans _ _ m released (returning m d id a (regionFor e) .memory) (changed-words m d t (v .picture) id e q rest _ drawing) (outcome .only))
           (outcome .inv)
 
   -- A RETURN KEEPS THE PICTURE
