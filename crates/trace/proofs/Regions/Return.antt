@@ -38,15 +38,17 @@ returning m d id a r = serve (withSegments m r (kind r .change (pageAt r a) 0 (s
 module _ (m : List ℕ) (d : Manager) (t : Receipts) (v : Inv m d t) (id a : ℕ) where
   module _ (e : RegionEntry) (q : t .regions id ≡ some e) (at : RegionAt m (regionOf d id) e) where
     module _ (k : ℕ) (x : Holds e a k) where
+      -- the loans that are left, by their pages and at their addresses
       abbrev rest : List Loan
       rest = amend (pageIn e a) 0 (pageLoans e)
-
-      struck : onRegion id (giveBack a) t ≡ lending id e rest t
-      struck = on-region id e t (giveBack a) rest q (ap (λ (l : List Loan). withLoans l e) (amended-at e (regular m e (at .is)) a 0 (x .at)))
 
       pub rest-at : amend a 0 (e .loans) ≡ atAddresses e rest
       rest-at = amended-at e (regular m e (at .is)) a 0 (x .at)
 
+      struck : onRegion id (giveBack a) t ≡ lending id e rest t
+      struck = on-region id e t (giveBack a) rest q (ap (λ (l : List Loan). withLoans l e) rest-at)
+
+      -- the memory before the queue is served, and its map
       abbrev released : List ℕ
       released = withSegments m (regionFor e) (kind (regionFor e) .change (pageIn e a) 0 (segments m (regionFor e)))
 
