@@ -32,5 +32,5 @@ module _ (m : List ℕ) (d : Manager) (t : Receipts) (v : Inv m d t) where
   unfolding tick every note afterTick
   keeps-tick =
       kept-checked Tick m d t v [] _ (sound-inv m d t v) refl (λ c.
-      kept-words Tick m d t v _ refl
+      kept-words Tick m t _ refl
       (rw noted (with-waits (any-queue m d t (afterTick d .waiters) (allLater (keep notDue (t .waits))) (v .picture)) (waits-tick d t (v .waits) ids))))

@@ -29,7 +29,7 @@ module _ (c : Call) (m : List ℕ) (d : Manager) (t : Receipts) (v : Inv m d t) 
 
   kept-answer : entered c n t ≡ t → Kept c m t answer
   unfolding note allNoticed
-  kept-answer e = kept-words c m d t v answer refl (rw e v)
+  kept-answer e = kept-words c m t answer refl (rw e v)
 
 -- THEY KEEP THE PICTURE
 module _ (m : List ℕ) (d : Manager) (t : Receipts) (v : Inv m d t) where

@@ -71,22 +71,22 @@ pub record Kept (c : Call) (m : List ℕ) (t : Receipts) (s : Result) : Type 0 w
   pub inv : Inv (s .memory) (s .manager) (note c (replyOf s) t)
   pub stays : Stays t (note c (replyOf s) t) m (s .memory)
 
+-- where it changes no word
+pub kept-words : (c : Call) (m : List ℕ) (t : Receipts) (s : Result) → s .memory ≡ m → Inv (s .memory) (s .manager) (note c (replyOf s) t) → Kept c m t s
+kept-words c m t s e v = record { inv = v; stays = λ w o h. ap (λ (l : List ℕ). getD l w 0) e }
+
 module _ (c : Call) (m : List ℕ) (d : Manager) (t : Receipts) (v : Inv m d t) where
   -- where it changes only the map of a live region
   pub kept-map : (id : ℕ) (e : RegionEntry) → t .regions id ≡ some e → (s : Result) → OnlyMap e m (s .memory)
       → Inv (s .memory) (s .manager) (note c (replyOf s) t) → Kept c m t s
   kept-map id e q s o v′ = record { inv = v′; stays = λ w h h′. map-stays m d t v id e q m (s .memory) o w h }
 
-  -- where it changes no word
-  pub kept-words : (s : Result) → s .memory ≡ m → Inv (s .memory) (s .manager) (note c (replyOf s) t) → Kept c m t s
-  kept-words s e v = record { inv = v; stays = λ w o h. ap (λ (l : List ℕ). getD l w 0) e }
-
   -- a refusal keeps it, with whatever value
   pub kept-refused : (s : Status) (n : ℕ) → refusing s ≡ true → Kept c m t (replied m d s n)
   kept-refused s n r =
       let a = not-true (isSuccess s) (and-first (not (isSuccess s)) (not (isWaiting s)) r) in
       let w = not-true (isWaiting s) (and-second (not (isSuccess s)) (not (isWaiting s)) r) in
-      kept-words (replied m d s n) refl (rw (note-other c m d t n s a w) v)
+      kept-words c m t (replied m d s n) refl (rw (note-other c m d t n s a w) v)
 
   -- a directive keeps it where its action does
   pub kept-checked : (cs : List Check) (act : Result) → sound m d ≡ true → every refuses cs ≡ true → (Passed cs → Kept c m t act)

@@ -60,7 +60,7 @@ module _ (m : List ℕ) (d : Manager) (t : Receipts) (v : Inv m d t) (id : ℕ) 
 
     act-kept : Kept (DeleteRegion id) m t (done m (withRegion d (slotOf id) noRegion) 0)
     act-kept =
-        kept-words (DeleteRegion id) m d t v (done m (withRegion d (slotOf id) noRegion) 0) refl
+        kept-words (DeleteRegion id) m t (done m (withRegion d (slotOf id) noRegion) 0) refl
         (rw (note-done (DeleteRegion id) m (withRegion d (slotOf id) noRegion) t 0 Successful refl)
         (with-waits picture (waits-put t id none d (withRegion d (slotOf id) noRegion) refl nobody (v .waits))))
 

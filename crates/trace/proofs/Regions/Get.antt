@@ -99,7 +99,7 @@ module _ (m : List ℕ) (d : Manager) (t : Receipts) (v : Inv m d t) (id size : 
       waits-kept : Passed (waitChecks d Yes task priority) → Kept asks m t (replied m (enqueue d waiter) Waiting 0)
       unfolding Passed enqueue
       waits-kept c =
-          kept-words asks m d t v (replied m (enqueue d waiter) Waiting 0) refl
+          kept-words asks m t (replied m (enqueue d waiter) Waiting 0) refl
           (rw (note-waiting asks m (enqueue d waiter) t 0 Waiting refl refl)
           (with-waits (any-queue m d t (enqueue d waiter .waiters) (t .waits ++ (entry ∷ [])) (v .picture))
           (rw (new-waiter task id size priority ticks) at (wait-inv m d t v entry (entry-is c) (c .1 .1 .1 .1 .0)))))
