@@ -1,0 +1,74 @@
+-- Reading and writing a held segment. Assumes nothing.
+use mathlib.Core.Path.{_≡_, refl, sym, _∙_}
+use mathlib.Core.Bool.{Bool, cond, not, _&&_, _||_, false≢true}
+use mathlib.Core.List.{List, [], _∷_}
+use Prim.Native.Nat.{ℕ, _/_, _≤_}
+use native.Mathlib.Omega.{arith}
+use lib.ListN.{length, take, drop, length-take}
+use lib.Seq.{take-all, take-take}
+use lib.Dec.{eqb}
+use borrow.Author.Tests.{not-true}
+use Rattle.manager.specs.Lists.{every, some}
+use Rattle.manager.specs.Lists.Laws.{and-first, and-second}
+use Rattle.manager.specs.Record.{regionOf}
+use Rattle.manager.specs.Status.{numberOf}
+use Rattle.manager.specs.Queue.Parts.{by-case}
+use Rattle.manager.specs.Region.{dead, heldAt}
+use Rattle.manager.specs.Sound.{sound}
+use Rattle.manager.specs.Access.{wordsIn, readSegment, writeSegment}
+use Rattle.manager.specs.declared.Manager.{Manager}
+use Rattle.manager.specs.declared.Status.{Status}
+use Rattle.manager.specs.declared.Status.the-variants.{Successful, InternalError}
+use Rattle.effects.specs.Effects.{WriteEffects, ReadEffects}
+use Rattle.effects.proofs.Answers.{by-answer, other-status, unchanged, rightly}
+use Rattle.effects.proofs.Words.{stored}
+
+module _ (m : List ℕ) (d : Manager) (id address : ℕ) where
+  module _ (first : ℕ) (words : List ℕ) where
+    -- a check's status: one of a write's, not 25
+    abbrev fits : Status → Bool
+    fits s = some (eqb (numberOf s)) (0 ∷ 4 ∷ 8 ∷ 9 ∷ 25 ∷ []) && not (eqb (numberOf s) 25)
+
+    pub write-effects : WriteEffects m d address first words (writeSegment m d id address first words)
+    unfolding writeSegment every some
+    write-effects =
+        by-answer (WriteEffects m d address first words) fits m d _ _ refl
+        (λ e. record { numbered = refl; checks = (λ f. e, λ f. refl); refusal = λ f. refl; keeps = refl; only = unchanged })
+        (λ ok s h.
+        record {
+          numbered = and-first (some (eqb (numberOf s)) (0 ∷ 4 ∷ 8 ∷ 9 ∷ 25 ∷ [])) _ h;
+          checks = rightly m d s ok (other-status s InternalError (not-true _ (and-second (some (eqb (numberOf s)) (0 ∷ 4 ∷ 8 ∷ 9 ∷ 25 ∷ [])) _ h)));
+          refusal = λ f. refl;
+          keeps = refl;
+          only = unchanged;
+        })
+        (λ ok p.
+        record {
+          numbered = refl;
+          checks = rightly m d Successful ok (other-status Successful InternalError refl);
+          refusal = λ f. absurd (false≢true f);
+          keeps = refl;
+          only = stored m _ words;
+        })
+
+  -- a read hands back a front part of the memory from the address on
+  front-part : (n : ℕ) (l : List ℕ) → take n l ≡ take (length (take n l)) l
+  front-part n l =
+      let h : length (take n l) ≤ n = omega (arith, length-take n l) in
+      sym (take-all (length (take n l)) (take n l) (omega arith)) ∙ take-take (length (take n l)) n l h
+
+  abbrev FrontPart : List ℕ → Type 0
+  FrontPart ws = ws ≡ take (length ws) (drop (address / 4) m)
+
+  pub read-effects : ReadEffects m d address (readSegment m d id address)
+  unfolding readSegment
+  read-effects =
+      let r = regionOf d id in
+      record {
+        part =
+            by-case (not (sound m d) || (dead r || eqb (heldAt m r address) 0))
+            (λ b. FrontPart (cond b [] (take (wordsIn m d id address) (drop (address / 4) m))))
+            (λ e. refl)
+            (λ e. front-part (wordsIn m d id address) (drop (address / 4) m));
+        checks = λ e. rw e;
+      }

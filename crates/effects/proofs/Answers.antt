@@ -1,0 +1,115 @@
+-- ONE LAW FOR ALL DIRECTIVES: unsound records are answered 25, else one of the checks refuses, else the directive acts. The first two
+-- leave the memory and the record as they were, so that of a directive only its action is left to show. Assumes nothing.
+use mathlib.Core.Path.{_≡_, refl, sym, _∙_, subst}
+use mathlib.Core.Bool.{Bool, true, false, cond, not, _&&_, false≢true}
+use mathlib.Core.List.{List, [], _∷_}
+use mathlib.Core.Logic.{_↔_}
+use Prim.Native.Nat.{ℕ}
+use lib.Dec.{eqb}
+use borrow.Author.Tests.{eqb-true, eq-eqb, not-true}
+use Rattle.manager.specs.Lists.{every, some}
+use Rattle.manager.specs.Lists.Laws.{and-first, and-second}
+use Rattle.manager.specs.Queue.Parts.{by-case}
+use Rattle.manager.specs.Status.{numberOf}
+use Rattle.manager.specs.Result.{Result, Check, checked, replied, refused}
+use Rattle.manager.specs.Regions.{answered}
+use Rattle.manager.specs.Sound.{sound}
+use Rattle.manager.specs.Partition.Distinct.{On}
+use Rattle.manager.specs.declared.Manager.{Manager}
+use Rattle.manager.specs.declared.Call.{Call}
+use Rattle.manager.specs.declared.Status.{Status}
+use Rattle.manager.specs.declared.Status.the-variants.{Successful, InternalError, Waiting}
+use Rattle.effects.specs.Effects.{answersOf, refusedValue, Bookkeeping, Only, Whole, CallEffects}
+
+-- every check of a list passes
+unfoldable pub Passed : List Check → Type 0
+Passed [] = Unit {0}
+Passed (c ∷ cs) = (c .fails ≡ false) × Passed cs
+
+-- a list of checks: one of them refuses with a status that passes the test t, or all pass
+by-checks : (P : Result → Type 0) (t : Status → Bool) (cs : List Check) (refuse : Status → Result) (act : Result)
+    → every (λ c. t (c .status)) cs ≡ true → ((s : Status) → t s ≡ true → P (refuse s)) → (Passed cs → P act) → P (checked cs refuse act)
+unfolding checked Passed every
+by-checks P t [] refuse act h f g = g tt
+by-checks P t (c ∷ cs) refuse act h f g =
+    by-case (c .fails) (λ b. P (cond b (refuse (c .status)) (checked cs refuse act)))
+    (λ e. f (c .status) (and-first (t (c .status)) (every (λ k. t (k .status)) cs) h))
+    (λ e. by-checks P t cs refuse act (and-second (t (c .status)) (every (λ k. t (k .status)) cs) h) f (λ p. g (e, p)))
+
+-- and in front of them the check of the records
+pub by-answer : (P : Result → Type 0) (t : Status → Bool) (m : List ℕ) (d : Manager) (cs : List Check) (act : Result)
+    → every (λ c. t (c .status)) cs ≡ true → (sound m d ≡ false → P (refused m d InternalError))
+    → (sound m d ≡ true → (s : Status) → t s ≡ true → P (refused m d s)) → (sound m d ≡ true → Passed cs → P act)
+    → P (answered m d cs act)
+unfolding checked
+by-answer P t m d cs act h f g k =
+    by-case (sound m d) (λ b. P (cond (not b) (refused m d InternalError) (checked cs (refused m d) act)))
+    (λ e. by-checks P t cs (refused m d) act h (g e) (k e)) f
+
+-- a status by its number
+pub other-status : (s t : Status) → eqb (numberOf s) (numberOf t) ≡ false → ¬ (s ≡ t)
+other-status s t n e =
+    let f : eqb (numberOf t) (numberOf t) ≡ false = subst (λ (u : Status). eqb (numberOf u) (numberOf t) ≡ false) e n in
+    false≢true (sym f ∙ eqb-same (numberOf t))
+  where
+    eqb-same : (n : ℕ) → eqb n n ≡ true
+    eqb-same n = eq-eqb n n refl
+
+-- nothing is written
+pub unchanged : {W : ℕ → Type 0} {m : List ℕ} → Only W m m
+unchanged = record { size = refl; same = λ j h. refl }
+
+-- of sound records an answer other than 25 is right
+pub rightly : (m : List ℕ) (d : Manager) (s : Status) → sound m d ≡ true → ¬ (s ≡ InternalError) → (s ≡ InternalError) ↔ (sound m d ≡ false)
+rightly m d s ok n = (λ e. absurd (n e), λ e. absurd (false≢true (sym e ∙ ok)))
+
+module _ (m : List ℕ) (d : Manager) (c : Call) where
+  -- a check's status: one of the directive's, neither 0 nor 255 nor 25, and its value is 0
+  abbrev pub fits : Status → Bool
+  fits s = some (eqb (numberOf s)) (answersOf c) && (not (eqb (numberOf s) 255) && (not (eqb (numberOf s) 25) && eqb (refusedValue m d c s) 0))
+
+  unsound : On 25 (answersOf c) → sound m d ≡ false → CallEffects m d c (refused m d InternalError)
+  unsound l e =
+      record {
+        numbered = l;
+        checks = (λ f. e, λ f. refl);
+        refusal = λ f. refl;
+        waits = λ f. absurd (other-status InternalError Waiting refl f);
+        only = λ w. unchanged;
+      }
+
+  -- with any status of the directive's and a value that is right
+  pub refuses : sound m d ≡ true → (s : Status) (v : ℕ) → On (numberOf s) (answersOf c) → eqb (numberOf s) 255 ≡ false → eqb (numberOf s) 25 ≡ false
+      → refusedValue m d c s ≡ v → CallEffects m d c (replied m d s v)
+  refuses ok s v l a b e =
+      record {
+        numbered = l;
+        checks = rightly m d s ok (other-status s InternalError b);
+        refusal = λ f. rw e;
+        waits = λ f. absurd (other-status s Waiting a f);
+        only = λ w. unchanged;
+      }
+
+  fails : sound m d ≡ true → (s : Status) → fits s ≡ true → CallEffects m d c (refused m d s)
+  fails ok s h =
+      let r = and-second (some (eqb (numberOf s)) (answersOf c)) _ h in
+      let u = and-second (not (eqb (numberOf s) 255)) _ r in
+      refuses ok s 0 (and-first (some (eqb (numberOf s)) (answersOf c)) _ h) (not-true _ (and-first (not (eqb (numberOf s) 255)) _ r))
+      (not-true _ (and-first (not (eqb (numberOf s) 25)) _ u)) (eqb-true (refusedValue m d c s) 0 (and-second (not (eqb (numberOf s) 25)) _ u))
+
+  -- an answer of 0: it writes no other words
+  pub acts : sound m d ≡ true → (s : Result) → s .status ≡ Successful → On 0 (answersOf c) → (Whole d → Only (Bookkeeping m d s c) m (s .memory))
+      → CallEffects m d c s
+  acts ok s e l h =
+      record {
+        numbered = rw e l;
+        checks = rightly m d (s .status) ok (other-status (s .status) InternalError (rw e));
+        refusal = λ f. absurd (false≢true (rw e at f));
+        waits = λ f. absurd (other-status (s .status) Waiting (rw e) f);
+        only = h;
+      }
+
+  -- EVERY DIRECTIVE: its checks have statuses of its own, and its action is right
+  pub effects : (cs : List Check) (act : Result) → On 25 (answersOf c) → every (λ k. fits (k .status)) cs ≡ true
+      → (sound m d ≡ true → Passed cs → CallEffects m d c act) → CallEffects m d c (answered m d cs act)
+  effects cs act l h k = by-answer (CallEffects m d c) fits m d cs act h (unsound l) fails k
