@@ -1,0 +1,5 @@
+pub mod Refute
+pub mod Calls
+pub mod Wrong
+pub mod Answers
+pub mod Effects

@@ -1,0 +1,64 @@
+-- How a wrong manager is refuted: by one list of calls over a memory of 64 words that the checker computes. Demand 3 says that every call
+-- is answered as the receipts say; so along any list of calls the answers are those that the receipts give, and a manager is refuted by a
+-- list along which one isn't (`differs`). Demand 1 is refuted by one call over one memory and record. Assumes nothing.
+use mathlib.Core.Path.{_≡_, refl, sym, ap, _∙_}
+use mathlib.Core.Bool.{Bool, true, false, _&&_, false≢true}
+use mathlib.Core.List.{List, [], _∷_, _++_}
+use Prim.Native.Nat.{ℕ}
+use native.Mathlib.Omega.{arith}
+use lib.ListN.{length, replicate}
+use borrow.Author.Tests.{eq-eqb}
+use Rattle.manager.specs.Status.{numberOf}
+use Rattle.manager.specs.Examples.{same, told}
+use Rattle.manager.specs.Perform.{Implementation}
+use Rattle.manager.specs.declared.Information.{Information}
+use Rattle.trace.specs.Receipts.{Reply, replyOf}
+use Rattle.trace.specs.Replies.{byReceipts, writeByReceipts, readByReceipts}
+use Rattle.trace.specs.Trace.{Ask, call, read, write, State, start, after, Runs, end, ask}
+use Rattle.trace.specs.Claims.{Claims, Demand3}
+
+-- an answer as numbers: status, value, the six values of an information, and the notices
+abbrev informed : Information → List ℕ
+informed i = i .«free_count» ∷ i .«free_largest» ∷ i .«free_total» ∷ i .«held_count» ∷ i .«held_largest» ∷ i .«held_total» ∷ []
+
+abbrev numbers : Reply → List ℕ
+numbers r = numberOf (r .status) ∷ r .value ∷ (informed (r .information) ++ told (r .notices))
+
+-- what a manager answers, and what the receipts say that it answers
+abbrev answer : Implementation → State → Ask → List ℕ
+answer i s (call c) = numbers (replyOf (i .call (s .memory) (s .manager) c))
+answer i s (read id address) = i .read (s .memory) (s .manager) id address
+answer i s (write id address first words) = numbers (replyOf (i .write (s .memory) (s .manager) id address first words))
+
+abbrev expected : State → Ask → List ℕ
+expected s (call c) = numbers (byReceipts (length (s .memory)) (s .receipts) c)
+expected s (read id address) = readByReceipts (s .memory) (s .receipts) id address
+expected s (write id address first words) = numbers (writeByReceipts (s .receipts) id address first words)
+
+-- the two agree along a list of calls
+abbrev pub agrees : Implementation → List Ask → State → Bool
+agrees i [] s = true
+agrees i (a ∷ l) s = same (answer i s a) (expected s a) && agrees i l (after i a s)
+
+-- a memory of 64 words
+abbrev pub words : List ℕ
+words = replicate 64 0
+
+same-refl : (l : List ℕ) → same l l ≡ true
+same-refl [] = refl
+same-refl (x ∷ l) = rw (eq-eqb x x refl) (same-refl l)
+
+module _ (i : Implementation) where
+  as-said : (s : State) → Claims i s → (a : Ask) → answer i s a ≡ expected s a
+  as-said s h (call c) = ap numbers (h .replies c)
+  as-said s h (read id address) = h .reads id address
+  as-said s h (write id address first words) = ap numbers (h .replies-write id address first words)
+
+  along : (l : List Ask) (s : State) → ((t : State) → Runs i s t → Claims i t) → agrees i l s ≡ true
+  along [] s h = refl
+  along (a ∷ l) s h =
+      rw (as-said s (h s end) a, same-refl (expected s a)) (along l (after i a s) (λ t r. h t (ask a r)))
+
+  -- A MANAGER OF DEMAND 3 ANSWERS AS THE RECEIPTS SAY along every list; so one that doesn't is none
+  pub differs : (l : List Ask) → agrees i l (start words) ≡ false → ¬ Demand3 i
+  differs l e h = false≢true (sym e ∙ along l (start words) (h words (omega arith) (omega arith)))
