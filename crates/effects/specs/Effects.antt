@@ -77,8 +77,9 @@ MapWord r j = Span (mapAt r) (pagesOf r) j
 abbrev pub LinkWord : List ℕ → Partition → ℕ → Type 0
 LinkWord m p j = (a : ℕ) × (isFree m p a ≡ true) × ((j ≡ a / 4) ⊎ (j ≡ a / 4 + 1))
 
--- THE BOOKKEEPING WORDS of the object that a call names: a region's map; the links of the buffers on a partition's chain, before a get,
--- and after a return. A create names the object that its answer has the id of. The other calls have none
+-- THE BOOKKEEPING WORDS of the object that a call names: a region's map; the links of the buffers on a partition's chain, as it is before
+-- a get, and after a return or a create. A create names the object whose id it answers, as the record has it then. The other calls have
+-- none
 abbrev pub Bookkeeping : List ℕ → Manager → Result → Call → ℕ → Type 0
 Bookkeeping m d s (CreateRegion name start bytes page order) j = MapWord (regionOf (s .manager) (s .value)) j
 Bookkeeping m d s (GetSegment id size wait task priority ticks) j = MapWord (regionOf d id) j
@@ -111,11 +112,11 @@ pub record CallEffects (m : List ℕ) (d : Manager) (c : Call) (s : Result) : Ty
   pub numbered : On (numberOf (s .status)) (answersOf c)
   -- it checks its records itself: 25 exactly when they are not sound
   pub checks : (s .status ≡ InternalError) ↔ (sound m d ≡ false)
-  -- a refusal changes no word and no field; it has no information and no notice
+  -- a refusal changes no word and no field; it has no notice, no information, and the value 0 or that old length
   pub refusal : refusing (s .status) ≡ true → s ≡ replied m d (s .status) (refusedValue m d c (s .status))
   -- 255: the task now waits; value 0, no notice, and only the queue changes
   pub waits : s .status ≡ Waiting → s ≡ replied m (withQueue d (s .manager .waiters)) Waiting 0
-  -- only its own bookkeeping words are ever written
+  -- only its own bookkeeping words are ever written: the memory keeps its length and every other word, whatever the answer
   pub only : Whole d → Only (Bookkeeping m d s c) m (s .memory)
 
 -- WHAT A WRITE OF A HELD SEGMENT MAY DO: the same, and the words that it writes are those that it names

@@ -1,6 +1,6 @@
--- WRONG ANSWERS: 30 managers, each wrong in one rule, and a list of calls for each along which an answer isn't that of the receipts; so
--- none of them meets demand 3. The lists are over a region of 3 pages of 64 bytes, at 64, 128 and 192, or over a partition of 3 buffers
--- of 16 bytes, at 16, 32 and 48. Assumes nothing.
+-- WRONG ANSWERS: the managers 1 to 31, each of which breaks one rule of document 01 (those that it shuts out by name and those of its slips
+-- among them), and for each a list of calls of which the last is not answered as the receipts say. So none of them meets demand 3. The
+-- managers 32 to 45, which don't meet demand 1, are in Effects. Assumes nothing.
 use mathlib.Core.Path.{refl}
 use mathlib.Core.Bool.{Bool, true, cond, not}
 use mathlib.Core.List.{List, [], _∷_, reverse}
@@ -29,12 +29,12 @@ use Rattle.manager.specs.declared.Status.the-variants.{InvalidName, InvalidAddr
 use Rattle.trace.specs.Trace.{Ask, call, read, write}
 use Rattle.trace.specs.Claims.{Demand3}
 use Rattle.refuted.proofs.Refute.{differs}
-use Rattle.refuted.proofs.Calls.{create, get, wait, return, ident, delete, tick-once, divide, buffer, back, everything}
-use Rattle.refuted.proofs.Wrong.{region-create, region-ident, region-delete, segment-get, segment-return, segment-resize, region-information, buffer-get, buffer-return, clock-tick, asked, calling, but, valued, noticing, keeping, emptied}
+use Rattle.refuted.proofs.Calls.{create, get, wait, return, ident, delete, clock, divide, buffer, back, everything}
+use Rattle.refuted.proofs.Wrong.{region-create, region-ident, region-delete, segment-get, segment-return, segment-resize, region-information, buffer-get, buffer-return, clock-tick, asked, answering, but, valued, noticing, keeping, emptied}
 
 -- 1. EVERY CALL IS REFUSED WITH 13, creates included
 abbrev refusesAll : Implementation
-refusesAll = calling λ m d c a. refused m d Unsatisfied
+refusesAll = answering λ m d c a. refused m d Unsatisfied
 
 not-refusesAll : ¬ Demand3 refusesAll
 unfolding everything
@@ -83,16 +83,16 @@ unfolding everything
 not-comparesTotal = differs comparesTotal (create ∷ get 64 ∷ get 64 ∷ get 64 ∷ return 64 ∷ return 192 ∷ get 128 ∷ []) refl
 
 -- 6. A REQUEST IS ROUNDED UP WITH A SUM THAT WRAPS at 2^32
-abbrev wraps : Implementation
-wraps =
+abbrev wrappingSum : Implementation
+wrappingSum =
     but segment-get 8 λ m d c a.
     let r = regionOf d (asked c .id) in
     let k = (asked c .number + (r .page - 1)) % 4294967296 / r .page in
     onPlace (placed m r k) (λ p. done (taken m r k) d (addressOf r p)) a
 
-not-wraps : ¬ Demand3 wraps
+not-wrappingSum : ¬ Demand3 wrappingSum
 unfolding everything
-not-wraps = differs wraps (create ∷ get 4294967295 ∷ []) refl
+not-wrappingSum = differs wrappingSum (create ∷ get 4294967295 ∷ []) refl
 
 -- 7. NOBODY EVER WAITS: 13 for 255
 abbrev neverWaits : Implementation
@@ -111,12 +111,12 @@ unfolding everything
 not-waitsBehind = differs waitsBehind (create ∷ get 64 ∷ wait 1 192 0 ∷ get 64 ∷ []) refl
 
 -- 9. A RETURN ANSWERS 0 AND CHANGES NOTHING
-abbrev idleReturn : Implementation
-idleReturn = but segment-return 0 λ m d c a. done m d 0
+abbrev returnWithoutEffect : Implementation
+returnWithoutEffect = but segment-return 0 λ m d c a. done m d 0
 
-not-idleReturn : ¬ Demand3 idleReturn
+not-returnWithoutEffect : ¬ Demand3 returnWithoutEffect
 unfolding everything
-not-idleReturn = differs idleReturn (create ∷ get 192 ∷ return 64 ∷ get 64 ∷ []) refl
+not-returnWithoutEffect = differs returnWithoutEffect (create ∷ get 192 ∷ return 64 ∷ get 64 ∷ []) refl
 
 -- 10. A RETURN JOINS NO NEIGHBOURS: it takes the mark off the segment's first word
 abbrev unjoined : Implementation
@@ -161,12 +161,12 @@ unfolding everything
 not-servesNobody = differs servesNobody (create ∷ get 192 ∷ wait 1 64 0 ∷ return 64 ∷ []) refl
 
 -- 14. A RETURN STRIKES THE FIRST WAITER, and serves the others
-abbrev strikesFirst : Implementation
-strikesFirst = but segment-return 0 λ m d c a. perform m (dequeue d 0) c
+abbrev dropsFirstWaiter : Implementation
+dropsFirstWaiter = but segment-return 0 λ m d c a. perform m (dequeue d 0) c
 
-not-strikesFirst : ¬ Demand3 strikesFirst
+not-dropsFirstWaiter : ¬ Demand3 dropsFirstWaiter
 unfolding everything
-not-strikesFirst = differs strikesFirst (create ∷ get 192 ∷ wait 1 64 0 ∷ wait 2 64 0 ∷ return 64 ∷ []) refl
+not-dropsFirstWaiter = differs dropsFirstWaiter (create ∷ get 192 ∷ wait 1 64 0 ∷ wait 2 64 0 ∷ return 64 ∷ []) refl
 
 -- 15. A SMALL WAITER IS SERVED PAST A FIRST ONE WHO DOESN'T FIT
 abbrev nobodyTold : List Notice → Bool
@@ -203,23 +203,23 @@ tickClears = but clock-tick 0 λ m d c a. done m (emptied d) 0
 
 not-tickClears : ¬ Demand3 tickClears
 unfolding everything
-not-tickClears = differs tickClears (create ∷ get 192 ∷ wait 1 64 2 ∷ tick-once ∷ tick-once ∷ []) refl
+not-tickClears = differs tickClears (create ∷ get 192 ∷ wait 1 64 2 ∷ clock ∷ clock ∷ []) refl
 
 -- 18. TIME RUNS OUT AND NOBODY IS TOLD
-abbrev silentTick : Implementation
-silentTick = but clock-tick 0 λ m d c a. noticing a []
+abbrev tickWithoutNotice : Implementation
+tickWithoutNotice = but clock-tick 0 λ m d c a. noticing a []
 
-not-silentTick : ¬ Demand3 silentTick
+not-tickWithoutNotice : ¬ Demand3 tickWithoutNotice
 unfolding everything
-not-silentTick = differs silentTick (create ∷ get 192 ∷ wait 1 64 1 ∷ tick-once ∷ []) refl
+not-tickWithoutNotice = differs tickWithoutNotice (create ∷ get 192 ∷ wait 1 64 1 ∷ clock ∷ []) refl
 
 -- 19. A RESIZE CHANGES NOTHING
-abbrev idleResize : Implementation
-idleResize = but segment-resize 0 λ m d c a. done m d (a .value)
+abbrev resizeWithoutEffect : Implementation
+resizeWithoutEffect = but segment-resize 0 λ m d c a. done m d (a .value)
 
-not-idleResize : ¬ Demand3 idleResize
+not-resizeWithoutEffect : ¬ Demand3 resizeWithoutEffect
 unfolding everything
-not-idleResize = differs idleResize (create ∷ get 64 ∷ call (ResizeSegment 1 64 128) ∷ call (SegmentSize 1 64) ∷ []) refl
+not-resizeWithoutEffect = differs resizeWithoutEffect (create ∷ get 64 ∷ call (ResizeSegment 1 64 128) ∷ call (SegmentSize 1 64) ∷ []) refl
 
 -- 20. INFORMATION IS INVENTED
 abbrev inventedInformation : Implementation
@@ -256,12 +256,12 @@ unfolding everything
 not-says25 = differs says25 (create ∷ delete ∷ []) refl
 
 -- 24. A DELETED REGION STAYS
-abbrev stays : Implementation
-stays = but region-delete 0 λ m d c a. done m d 0
+abbrev deletedStays : Implementation
+deletedStays = but region-delete 0 λ m d c a. done m d 0
 
-not-stays : ¬ Demand3 stays
+not-deletedStays : ¬ Demand3 deletedStays
 unfolding everything
-not-stays = differs stays (create ∷ delete ∷ ident ∷ []) refl
+not-deletedStays = differs deletedStays (create ∷ delete ∷ ident ∷ []) refl
 
 -- 25. NO BUFFER IS EVER FREE
 abbrev noBuffer : Implementation
@@ -283,40 +283,40 @@ not-oneBuffer = differs oneBuffer (divide ∷ buffer ∷ buffer ∷ []) refl
 abbrev toFront : Partition → ℕ → Partition
 toFront p a = record { name = p .name; start = p .start; length = p .length; size = p .size; front = a; rear = p .rear; free = p .free + 1 }
 
-abbrev lastIn : Implementation
-lastIn =
+abbrev lastReturnedFirst : Implementation
+lastReturnedFirst =
     but buffer-return 0 λ m d c a.
     let p = partitionOf d (asked c .id) in
     let at = asked c .number in
     done (link (setBefore m (p .front) at) at (p .front) 0) (withPartition d (slotOf (asked c .id)) (toFront p at)) 0
 
-not-lastIn : ¬ Demand3 lastIn
+not-lastReturnedFirst : ¬ Demand3 lastReturnedFirst
 unfolding everything
-not-lastIn = differs lastIn (divide ∷ buffer ∷ back 16 ∷ buffer ∷ []) refl
+not-lastReturnedFirst = differs lastReturnedFirst (divide ∷ buffer ∷ back 16 ∷ buffer ∷ []) refl
 
 -- 28. NO BUFFER IS TAKEN BACK
-abbrev refusesBack : Implementation
-refusesBack = but buffer-return 0 λ m d c a. refused m d InvalidAddress
+abbrev refusesReturns : Implementation
+refusesReturns = but buffer-return 0 λ m d c a. refused m d InvalidAddress
 
-not-refusesBack : ¬ Demand3 refusesBack
+not-refusesReturns : ¬ Demand3 refusesReturns
 unfolding everything
-not-refusesBack = differs refusesBack (divide ∷ buffer ∷ back 16 ∷ []) refl
+not-refusesReturns = differs refusesReturns (divide ∷ buffer ∷ back 16 ∷ []) refl
 
 -- 29. A BUFFER IS TAKEN BACK TWICE
-abbrev takesTwice : Implementation
-takesTwice = but buffer-return 9 λ m d c a. done m d 0
+abbrev returnedTwice : Implementation
+returnedTwice = but buffer-return 9 λ m d c a. done m d 0
 
-not-takesTwice : ¬ Demand3 takesTwice
+not-returnedTwice : ¬ Demand3 returnedTwice
 unfolding everything
-not-takesTwice = differs takesTwice (divide ∷ buffer ∷ back 16 ∷ back 16 ∷ []) refl
+not-returnedTwice = differs returnedTwice (divide ∷ buffer ∷ back 16 ∷ back 16 ∷ []) refl
 
 -- 30. EVERY READ IS EMPTY
-abbrev readsNothing : Implementation
-readsNothing = record { call = perform; read = λ m d id address. []; write = writeSegment }
+abbrev emptyReads : Implementation
+emptyReads = record { call = perform; read = λ m d id address. []; write = writeSegment }
 
-not-readsNothing : ¬ Demand3 readsNothing
+not-emptyReads : ¬ Demand3 emptyReads
 unfolding everything
-not-readsNothing = differs readsNothing (create ∷ get 64 ∷ read 1 64 ∷ []) refl
+not-emptyReads = differs emptyReads (create ∷ get 64 ∷ read 1 64 ∷ []) refl
 
 -- 31. EVERY WRITE IS REFUSED
 abbrev refusesWrites : Implementation

@@ -1,6 +1,6 @@
 -- The calls of the lists: over a region of 3 pages of 64 bytes, at 64, 128 and 192, and over a partition of 3 buffers of 16 bytes, at 16, 32
 -- and 48. Assumes nothing.
-use Prim.Native.Nat.{ℕ, _+_, _-_}
+use Prim.Native.Nat.{ℕ, _+_}
 use Rattle.arith.specs.Layout.{largest, pageCount}
 use Rattle.manager.specs.Result.{checked}
 use Rattle.manager.specs.Lists.{every, some, indexOf, pairwise, adjacent}
@@ -41,8 +41,8 @@ ident = call (IdentRegion 1)
 abbrev pub delete : Ask
 delete = call (DeleteRegion 1)
 
-abbrev pub tick-once : Ask
-tick-once = call Tick
+abbrev pub clock : Ask
+clock = call Tick
 
 abbrev pub divide : Ask
 divide = call (CreatePartition 1 16 48 16)
@@ -53,7 +53,23 @@ buffer = call (GetBuffer 1)
 abbrev pub back : ℕ → Ask
 back address = call (ReturnBuffer 1 address)
 
--- all that a list computes with
+-- ALL THAT A LIST COMPUTES WITH: maps and checks of lists; the queue, the chain and the sound record; the directives; the receipts
+unfoldable pub maps : Unit {0}
+unfolding largest pageCount checked every some indexOf pairwise adjacent draw decode soundFrom soundMap freeSizes heldSizes largestOf sumOf total free+ lead rest placeFrom take heldFrom reachFrom changeFrom
+maps = tt
+
+unfoldable pub records : Unit {0}
+unfolding regionAreas partitionAreas goesBefore push insert removeAt enqueue dequeue staying leaving afterTick serveUpTo serve follow linked linkAll afterGet afterReturn liveRegion livePartition soundRegion soundPartition soundWaiter soundPlace soundQueue sound
+records = tt
+
+unfoldable pub directives : Unit {0}
+unfolding createRegion identRegion deleteRegion getSegment returnSegment segmentSize resizeSegment regionInformation tick createPartition identPartition deletePartition getBuffer returnBuffer readSegment writeSegment perform
+directives = tt
+
+unfoldable pub receipts : Unit {0}
+unfolding enter amend loanPages runs most sum buffersFrom strike allLater without waitOf allNoticed note waitsIn behind arranged dueIn dueFrom decided firstId anyId pagesAt mostPagesAt lowestRun grantsIn waitsAlready listed byReceipts after
+receipts = tt
+
 unfoldable pub everything : Unit {0}
-unfolding largest pageCount checked every some indexOf pairwise adjacent draw decode soundFrom soundMap freeSizes heldSizes largestOf sumOf total free+ lead rest placeFrom take heldFrom reachFrom changeFrom regionAreas partitionAreas goesBefore push insert removeAt enqueue dequeue staying leaving afterTick serveUpTo serve follow linked linkAll afterGet afterReturn liveRegion livePartition soundRegion soundPartition soundWaiter soundPlace soundQueue sound createRegion deleteRegion identRegion getSegment returnSegment segmentSize resizeSegment regionInformation tick createPartition identPartition deletePartition getBuffer returnBuffer readSegment writeSegment perform enter amend loanPages runs most sum buffersFrom strike allLater without waitOf allNoticed note waitsIn behind arranged dueIn dueFrom decided firstId anyId pagesAt mostPagesAt lowestRun grantsIn waitsAlready listed byReceipts after
+unfolding maps records directives receipts
 everything = tt

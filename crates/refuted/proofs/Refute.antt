@@ -6,16 +6,23 @@ use mathlib.Core.Bool.{Bool, true, false, _&&_, false≢true}
 use mathlib.Core.List.{List, [], _∷_, _++_}
 use Prim.Native.Nat.{ℕ}
 use native.Mathlib.Omega.{arith}
-use lib.ListN.{length, replicate}
-use borrow.Author.Tests.{eq-eqb}
+use lib.ListN.{length, getD, replicate}
+use lib.Dec.{eqb}
+use borrow.Author.Tests.{eq-eqb, eqb-false}
 use Rattle.manager.specs.Status.{numberOf}
+use Rattle.manager.specs.Result.{Result, replied}
+use Rattle.manager.specs.Lists.{some}
+use Rattle.manager.specs.Sound.{sound}
 use Rattle.manager.specs.Examples.{same, told}
 use Rattle.manager.specs.Perform.{Implementation}
+use Rattle.manager.specs.declared.Manager.{Manager}
 use Rattle.manager.specs.declared.Information.{Information}
+use Rattle.manager.specs.declared.Call.{Call}
 use Rattle.trace.specs.Receipts.{Reply, replyOf}
 use Rattle.trace.specs.Replies.{byReceipts, writeByReceipts, readByReceipts}
 use Rattle.trace.specs.Trace.{Ask, call, read, write, State, start, after, Runs, end, ask}
 use Rattle.trace.specs.Claims.{Claims, Demand3}
+use Rattle.effects.specs.Effects.{answersOf, refusing, refusedValue, Bookkeeping, Whole, Demand1}
 
 -- an answer as numbers: status, value, the six values of an information, and the notices
 abbrev informed : Information → List ℕ
@@ -62,3 +69,19 @@ module _ (i : Implementation) where
   -- A MANAGER OF DEMAND 3 ANSWERS AS THE RECEIPTS SAY along every list; so one that doesn't is none
   pub differs : (l : List Ask) → agrees i l (start words) ≡ false → ¬ Demand3 i
   differs l e h = false≢true (sym e ∙ along l (start words) (h words (omega arith) (omega arith)))
+
+-- DEMAND 1 IS REFUTED BY ONE CALL, over one memory and record: a word that changed and isn't its own; a refusal that differs from what a
+-- refusal is, by a number read off it; a status that isn't the directive's; records that are not sound, and are not called so
+module _ (i : Implementation) (m : List ℕ) (d : Manager) (c : Call) where
+  pub writes-other : (j : ℕ) → Whole d → ¬ Bookkeeping m d (i .call m d c) c j → eqb (getD (i .call m d c .memory) j 0) (getD m j 0) ≡ false → ¬ Demand1 i
+  writes-other j w n e h = eqb-false _ _ e (h .call m d c .only w .same j n)
+
+  pub refuses-otherwise : (f : Result → ℕ) → refusing (i .call m d c .status) ≡ true
+      → eqb (f (i .call m d c)) (f (replied m d (i .call m d c .status) (refusedValue m d c (i .call m d c .status)))) ≡ false → ¬ Demand1 i
+  refuses-otherwise f r e h = eqb-false _ _ e (ap f (h .call m d c .refusal r))
+
+  pub answers-otherwise : some (eqb (numberOf (i .call m d c .status))) (answersOf c) ≡ false → ¬ Demand1 i
+  answers-otherwise e h = false≢true (sym e ∙ h .call m d c .numbered)
+
+  pub passes-unsound : sound m d ≡ false → eqb (numberOf (i .call m d c .status)) 25 ≡ false → ¬ Demand1 i
+  passes-unsound u e h = eqb-false _ _ e (ap numberOf (h .call m d c .checks .1 u))

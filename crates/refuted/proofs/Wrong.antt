@@ -60,13 +60,13 @@ asked (ReturnBuffer id address) = parts buffer-return id address
 asked Tick = parts clock-tick 0 0
 
 -- the right manager with other answers to calls, made from the memory, the record, the call and the right answer
-abbrev pub calling : (List ℕ → Manager → Call → Result → Result) → Implementation
-calling wrong = record { call = λ m d c. wrong m d c (perform m d c); read = readSegment; write = writeSegment }
+abbrev pub answering : (List ℕ → Manager → Call → Result → Result) → Implementation
+answering wrong = record { call = λ m d c. wrong m d c (perform m d c); read = readSegment; write = writeSegment }
 
 -- only to the calls of one directive that are answered with one status number
 abbrev pub but : Directive → ℕ → (List ℕ → Manager → Call → Result → Result) → Implementation
 but x n wrong =
-    calling λ m d c a.
+    answering λ m d c a.
     cond (eqb (numberFor (asked c .directive)) (numberFor x) && eqb (numberOf (a .status)) n) (wrong m d c a) a
 
 -- an answer with another value, other notices, another memory, another record; an empty queue
