@@ -1,47 +1,60 @@
 -- Reading and writing a held segment. Assumes nothing.
 use mathlib.Core.Path.{_≡_, refl, sym, _∙_}
-use mathlib.Core.Bool.{Bool, cond, not, _&&_, _||_, false≢true}
-use mathlib.Core.List.{List, [], _∷_}
-use Prim.Native.Nat.{ℕ, _/_, _≤_}
+use mathlib.Core.Bool.{Bool, true, false, cond, not, _&&_, _||_, false≢true}
+use mathlib.Core.List.{List, []}
+use mathlib.Core.Logic.{_↔_}
+use Prim.Native.Nat.{ℕ, _+_, _/_, _≤_}
 use native.Mathlib.Omega.{arith}
 use lib.ListN.{length, take, drop, length-take}
 use lib.Seq.{take-all, take-take}
 use lib.Dec.{eqb}
-use borrow.Author.Tests.{not-true}
+use borrow.Author.Tests.{not-true, ltb-false}
 use Rattle.manager.specs.Lists.{every, some}
 use Rattle.manager.specs.Lists.Laws.{and-first, and-second}
 use Rattle.manager.specs.Record.{regionOf}
+use Rattle.manager.specs.Result.{refused}
 use Rattle.manager.specs.Status.{numberOf}
 use Rattle.manager.specs.Queue.Parts.{by-case}
 use Rattle.manager.specs.Region.{dead, heldAt}
+use Rattle.manager.specs.Partition.Distinct.{On}
 use Rattle.manager.specs.Sound.{sound}
 use Rattle.manager.specs.Access.{wordsIn, readSegment, writeSegment}
 use Rattle.manager.specs.declared.Manager.{Manager}
 use Rattle.manager.specs.declared.Status.{Status}
 use Rattle.manager.specs.declared.Status.the-variants.{Successful, InternalError}
-use Rattle.effects.specs.Effects.{WriteEffects, ReadEffects}
-use Rattle.effects.proofs.Answers.{by-answer, other-status, unchanged, rightly}
+use Rattle.effects.specs.Effects.{writeAnswers, WriteEffects, ReadEffects}
+use Rattle.effects.proofs.Answers.{Passed, by-answer, other-status, unchanged, rightly}
 use Rattle.effects.proofs.Words.{stored}
 
 module _ (m : List ℕ) (d : Manager) (id address : ℕ) where
   module _ (first : ℕ) (words : List ℕ) where
-    -- a check's status: one of a write's, not 25
-    abbrev fits : Status → Bool
-    fits s = some (eqb (numberOf s)) (0 ∷ 4 ∷ 8 ∷ 9 ∷ 25 ∷ []) && not (eqb (numberOf s) 25)
-
-    pub write-effects : WriteEffects m d address first words (writeSegment m d id address first words)
-    unfolding writeSegment every some
-    write-effects =
-        by-answer (WriteEffects m d address first words) fits m d _ _ refl
-        (λ e. record { numbered = refl; checks = (λ f. e, λ f. refl); refusal = λ f. refl; keeps = refl; only = unchanged })
-        (λ ok s h.
+    -- a refusal, with one of a write's statuses
+    refuses : (s : Status) → On (numberOf s) writeAnswers → eqb (numberOf s) 0 ≡ false → (s ≡ InternalError) ↔ (sound m d ≡ false)
+        → WriteEffects m d id address first words (refused m d s)
+    refuses s l n c =
         record {
-          numbered = and-first (some (eqb (numberOf s)) (0 ∷ 4 ∷ 8 ∷ 9 ∷ 25 ∷ [])) _ h;
-          checks = rightly m d s ok (other-status s InternalError (not-true _ (and-second (some (eqb (numberOf s)) (0 ∷ 4 ∷ 8 ∷ 9 ∷ 25 ∷ [])) _ h)));
+          numbered = l;
+          checks = c;
           refusal = λ f. refl;
           keeps = refl;
           only = unchanged;
-        })
+          inside = λ f. absurd (other-status s Successful n f);
+        }
+
+    -- a check's status: one of a write's, neither 0 nor 25
+    abbrev fits : Status → Bool
+    fits s = some (eqb (numberOf s)) writeAnswers && (not (eqb (numberOf s) 0) && not (eqb (numberOf s) 25))
+
+    fails : sound m d ≡ true → (s : Status) → fits s ≡ true → WriteEffects m d id address first words (refused m d s)
+    fails ok s h =
+        let u = and-second (some (eqb (numberOf s)) writeAnswers) _ h in
+        refuses s (and-first (some (eqb (numberOf s)) writeAnswers) _ h) (not-true _ (and-first (not (eqb (numberOf s) 0)) _ u))
+        (rightly m d s ok (other-status s InternalError (not-true _ (and-second (not (eqb (numberOf s) 0)) _ u))))
+
+    pub write-effects : WriteEffects m d id address first words (writeSegment m d id address first words)
+    unfolding writeSegment every some Passed
+    write-effects =
+        by-answer (WriteEffects m d id address first words) fits m d _ _ refl (λ e. refuses InternalError refl refl (λ f. e, λ f. refl)) fails
         (λ ok p.
         record {
           numbered = refl;
@@ -49,6 +62,7 @@ module _ (m : List ℕ) (d : Manager) (id address : ℕ) where
           refusal = λ f. absurd (false≢true f);
           keeps = refl;
           only = stored m _ words;
+          inside = λ f. ltb-false (wordsIn m d id address) (first + length words) (p .1 .1 .0);
         })
 
   -- a read hands back a front part of the memory from the address on

@@ -15,6 +15,7 @@ use Rattle.manager.specs.Region.{pagesOf, mapAt, heldAt}
 use Rattle.manager.specs.Partition.{isFree}
 use Rattle.manager.specs.Partition.Distinct.{On}
 use Rattle.manager.specs.Sound.{sound}
+use Rattle.manager.specs.Access.{wordsIn}
 use Rattle.manager.specs.Perform.{Implementation}
 use Rattle.manager.specs.declared.Manager.{Manager}
 use Rattle.manager.specs.declared.Region.{Region}
@@ -23,7 +24,7 @@ use Rattle.manager.specs.declared.Call.{Call}
 use Rattle.manager.specs.declared.Call.the-variants.{CreateRegion, IdentRegion, DeleteRegion, GetSegment, ReturnSegment, SegmentSize, ResizeSegment, RegionInformation, CreatePartition, IdentPartition, DeletePartition, GetBuffer, ReturnBuffer, Tick}
 use Rattle.manager.specs.declared.Wait.the-variants.{No, Yes}
 use Rattle.manager.specs.declared.Status.{Status}
-use Rattle.manager.specs.declared.Status.the-variants.{InternalError, Waiting}
+use Rattle.manager.specs.declared.Status.the-variants.{Successful, InternalError, Waiting}
 
 -- THE NUMBERED ANSWERS of each directive: success, and what its checks can say. 6 is nobody's, for it stands in notices only; 255 is
 -- that of a get that may wait
@@ -43,6 +44,10 @@ answersOf (DeletePartition id) = 0 ∷ 4 ∷ 12 ∷ 25 ∷ []
 answersOf (GetBuffer id) = 0 ∷ 4 ∷ 13 ∷ 25 ∷ []
 answersOf (ReturnBuffer id address) = 0 ∷ 4 ∷ 9 ∷ 25 ∷ []
 answersOf Tick = 0 ∷ 25 ∷ []
+
+-- and of a write
+abbrev pub writeAnswers : List ℕ
+writeAnswers = 0 ∷ 4 ∷ 8 ∷ 9 ∷ 25 ∷ []
 
 -- A REFUSAL: an answer other than 0 and 255. Its value is 0, but of a resize with 13 the old length
 abbrev pub refusing : Status → Bool
@@ -120,13 +125,15 @@ pub record CallEffects (m : List ℕ) (d : Manager) (c : Call) (s : Result) : Ty
   pub only : Whole d → Only (Bookkeeping m d s c) m (s .memory)
 
 -- WHAT A WRITE OF A HELD SEGMENT MAY DO: the same, and the words that it writes are those that it names
-pub record WriteEffects (m : List ℕ) (d : Manager) (address first : ℕ) (words : List ℕ) (s : Result) : Type 0 where
-  pub numbered : On (numberOf (s .status)) (0 ∷ 4 ∷ 8 ∷ 9 ∷ 25 ∷ [])
+pub record WriteEffects (m : List ℕ) (d : Manager) (id address first : ℕ) (words : List ℕ) (s : Result) : Type 0 where
+  pub numbered : On (numberOf (s .status)) writeAnswers
   pub checks : (s .status ≡ InternalError) ↔ (sound m d ≡ false)
   pub refusal : refusing (s .status) ≡ true → s ≡ refused m d (s .status)
   -- it changes no field of the record, whatever it answers
   pub keeps : s .manager ≡ d
   pub only : Only (Span (address / 4 + first) (length words)) m (s .memory)
+  -- and these are words of the segment that is held at the address
+  pub inside : s .status ≡ Successful → first + length words ≤ wordsIn m d id address
 
 -- WHAT A READ MAY DO: it hands back words of the memory from its address on, and nothing else, so that it can't change anything; none
 -- where the records are not sound
@@ -138,5 +145,5 @@ pub record ReadEffects (m : List ℕ) (d : Manager) (address : ℕ) (words : Lis
 pub record Demand1 (i : Implementation) : Type 0 where
   pub call : (m : List ℕ) (d : Manager) (c : Call) → CallEffects m d c (i .call m d c)
   pub write : (m : List ℕ) (d : Manager) (id address first : ℕ) (words : List ℕ)
-      → WriteEffects m d address first words (i .write m d id address first words)
+      → WriteEffects m d id address first words (i .write m d id address first words)
   pub read : (m : List ℕ) (d : Manager) (id address : ℕ) → ReadEffects m d address (i .read m d id address)

@@ -1,11 +1,11 @@
--- WRONG EFFECTS: the managers 32 to 45, each of which changes what it must not change, or does not check what it must, and for each one
+-- WRONG EFFECTS: the managers 32 to 46, each of which changes what it must not change, or does not check what it must, and for each one
 -- call over one memory and record. So none of them meets demand 1. The managers 1 to 31, which don't meet demand 3, are in Answers.
 -- Assumes nothing.
 use mathlib.Core.Path.{_≡_, refl, ap}
 use mathlib.Core.Bool.{cond}
 use mathlib.Core.List.{List, [], _∷_, _++_}
 use mathlib.Core.Logic.{_⊎_, ⊎-elim}
-use Prim.Native.Nat.{ℕ, _+_, _-_, _*_, _/_, _%_}
+use Prim.Native.Nat.{ℕ, _+_, _-_, _*_, _/_, _%_, _≤_}
 use native.Mathlib.Omega.{arith}
 use lib.ListN.{length, getD, set, take, drop, replicate}
 use lib.Seq.{sets}
@@ -190,7 +190,18 @@ not-writeEmpties h =
     let z : _≡_ {A = ℕ} 0 1 = ap (λ (d : Manager). getD (d .waiters) 0 noWaiter .task) (h .write (s .memory) (s .manager) 1 64 0 [] .keeps) in
     omega arith
 
--- 45. A READ OF DAMAGED RECORDS HANDS WORDS BACK
+-- 45. A WRITE PAST THE END OF THE SEGMENT IS TAKEN
+abbrev writesPastEnd : Implementation
+writesPastEnd = record { call = perform; read = readSegment; write = λ m d id address first words. done (sets m (address / 4 + first) words) d 0 }
+
+not-writesPastEnd : ¬ Demand1 writesPastEnd
+unfolding everything
+not-writesPastEnd h =
+    let s = reached (create ∷ get 64 ∷ []) in
+    let z : 16 + 1 ≤ 16 = h .write (s .memory) (s .manager) 1 64 16 (7 ∷ []) .inside refl in
+    omega arith
+
+-- 46. A READ OF DAMAGED RECORDS HANDS WORDS BACK
 abbrev readsUnchecked : Implementation
 readsUnchecked = record { call = perform; read = λ m d id address. take 16 (drop (address / 4) m); write = writeSegment }
 
