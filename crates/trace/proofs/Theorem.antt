@@ -68,7 +68,7 @@ module _ (s : State) (v : Inv (s .memory) (s .manager) (s .receipts)) where
       }
 
 -- every list
-runs : {s u : State} → Inv (s .memory) (s .manager) (s .receipts) → Runs defined s u → Inv (u .memory) (u .manager) (u .receipts)
+pub runs : {s u : State} → Inv (s .memory) (s .manager) (s .receipts) → Runs defined s u → Inv (u .memory) (u .manager) (u .receipts)
 runs v end = v
 runs {s} v (ask a r) = runs (kept s v a) r
 runs {s} v (clients m′ w r) = runs (clients-keep (s .memory) (s .manager) (s .receipts) v m′ w) r
