@@ -149,7 +149,11 @@ numbers-list vs ws p q e = cc
 numbers-next : (vs ws : List ℕ) (p q : ℕ) → numbers vs p ≡ numbers ws q → p ≡ q
 numbers-next vs ws p q e = cc
 
-more-go : (k : Key) (ks : List Key) (s acc ws : List ℕ) (p q : ℕ) (g : Entry) → keyAt s p k ≡ g → onEntry g (wrong p) (λ v r. numbersFrom s (acc ++ (v ∷ [])) r ks) ≡ numbers ws q → ((v r : ℕ) → r ≤ length s → numbersFrom s (acc ++ (v ∷ [])) r ks ≡ numbers ws q → NumbersRead s (acc ++ (v ∷ [])) ks ws r q) → NumbersRead s acc (k ∷ ks) ws p q
+more-go : (k : Key) (ks : List Key) (s acc ws : List ℕ) (p q : ℕ) (g : Entry) →
+    keyAt s p k ≡ g →
+    onEntry g (wrong p) (λ v r. numbersFrom s (acc ++ (v ∷ [])) r ks) ≡ numbers ws q →
+    ((v r : ℕ) → r ≤ length s → numbersFrom s (acc ++ (v ∷ [])) r ks ≡ numbers ws q → NumbersRead s (acc ++ (v ∷ [])) ks ws r q) →
+    NumbersRead s acc (k ∷ ks) ws p q
 unfolding writeFields Fit keyAt
 more-go k ks s acc ws p q (Took v r) e h f =
     let a = field-sound s (k .text) p (k .most) v r e in

@@ -126,7 +126,12 @@ one-go s at c six q (d ∷ cs) t e h f =
     let w = f cs (ap (λ (x : List Call). record { calls = x; bad = t .bad }) et ∙ ap (λ (x : Option ℕ). record { calls = cs; bad = x }) eb) in
     record { fit = (rw (← ec) (r .fit), w .fit); text = r .text ∙ rw (ec, w .text) }
 
-only-go : (k : ℕ) (cs : List Call) (s : List ℕ) (at : ℕ) (r : ReadCall) → length s - at < suc k → readCall s at ≡ r → onRead r (λ q. readFrom k s q) ≡ whole cs → ((ds : List Call) (q : ℕ) → length s - q < k → readFrom k s q ≡ whole ds → WrittenFrom ds s q) → WrittenFrom cs s at
+only-go : (k : ℕ) (cs : List Call) (s : List ℕ) (at : ℕ) (r : ReadCall) →
+    length s - at < suc k →
+    readCall s at ≡ r →
+    onRead r (λ q. readFrom k s q) ≡ whole cs →
+    ((ds : List Call) (q : ℕ) → length s - q < k → readFrom k s q ≡ whole ds → WrittenFrom ds s q) →
+    WrittenFrom cs s at
 unfolding writeAll FitAll
 only-go k cs s at (One c six q) g e h f =
     let a = read-next s at c six q e in
