@@ -8,6 +8,7 @@ use mathlib.Core.Bool.{Bool}
 use mathlib.Core.Option.{none, some}
 use native.Mathlib.Omega.{arith}
 use lib.ListN.{length}
+use borrow.Author.Tests.{lt-ltb, le-ltb}
 use Rattle.text.specs.Bytes.{bytes}
 use Rattle.text.specs.Decimal.{lineOf}
 use Rattle.manager.specs.Record.{fresh}
@@ -24,8 +25,8 @@ use Rattle.script.proofs.Laws.{read-end}
 use Rattle.script.proofs.WrittenCalls.{read-sound, read-next}
 use Rattle.script.proofs.WrittenScript.{from-end, from-bad, then-one}
 use Rattle.run.specs.Output.{line, answerText, lineNumber, mostBad, mostAnswer, Puts}
-use Rattle.run.specs.Run.{answers, badText, runScript, memoryAfter, mostScript, mostPerByte, mostOutput}
-use Rattle.run.proofs.Stores.{Left, left-all, left-put, left-none, left-last}
+use Rattle.run.specs.Run.{answers, badText, runScript, runAll, memoryAfter, memoryAll, mostScript, mostPerByte, mostOutput}
+use Rattle.run.proofs.Stores.{Left, left-all, left-put, left-none, left-last, puts-most}
 
 -- what is read from `at` on
 abbrev pub restOf : List ℕ → ℕ → Script
@@ -172,3 +173,28 @@ module _ {src mem₀ out₀ mem out : List ℕ} {d : Manager} {at n : ℕ} (r : 
       let s = r .short in
       let w = r .within in
       omega arith
+
+-- ---- the whole program: a script that is too long gives only `bad=0`
+
+module _ (src mem : List ℕ) {out₀ out : List ℕ} {n : ℕ} where
+  pub too-long : mostScript < length src → Puts mostBad out₀ 0 (line "bad=" 0) out n → Puts mostOutput out₀ 0 (runAll src mem) out n
+  unfolding runAll
+  too-long h p = rw (lt-ltb mostScript (length src) h) (puts-most (omega arith) p)
+
+module _ (src mem : List ℕ) where
+  pub too-long-memory : mostScript < length src → mem ≡ memoryAll src mem
+  unfolding memoryAll
+  too-long-memory h = rw (lt-ltb mostScript (length src) h)
+
+  module _ {mem′ out₀ out : List ℕ} {n : ℕ} (h : length src ≤ mostScript) (r : Ran src mem out₀ mem′ out n) where
+    pub all-run : Puts mostOutput out₀ 0 (runAll src mem) out n
+    unfolding runAll
+    all-run = rw (le-ltb mostScript (length src) h) (r .0)
+
+    pub all-memory : mem′ ≡ memoryAll src mem
+    unfolding memoryAll
+    all-memory = rw (le-ltb mostScript (length src) h) (r .1)
+
+-- what is put ends within the buffer
+pub ends-within : {most most′ : ℕ} {out₀ text out : List ℕ} {n : ℕ} → Puts most out₀ 0 text out n → most ≤ most′ → length out ≡ most′ → n ≤ length out
+ends-within p h e = let w = p .within in omega arith
