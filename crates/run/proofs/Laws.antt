@@ -11,15 +11,9 @@ use lib.ListN.{length, getD, take, drop, drop-of-length-le}
 use lib.Seq.{take-suc, take-all, drop-cons}
 use lib.Dec.{ltb, eqb}
 use borrow.Author.Tests.{eq-eqb, ne-eqb}
-use Rattle.text.specs.Decimal.{decimal, lineOf}
-use Rattle.text.proofs.Digits.{length-line, length-decimal}
 use Rattle.manager.specs.Record.{noNotice}
 use Rattle.manager.specs.declared.Notice.{Notice}
 use Rattle.run.specs.Output.{noticeText, noticesText, newlines, lineNumber}
-
--- a line of a number below 2 ^ 32 has at most 11 bytes besides its key
-pub line-most : (key : List ℕ) (n : ℕ) → n < 4294967296 → length (lineOf key n) ≤ length key + 11
-line-most key n h = omega (arith, length-line key n, length-decimal n h)
 
 -- ---- the notices
 
