@@ -10,12 +10,12 @@ use Rattle.manager.specs.declared.Call.{Call}
 use Rattle.script.specs.Reading.{Script, readAll}
 use Rattle.script.specs.Written.{writeAll, FitAll}
 use Rattle.script.proofs.WrittenScript.{reads-back}
-use Rattle.run.specs.Run.{answers, runScript, runAll, memoryAfter, memoryAll}
+use Rattle.run.specs.Run.{mostScript, answers, runScript, runAll, memoryAfter, memoryAll}
 
-pub written-runs : (cs : List Call) (m : List ℕ) → FitAll cs → length (writeAll cs) ≤ 32768 → runAll (writeAll cs) m ≡ answers m fresh cs
+pub written-runs : (cs : List Call) (m : List ℕ) → FitAll cs → length (writeAll cs) ≤ mostScript → runAll (writeAll cs) m ≡ answers m fresh cs
 unfolding runAll runScript
-written-runs cs m f h = rw (le-ltb 32768 (length (writeAll cs)) h, reads-back cs f) (append-nil (answers m fresh cs))
+written-runs cs m f h = rw (le-ltb mostScript (length (writeAll cs)) h, reads-back cs f) (append-nil (answers m fresh cs))
 
-pub written-memory : (cs : List Call) (m : List ℕ) → FitAll cs → length (writeAll cs) ≤ 32768 → memoryAll (writeAll cs) m ≡ memoryAfter m fresh cs
+pub written-memory : (cs : List Call) (m : List ℕ) → FitAll cs → length (writeAll cs) ≤ mostScript → memoryAll (writeAll cs) m ≡ memoryAfter m fresh cs
 unfolding memoryAll
-written-memory cs m f h = rw (le-ltb 32768 (length (writeAll cs)) h, reads-back cs f)
+written-memory cs m f h = rw (le-ltb mostScript (length (writeAll cs)) h, reads-back cs f)

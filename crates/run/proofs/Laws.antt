@@ -1,31 +1,21 @@
 -- Laws of the output, of line numbers and of a run. Assumes nothing.
 use mathlib.Core.Path.{_≡_, refl, sym, _∙_, ap}
 use Prim.Native.Nat.{ℕ, zero, suc, _+_, _-_, _*_, _≤_, _<_}
-use mathlib.Core.List.{List, [], _∷_, _++_, append-assoc, map}
+use mathlib.Core.List.{List, [], _∷_, _++_, append-assoc}
 use mathlib.Core.Bool.{Bool, true, false, cond}
 use mathlib.Core.Option.{none, some}
 use native.Mathlib.Nat.{add-zero}
 use native.Mathlib.Numerals.{add-one}
 use native.Mathlib.Omega.{arith}
-use lib.ListN.{length, getD, take, drop, drop-of-length-le, length-map}
+use lib.ListN.{length, getD, take, drop, drop-of-length-le}
 use lib.Seq.{take-suc, take-all, drop-cons}
 use lib.Dec.{ltb, eqb}
 use borrow.Author.Tests.{eq-eqb, ne-eqb}
-use Rattle.text.specs.Decimal.{decimal, lineOf}
-use Rattle.text.proofs.Digits.{length-line, length-decimal}
 use Rattle.manager.specs.Record.{noNotice}
 use Rattle.manager.specs.declared.Notice.{Notice}
 use Rattle.run.specs.Output.{noticeText, noticesText, newlines, lineNumber}
 
--- a line of a number below 2 ^ 32 has at most 11 bytes besides its key
-pub line-most : (key : List ℕ) (n : ℕ) → n < 4294967296 → length (lineOf key n) ≤ length key + 11
-line-most key n h = omega (arith, length-line key n, length-decimal n h)
-
 -- ---- the notices
-
--- of an array of structs, what is known is the length of its image
-pub unmapped : {X Y : Type 0} (f : X → Y) (l : List X) (n : ℕ) → length (map f l) ≡ n → length l ≡ n
-unmapped f l n e = simp length-map at e
 
 pub notices-end : (ns : List Notice) (i : ℕ) → length ns ≤ i → noticesText (drop i ns) ≡ []
 unfolding noticesText

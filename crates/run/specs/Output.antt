@@ -1,6 +1,6 @@
 -- Document 01, "The program": "Output: `status=`, `value=` (six for info, zeros if refused), then for each notice `task=`, `with=`, `value=`."
 -- Assumes nothing.
-use Prim.Native.Nat.{ℕ, suc, _+_, _≤_}
+use Prim.Native.Nat.{ℕ, suc, _+_, _*_, _≤_}
 use Prim.Native.String.{String}
 use mathlib.Core.Path.{_≡_}
 use mathlib.Core.List.{List, [], _∷_, _++_}
@@ -11,11 +11,10 @@ use lib.Dec.{eqb}
 use Rattle.text.specs.Bytes.{bytes}
 use Rattle.text.specs.Decimal.{lineOf}
 use Rattle.manager.specs.Status.{numberOf}
+use Rattle.manager.specs.Record.{tasks}
 use Rattle.manager.specs.declared.Notice.{Notice}
 use Rattle.manager.specs.declared.Information.{Information}
 use Rattle.manager.specs.declared.Answer.{Answer}
-use Rattle.manager.specs.declared.Call.{Call}
-use Rattle.manager.specs.declared.Call.the-variants.{CreateRegion, IdentRegion, DeleteRegion, GetSegment, ReturnSegment, SegmentSize, ResizeSegment, RegionInformation, CreatePartition, IdentPartition, DeletePartition, GetBuffer, ReturnBuffer, Tick}
 
 -- a line of output
 abbrev pub line : String → ℕ → List ℕ
@@ -30,22 +29,7 @@ informationText i =
     (line "value=" (i .«held_count») ++
     (line "value=" (i .«held_largest») ++ line "value=" (i .«held_total»)))))
 
-abbrev pub asksInformation : Call → Bool
-asksInformation (CreateRegion n s l p o) = false
-asksInformation (CreatePartition n s l z) = false
-asksInformation (IdentRegion n) = false
-asksInformation (IdentPartition n) = false
-asksInformation (DeleteRegion i) = false
-asksInformation (DeletePartition i) = false
-asksInformation (RegionInformation i) = true
-asksInformation (GetBuffer i) = false
-asksInformation (GetSegment i z w t p k) = false
-asksInformation (ReturnSegment i a) = false
-asksInformation (SegmentSize i a) = false
-asksInformation (ReturnBuffer i a) = false
-asksInformation (ResizeSegment i a z) = false
-asksInformation Tick = false
-
+-- six values, or one
 unfoldable pub valuesText : Bool → Answer → List ℕ
 valuesText true a = informationText (a .information)
 valuesText false a = line "value=" (a .value)
@@ -77,3 +61,30 @@ pub record Puts (most : ℕ) (before : List ℕ) (at : ℕ) (text after : List �
   pub stores : after ≡ sets before at text
   pub ends : e ≡ at + length text
   pub within : e ≤ at + most
+
+-- ---- the most bytes that each text has
+
+-- a line of a key of n bytes: a number has at most ten digits
+abbrev pub mostLine : ℕ → ℕ
+mostLine n = n + 11
+
+abbrev pub mostBad : ℕ
+mostBad = mostLine (length (bytes "bad="))
+
+abbrev pub mostStatus : ℕ
+mostStatus = mostLine (length (bytes "status="))
+
+abbrev pub mostValue : ℕ
+mostValue = mostLine (length (bytes "value="))
+
+abbrev pub mostValues : ℕ
+mostValues = 6 * mostValue
+
+abbrev pub mostNotice : ℕ
+mostNotice = mostLine (length (bytes "task=")) + (mostLine (length (bytes "with=")) + mostValue)
+
+abbrev pub mostNotices : ℕ
+mostNotices = tasks * mostNotice
+
+abbrev pub mostAnswer : ℕ
+mostAnswer = mostStatus + (mostValues + mostNotices)

@@ -1,5 +1,5 @@
 -- Document 01, "The program": the whole run, from a script and a memory to what is written. Assumes nothing.
-use Prim.Native.Nat.{ℕ, _+_, _*_}
+use Prim.Native.Nat.{ℕ, _+_, _*_, _/_}
 use mathlib.Core.List.{List, [], _∷_, _++_}
 use mathlib.Core.Bool.{cond}
 use mathlib.Core.Option.{Option, none, some}
@@ -10,13 +10,14 @@ use Rattle.manager.specs.Result.{answerOf}
 use Rattle.manager.specs.declared.Manager.{Manager}
 use Rattle.manager.specs.declared.Call.{Call}
 use Rattle.manager.specs.Perform.{perform}
+use Rattle.script.specs.Table.{rowOf}
 use Rattle.script.specs.Reading.{Script, readAll}
-use Rattle.run.specs.Output.{line, asksInformation, answerText, lineNumber}
+use Rattle.run.specs.Output.{line, answerText, lineNumber, mostBad, mostAnswer}
 
 -- "Calls run as they are read": the answers to the calls, each on what the one before it left
 unfoldable pub answers : List ℕ → Manager → List Call → List ℕ
 answers m d [] = []
-answers m d (c ∷ cs) = answerText (asksInformation c) (answerOf (perform m d c)) ++ answers (perform m d c .memory) (perform m d c .manager) cs
+answers m d (c ∷ cs) = answerText (rowOf c .sixValues) (answerOf (perform m d c)) ++ answers (perform m d c .memory) (perform m d c .manager) cs
 
 -- "The first bad or missing line ends the run with `bad=` and its line number from 1"
 abbrev pub badText : List ℕ → Option ℕ → List ℕ
@@ -27,13 +28,21 @@ unfoldable pub runScript : List ℕ → List ℕ → Manager → Script → List
 runScript s m d t = answers m d (t .calls) ++ badText s (t .bad)
 
 -- "reads at most 32,768 bytes"; "bytes past 32,768 give only `bad=0`"
-unfoldable pub runAll : List ℕ → List ℕ → List ℕ
-runAll s m = cond (ltb 32768 (length s)) (line "bad=" 0) (runScript s m fresh (readAll s))
+abbrev pub mostScript : ℕ
+mostScript = 32768
 
--- what any script can write: a call takes 10 bytes or more and is answered with at most 904, and the line that says which line is bad has at
--- most 15
+unfoldable pub runAll : List ℕ → List ℕ → List ℕ
+runAll s m = cond (ltb mostScript (length s)) (line "bad=" 0) (runScript s m fresh (readAll s))
+
+-- what any script can write: a call takes 10 bytes or more, so the answers have at most `mostPerByte` bytes for each byte of the script
+abbrev pub leastCall : ℕ
+leastCall = 10
+
+abbrev pub mostPerByte : ℕ
+mostPerByte = mostAnswer / leastCall + 1
+
 abbrev pub mostOutput : ℕ
-mostOutput = 91 * 32768 + 15
+mostOutput = mostPerByte * mostScript + mostBad
 
 -- the memory after the run
 unfoldable pub memoryAfter : List ℕ → Manager → List Call → List ℕ
@@ -41,4 +50,4 @@ memoryAfter m d [] = m
 memoryAfter m d (c ∷ cs) = memoryAfter (perform m d c .memory) (perform m d c .manager) cs
 
 unfoldable pub memoryAll : List ℕ → List ℕ → List ℕ
-memoryAll s m = cond (ltb 32768 (length s)) m (memoryAfter m fresh (readAll s .calls))
+memoryAll s m = cond (ltb mostScript (length s)) m (memoryAfter m fresh (readAll s .calls))

@@ -2,7 +2,6 @@
 mod output;
 
 use directives::perform;
-use manager::Call;
 use manager::Manager;
 use output::put_answer;
 use output::put_bad;
@@ -13,26 +12,21 @@ ghost use Prim.Native.Nat.{_+_, _≤_};
 ghost use lib.ListN.{length};
 ghost use Rattle.manager.specs.Record.{fresh};
 ghost use Rattle.script.specs.Reading.{readAll};
-ghost use Rattle.run.specs.Output.{asksInformation, lineNumber, Puts};
-ghost use Rattle.run.specs.Run.{mostOutput, runScript, runAll, memoryAfter, memoryAll};
+ghost use Rattle.run.specs.Output.{lineNumber, Puts};
+ghost use Rattle.run.specs.Run.{mostScript, mostOutput, runScript, runAll, memoryAfter, memoryAll};
 
-// What any script of up to 32,768 bytes can write: each call takes 10 bytes or more and is answered with at most 904, and the line that
-// says which line is bad has at most 15.
-pub const OUTPUT: usize = 91 * 32768 + 15;
+// The most bytes of a script.
+pub const SCRIPT: usize = 32768;
 
-// Whether the call asks for a region's information.
-fn asks_information(call: Call) -> bool
-    ensures { λ r. ⌜ r ≡ asksInformation call ⌝ }
-{
-    match call {
-        Call::RegionInformation { id: _ } => true,
-        _ => false,
-    }
-}
+// The most bytes of an answer: its status, six values, and a notice for each task.
+const ANSWER: usize = 18 + 6 * 17 + Manager::TASKS * 49;
+
+// What any script can write: each call takes 10 bytes or more, and the line that says which line is bad has at most 15.
+pub const OUTPUT: usize = (ANSWER / 10 + 1) * SCRIPT + 15;
 
 // The number of the line that starts at p, from 1.
 fn line_number(src: &[u8], p: usize) -> u32
-    requires { ⌜ length (now src) ≤ 32768 ⌝ }
+    requires { ⌜ length (now src) ≤ mostScript ⌝ }
     ensures { λ r. ⌜ r ≡ lineNumber (now (src .entry)) p ⌝ }
 {
     let mut n: u32 = 1;
@@ -51,7 +45,7 @@ fn line_number(src: &[u8], p: usize) -> u32
 
 // Runs a script that is not too long.
 fn run_calls(src: &[u8], mem: &mut [u32], out: &mut [u8]) -> usize
-    requires { ⌜ length (now src) ≤ 32768 ⌝ }
+    requires { ⌜ length (now src) ≤ mostScript ⌝ }
     requires { ⌜ mostOutput ≤ length (now out) ⌝ }
     ensures { λ r. ⌜ Puts mostOutput (now (out .entry)) 0 (runScript (now (src .entry)) (now (mem .entry)) fresh (readAll (now (src .entry)))) (now (out .exit)) r ⌝ }
     ensures { λ r. ⌜ now (mem .exit) ≡ memoryAfter (now (mem .entry)) fresh (readAll (now (src .entry)) .calls) ⌝ }
@@ -67,9 +61,9 @@ fn run_calls(src: &[u8], mem: &mut [u32], out: &mut [u8]) -> usize
             ReadCall::BadAt(p) => {
                 return put_bad(out, n, line_number(src, p));
             }
-            ReadCall::One(call, next) => {
+            ReadCall::One(call, six, next) => {
                 let a = perform(mem, d, call);
-                n = put_answer(out, n, asks_information(call), a);
+                n = put_answer(out, n, six, a);
                 d = a.manager;
                 at = next;
             }
@@ -84,7 +78,7 @@ pub fn run(src: &[u8], mem: &mut [u32], out: &mut [u8; OUTPUT]) -> usize
     ensures { λ r. ⌜ now (mem .exit) ≡ memoryAll (now (src .entry)) (now (mem .entry)) ⌝ }
     ensures { λ r. ⌜ r ≤ length (now (out .exit)) ⌝ }
 {
-    if 32768 < src.len() {
+    if SCRIPT < src.len() {
         return put_bad(out, 0, 0);
     }
     run_calls(src, mem, out)

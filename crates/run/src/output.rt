@@ -1,6 +1,7 @@
 // Writes text into a buffer: bytes, a number in decimal, a line of a key and a number, the answer to a call.
 use manager::Answer;
 use manager::Information;
+use manager::Manager;
 use manager::Notice;
 use manager::number;
 ghost use mathlib.Core.Path.{_≡_};
@@ -10,6 +11,7 @@ ghost use lib.ListN.{length};
 ghost use Rattle.text.specs.Decimal.{decimal, lineOf};
 ghost use Rattle.manager.specs.Status.{numberOf};
 ghost use Rattle.run.specs.Output.{line, Puts, informationText, valuesText, noticeText, noticesText, answerText};
+ghost use Rattle.run.specs.Output.{mostLine, mostBad, mostValue, mostValues, mostNotice, mostNotices, mostAnswer};
 
 // Puts text into out at `at`, and answers where it ends, as each function here does.
 fn put(out: &mut [u8], at: usize, text: &[u8]) -> usize
@@ -41,8 +43,8 @@ fn put_number(out: &mut [u8], at: usize, n: u32) -> usize
 
 // Puts a line: key, n and a newline.
 pub(crate) fn put_line(out: &mut [u8], at: usize, key: &[u8], n: u32) -> usize
-    requires { ⌜ at + (length (now key) + 11) ≤ length (now out) ⌝ }
-    ensures { λ r. ⌜ Puts (length (now (key .entry)) + 11) (now (out .entry)) at (lineOf (now (key .entry)) n) (now (out .exit)) r ⌝ }
+    requires { ⌜ at + mostLine (length (now key)) ≤ length (now out) ⌝ }
+    ensures { λ r. ⌜ Puts (mostLine (length (now (key .entry)))) (now (out .entry)) at (lineOf (now (key .entry)) n) (now (out .exit)) r ⌝ }
 {
     let p = put(out, at, key);
     let q = put_number(out, p, n);
@@ -52,24 +54,24 @@ pub(crate) fn put_line(out: &mut [u8], at: usize, key: &[u8], n: u32) -> usize
 
 // Puts the line that says which line is bad.
 pub(crate) fn put_bad(out: &mut [u8], at: usize, n: u32) -> usize
-    requires { ⌜ at + 15 ≤ length (now out) ⌝ }
-    ensures { λ r. ⌜ Puts 15 (now (out .entry)) at (line "bad=" n) (now (out .exit)) r ⌝ }
+    requires { ⌜ at + mostBad ≤ length (now out) ⌝ }
+    ensures { λ r. ⌜ Puts mostBad (now (out .entry)) at (line "bad=" n) (now (out .exit)) r ⌝ }
 {
     put_line(out, at, b"bad=", n)
 }
 
 // Puts one of an answer's values.
 fn put_value(out: &mut [u8], at: usize, n: u32) -> usize
-    requires { ⌜ at + 17 ≤ length (now out) ⌝ }
-    ensures { λ r. ⌜ Puts 17 (now (out .entry)) at (line "value=" n) (now (out .exit)) r ⌝ }
+    requires { ⌜ at + mostValue ≤ length (now out) ⌝ }
+    ensures { λ r. ⌜ Puts mostValue (now (out .entry)) at (line "value=" n) (now (out .exit)) r ⌝ }
 {
     put_line(out, at, b"value=", n)
 }
 
 // Puts the six values of the information call.
 fn put_information(out: &mut [u8], at: usize, i: Information) -> usize
-    requires { ⌜ at + 102 ≤ length (now out) ⌝ }
-    ensures { λ r. ⌜ Puts 102 (now (out .entry)) at (informationText i) (now (out .exit)) r ⌝ }
+    requires { ⌜ at + mostValues ≤ length (now out) ⌝ }
+    ensures { λ r. ⌜ Puts mostValues (now (out .entry)) at (informationText i) (now (out .exit)) r ⌝ }
 {
     let a = put_value(out, at, i.free_count);
     let b = put_value(out, a, i.free_largest);
@@ -81,8 +83,8 @@ fn put_information(out: &mut [u8], at: usize, i: Information) -> usize
 
 // Puts the three lines of a notice.
 fn put_notice(out: &mut [u8], at: usize, n: Notice) -> usize
-    requires { ⌜ at + 49 ≤ length (now out) ⌝ }
-    ensures { λ r. ⌜ Puts 49 (now (out .entry)) at (noticeText n) (now (out .exit)) r ⌝ }
+    requires { ⌜ at + mostNotice ≤ length (now out) ⌝ }
+    ensures { λ r. ⌜ Puts mostNotice (now (out .entry)) at (noticeText n) (now (out .exit)) r ⌝ }
 {
     let status = n.status;
     let p = put_line(out, at, b"task=", n.task);
@@ -91,13 +93,13 @@ fn put_notice(out: &mut [u8], at: usize, n: Notice) -> usize
 }
 
 // Puts the notices that are used.
-fn put_notices(out: &mut [u8], at: usize, notices: [Notice; 16]) -> usize
-    requires { ⌜ at + 784 ≤ length (now out) ⌝ }
-    ensures { λ r. ⌜ Puts 784 (now (out .entry)) at (noticesText notices) (now (out .exit)) r ⌝ }
+fn put_notices(out: &mut [u8], at: usize, notices: [Notice; Manager::TASKS]) -> usize
+    requires { ⌜ at + mostNotices ≤ length (now out) ⌝ }
+    ensures { λ r. ⌜ Puts mostNotices (now (out .entry)) at (noticesText notices) (now (out .exit)) r ⌝ }
 {
     let mut p = at;
     let mut i: usize = 0;
-    while i < 16 {
+    while i < Manager::TASKS {
         let n = notices[i];
         i += 1;
         if n.task != 0 {
@@ -109,8 +111,8 @@ fn put_notices(out: &mut [u8], at: usize, notices: [Notice; 16]) -> usize
 
 // Puts an answer's value, or its six values where the call asks for information.
 fn put_values(out: &mut [u8], at: usize, six: bool, a: Answer) -> usize
-    requires { ⌜ at + 102 ≤ length (now out) ⌝ }
-    ensures { λ r. ⌜ Puts 102 (now (out .entry)) at (valuesText six a) (now (out .exit)) r ⌝ }
+    requires { ⌜ at + mostValues ≤ length (now out) ⌝ }
+    ensures { λ r. ⌜ Puts mostValues (now (out .entry)) at (valuesText six a) (now (out .exit)) r ⌝ }
 {
     if six {
         let i = a.information;
@@ -122,8 +124,8 @@ fn put_values(out: &mut [u8], at: usize, six: bool, a: Answer) -> usize
 
 // Puts the answer to a call.
 pub(crate) fn put_answer(out: &mut [u8], at: usize, six: bool, a: Answer) -> usize
-    requires { ⌜ at + 904 ≤ length (now out) ⌝ }
-    ensures { λ r. ⌜ Puts 904 (now (out .entry)) at (answerText six a) (now (out .exit)) r ⌝ }
+    requires { ⌜ at + mostAnswer ≤ length (now out) ⌝ }
+    ensures { λ r. ⌜ Puts mostAnswer (now (out .entry)) at (answerText six a) (now (out .exit)) r ⌝ }
 {
     let status = a.status;
     let notices = a.notices;

@@ -7,20 +7,24 @@ use mathlib.Core.Bool.{Bool, true, false, cond}
 use mathlib.Core.Option.{Option, none, some}
 use native.Mathlib.Numerals.{add-one}
 use native.Mathlib.Omega.{arith}
-use lib.ListN.{length, getD, getElem?, take, drop, drop-of-length-le, length-drop}
-use lib.Seq.{drop-cons, take-all}
+use lib.ListN.{length, getD, getElem?, take, drop, set, drop-of-length-le, length-drop, length-set}
+use lib.Seq.{drop-cons, take-all, take-suc-set}
 use lib.Dec.{leb}
 use borrow.Author.Tests.{le-leb, lt-leb}
 use Rattle.text.specs.Lines.{starts}
+use Rattle.text.specs.declared.Entry.{Entry}
 use Rattle.text.specs.declared.Entry.the-variants.{Took, Bad}
 use Rattle.text.proofs.Laws.{true-false, starts-fits}
 use Rattle.manager.specs.declared.Order.the-variants.{Fifo, Priority}
 use Rattle.manager.specs.declared.Wait.the-variants.{No, Yes}
-use Rattle.script.specs.Table.{Key, noKey, Row, calls, noRow, orderOf, waitOf}
-use Rattle.script.specs.Reading.{findRow, keyAt, Numbers, numbers, wrong, numbersFrom, onNumbers, onRow, readCall}
+use Rattle.script.specs.Table.{Key, keys, noKey, Row, calls, noRow, orderOf, waitOf}
+use Rattle.script.specs.Reading.{findRow, keyAt, Numbers, numbers, wrong, numbersFrom, onNumbers, onRow, fieldsOf, readCall}
+use Rattle.script.specs.declared.Fields.{Fields}
+use Rattle.script.specs.declared.Fields.the-variants.{All, Wrong}
 use Rattle.script.specs.declared.ReadCall.the-variants.{One, BadAt, End}
 use Rattle.manager.specs.declared.Call.{Call}
 use Rattle.script.proofs.Rows.{whole}
+use Rattle.script.proofs.Tables.{sequence, sequenceFrom, keysOf, keyNumber, counted, numbered, lineSize, line-length, sixValues, six-values}
 
 -- ---- choices
 
@@ -60,10 +64,10 @@ pub find-miss : (rs : List Row) (i : ℕ) (bs : List ℕ) → i < length rs → 
 unfolding findRow
 find-miss rs i bs h e = rw (drop-cons rs i noRow h, e, add-one)
 
-none-some : {A : Type 0} (r : Row) → none ≡ some r → A
+pub none-some : {A : Type 0} (r : Row) → none ≡ some r → A
 none-some r e = let z : _≡_ {A = ℕ} 0 1 = cc in absurd (omega arith)
 
-some-same : (q r : Row) → some q ≡ some r → q ≡ r
+pub some-same : (q r : Row) → some q ≡ some r → q ≡ r
 some-same q r e = cc
 
 find-go : (q r : Row) (rs : List Row) (bs : List ℕ) (t : Bool) → starts (q .line) bs ≡ t → cond t (some q) (findRow rs bs) ≡ some r → (findRow rs bs ≡ some r → starts (r .line) bs ≡ true) → starts (r .line) bs ≡ true
@@ -91,6 +95,84 @@ module _ (s vs : List ℕ) (p i : ℕ) (ks : List Key) where
   unfolding numbersFrom
   numbers-more v q h k = rw (drop-cons ks i noKey h, k, add-one)
 
+-- ---- the loop of `read_fields`: what is left to read after i of the keys of call number k
+
+pub record FieldsLeft (s : List ℕ) (at k from count : ℕ) (out : List ℕ) (p i : ℕ) : Type 0 where
+  pub known : k < length calls
+  pub starts-at : from ≡ getD sequenceFrom k 0
+  pub counts : count ≡ length (keysOf k)
+  pub passed : i ≤ length (keysOf k)
+  pub room : 8 ≤ length out
+  pub rest : numbersFrom s [] at (keysOf k) ≡ numbersFrom s (take i out) p (drop i (keysOf k))
+
+pub fields-start : (s : List ℕ) (at k : ℕ) (out : List ℕ) →
+    k < length calls →
+    8 ≤ length out →
+    FieldsLeft s at k (getD sequenceFrom k 0) (getD sequenceFrom (k + 1) 0 - getD sequenceFrom k 0) out at 0
+fields-start s at k out h r =
+    record { known = h; starts-at = refl; counts = counted k h .count; passed = omega arith; room = r; rest = refl }
+
+module _ {s : List ℕ} {at k from count : ℕ} {out : List ℕ} {p i : ℕ} (f : FieldsLeft s at k from count out p i) where
+  key-left : i < count → i < length (keysOf k)
+  key-left l = let e = f .counts in omega arith
+
+  -- the number of the next key, and that key
+  pub sequence-within : i < count → from + i < length sequence
+  sequence-within l = let w = numbered k i (f .known) (key-left l) .within in let e = f .starts-at in omega arith
+
+  key-number : i < count → getD sequence (from + i) 0 ≡ keyNumber k i
+  key-number l = ap (λ (n : ℕ). getD sequence (n + i) 0) (f .starts-at)
+
+  pub key-known : i < count → getD sequence (from + i) 0 < length keys
+  key-known l = rw (key-number l) (numbered k i (f .known) (key-left l) .known)
+
+  key-is : i < count → getD keys (getD sequence (from + i) 0) noKey ≡ getD (keysOf k) i noKey
+  key-is l = rw (key-number l) (numbered k i (f .known) (key-left l) .is)
+
+  pub out-within : i < count → i < length out
+  out-within l =
+      let few = counted k (f .known) .few in
+      let room = f .room in
+      let j = key-left l in
+      omega arith
+
+  pub fields-wrong : (e : Entry) →
+      i < count →
+      e ≡ keyAt s p (getD keys (getD sequence (from + i) 0) noKey) →
+      e ≡ Bad →
+      wrong p ≡ numbersFrom s [] at (keysOf k)
+  fields-wrong e l h b =
+      let x : keyAt s p (getD (keysOf k) i noKey) ≡ Bad = rw (← (key-is l)) (sym h ∙ b) in
+      sym (f .rest ∙ numbers-bad s (take i out) p i (keysOf k) (key-left l) x)
+
+  pub fields-more : (e : Entry) (v q : ℕ) →
+      i < count →
+      e ≡ keyAt s p (getD keys (getD sequence (from + i) 0) noKey) →
+      e ≡ Took v q →
+      FieldsLeft s at k from count (set out i v) q (i + 1)
+  fields-more e v q l h b =
+      let x : keyAt s p (getD (keysOf k) i noKey) ≡ Took v q = rw (← (key-is l)) (sym h ∙ b) in
+      let j = key-left l in
+      let room = f .room in
+      let more = numbers-more s (take i out) p i (keysOf k) v q j x in
+      record {
+        known = f .known;
+        starts-at = f .starts-at;
+        counts = f .counts;
+        passed = omega arith;
+        room = simp length-set (f .room);
+        rest = f .rest ∙ more ∙ rw (add-one i, take-suc-set out i v (out-within l));
+      }
+
+  pub fields-all : count ≤ i → numbers (take (length (keysOf k)) out) p ≡ numbersFrom s [] at (keysOf k)
+  fields-all l =
+      let c = f .counts in
+      let j = f .passed in
+      let e : length (keysOf k) ≡ i = omega arith in
+      rw e (sym (f .rest ∙ numbers-end s (take i out) p i (keysOf k) (omega arith)))
+
+pub ruleset fieldReading = (fields-start, sequence-within, key-known, out-within, fields-wrong, fields-more, fields-all)
+
 -- ---- a call
 
 pub read-end : (s : List ℕ) (at : ℕ) → length s ≤ at → readCall s at ≡ End
@@ -105,16 +187,58 @@ read-row s at h = rw (lt-leb (length s) at h)
 pub read-none : (s : List ℕ) (at k : ℕ) → at < length s → findRow calls (drop at s) ≡ getElem? calls k → length calls ≤ k → readCall s at ≡ BadAt at
 read-none s at k h f l = read-row s at h ∙ rw (f, elem-none calls k l)
 
-pub read-some : (s : List ℕ) (at k : ℕ) → at < length s → findRow calls (drop at s) ≡ getElem? calls k → k < length calls → readCall s at ≡ onNumbers (numbersFrom s [] (at + length (getD calls k noRow .line)) (getD calls k noRow .keys)) (getD calls k noRow .call)
+pub read-some : (s : List ℕ) (at k : ℕ) → at < length s → findRow calls (drop at s) ≡ getElem? calls k → k < length calls → readCall s at ≡ onNumbers (numbersFrom s [] (at + length (getD calls k noRow .line)) (getD calls k noRow .keys)) (getD calls k noRow)
 read-some s at k h f l = read-row s at h ∙ rw (f, elem-some calls k l)
 
 pub read-fits : (s : List ℕ) (at k : ℕ) → at < length s → findRow calls (drop at s) ≡ getElem? calls k → k < length calls → at + length (getD calls k noRow .line) ≤ length s
 read-fits s at k h f l = starts-fits (getD calls k noRow .line) s at (omega arith) (find-starts calls (drop at s) (getD calls k noRow) (f ∙ elem-some calls k l))
 
--- what `read_call` puts together: the lines of the keys start after the call's line, and the numbers are the first of eight
-module _ (s : List ℕ) (at k from : ℕ) (i : at < length s) (f : findRow calls (drop at s) ≡ getElem? calls k) (l : k < length calls) (e : from ≡ at + length (getD calls k noRow .line)) where
-  pub read-wrong : (p : ℕ) → wrong p ≡ numbersFrom s [] from (getD calls k noRow .keys) → BadAt p ≡ readCall s at
-  read-wrong p h = sym (read-some s at k i f l ∙ rw (← e, ← h))
+-- ---- what `read_call` answers, from the facts at each `return`
 
-  pub read-took : (out : List ℕ) (q : ℕ) (c : Call) → length out ≡ 8 → numbers (take (length (getD calls k noRow .keys)) out) q ≡ numbersFrom s [] from (getD calls k noRow .keys) → c ≡ getD calls k noRow .call out → One c q ≡ readCall s at
-  read-took out q c n h g = sym (read-some s at k i f l ∙ rw (← e, ← h, whole k l out n, ← g))
+module _ (s : List ℕ) (at : ℕ) where
+  pub answers-end : length s ≤ at → End ≡ readCall s at
+  answers-end h = sym (read-end s at h)
+
+  module _ (k : ℕ) where
+    pub answers-none : at < length s → findRow calls (drop at s) ≡ getElem? calls k → length calls ≤ k → BadAt at ≡ readCall s at
+    answers-none h f l = sym (read-none s at k h f l)
+
+    -- the lines of the keys start after the call's line
+    fields-from : at < length s →
+        findRow calls (drop at s) ≡ getElem? calls k →
+        k < length calls →
+        readCall s at ≡ onNumbers (numbersFrom s [] (at + lineSize k) (getD calls k noRow .keys)) (getD calls k noRow)
+    fields-from i f l = read-some s at k i f l ∙ rw (← (line-length k l))
+
+    pub answers-wrong : (r : Fields) (p : ℕ) (out : List ℕ) →
+        at < length s →
+        findRow calls (drop at s) ≡ getElem? calls k →
+        k < length calls →
+        r ≡ Wrong p →
+        fieldsOf r out (length (getD calls k noRow .keys)) ≡ numbersFrom s [] (at + lineSize k) (getD calls k noRow .keys) →
+        BadAt p ≡ readCall s at
+    answers-wrong r p out i f l e h = sym (fields-from i f l ∙ rw (← h, e))
+
+    -- the numbers are the first of eight
+    pub answers-call : (r : Fields) (q : ℕ) (out : List ℕ) (c : Call) (six : Bool) →
+        at < length s →
+        findRow calls (drop at s) ≡ getElem? calls k →
+        k < length calls →
+        r ≡ All q →
+        length out ≡ 8 →
+        fieldsOf r out (length (getD calls k noRow .keys)) ≡ numbersFrom s [] (at + lineSize k) (getD calls k noRow .keys) →
+        c ≡ getD calls k noRow .call out →
+        six ≡ getD sixValues k false →
+        One c six q ≡ readCall s at
+    answers-call r q out c six i f l e n h g b = sym (fields-from i f l ∙ rw (← h, e, whole k l out n, ← g, ← (six-values k), ← b))
+
+    -- the place of the first key is within the script
+    pub fields-within : at < length s → findRow calls (drop at s) ≡ getElem? calls k → k < length calls → at + lineSize k ≤ length s
+    fields-within i f l = rw (line-length k l) (read-fits s at k i f l)
+
+pub ruleset callAnswers = (answers-end, answers-none, answers-wrong, answers-call)
+
+-- ---- what `call_of` answers in the arm of row n
+
+pub row-call : (k n : ℕ) (v : List ℕ) (c : Call) → k ≡ n → c ≡ getD calls n noRow .call v → c ≡ getD calls k noRow .call v
+row-call k n v c e h = rw e h

@@ -11,8 +11,8 @@ use Rattle.manager.specs.declared.Wait.{Wait}
 use Rattle.manager.specs.declared.Wait.the-variants.{No, Yes}
 use Rattle.manager.specs.declared.Call.{Call}
 use Rattle.manager.specs.declared.Call.the-variants.{CreateRegion, IdentRegion, DeleteRegion, GetSegment, ReturnSegment, SegmentSize, ResizeSegment, RegionInformation, CreatePartition, IdentPartition, DeletePartition, GetBuffer, ReturnBuffer, Tick}
-use Rattle.script.specs.Table.{Key, noKey, Row, calls, noRow, orderOf, waitOf, createRegion, createPartition, identRegion, identPartition, deleteRegion, deletePartition, information, getBuffer, getSegment, returnSegment, segmentSize, returnBuffer, resizeSegment, tick}
-use Rattle.script.specs.Written.{orderNumber, waitNumber, rowOf, argumentsOf, Fit}
+use Rattle.script.specs.Table.{Key, noKey, Row, calls, noRow, orderOf, waitOf, createRegionRow, getSegmentRow, orderNumber, waitNumber, rowOf, argumentsOf}
+use Rattle.script.specs.Written.{Fit}
 
 -- ---- one fact for each row
 
@@ -33,10 +33,7 @@ Whole r = (a b c d e f g h : ℕ) → r .call (take (length (r .keys)) (a ∷ b 
 
 each-whole : All Whole calls
 unfolding Whole
-each-whole =
-    (λ a b c d e f g h. refl) and (λ a b c d e f g h. refl) and (λ a b c d e f g h. refl) and (λ a b c d e f g h. refl) and (λ a b c d e f g h. refl)
-    and (λ a b c d e f g h. refl) and (λ a b c d e f g h. refl) and (λ a b c d e f g h. refl) and (λ a b c d e f g h. refl) and (λ a b c d e f g h. refl)
-    and (λ a b c d e f g h. refl) and (λ a b c d e f g h. refl) and (λ a b c d e f g h. refl) and (λ a b c d e f g h. refl) and done
+each-whole = search (done, _and_) depth 40 fits 4000
 
 eight : (r : Row) → Whole r → (vs : List ℕ) → length vs ≡ 8 → r .call (take (length (r .keys)) vs) ≡ r .call vs
 unfolding Whole
@@ -100,40 +97,25 @@ fit-at (k ∷ ks) [] f i h = absurd f
 fit-at (k ∷ ks) (v ∷ vs) f zero h = f .0
 fit-at (k ∷ ks) (v ∷ vs) f (suc i) h = fit-at ks vs (f .1) i (omega arith)
 
-makes-create : Makes createRegion
+makes-create : Makes createRegionRow
 unfolding Makes
 makes-create vs h =
     record {
       its-row = refl;
-      its-numbers = rw (order-back (getD vs 4 0) (fit-at (createRegion .keys) vs h 4 (omega arith))) (spread-fit (createRegion .keys) vs h);
+      its-numbers = rw (order-back (getD vs 4 0) (fit-at (createRegionRow .keys) vs h 4 (omega arith))) (spread-fit (createRegionRow .keys) vs h);
     }
 
-makes-get : Makes getSegment
+makes-get : Makes getSegmentRow
 unfolding Makes
 makes-get vs h =
     record {
       its-row = refl;
-      its-numbers = rw (wait-back (getD vs 2 0) (fit-at (getSegment .keys) vs h 2 (omega arith))) (spread-fit (getSegment .keys) vs h);
+      its-numbers = rw (wait-back (getD vs 2 0) (fit-at (getSegmentRow .keys) vs h 2 (omega arith))) (spread-fit (getSegmentRow .keys) vs h);
     }
 
 each-makes : All Makes calls
 unfolding Makes
-each-makes =
-    makes-create
-    and plain createPartition (λ vs. refl) (λ vs. refl)
-    and plain identRegion (λ vs. refl) (λ vs. refl)
-    and plain identPartition (λ vs. refl) (λ vs. refl)
-    and plain deleteRegion (λ vs. refl) (λ vs. refl)
-    and plain deletePartition (λ vs. refl) (λ vs. refl)
-    and plain information (λ vs. refl) (λ vs. refl)
-    and plain getBuffer (λ vs. refl) (λ vs. refl)
-    and makes-get
-    and plain returnSegment (λ vs. refl) (λ vs. refl)
-    and plain segmentSize (λ vs. refl) (λ vs. refl)
-    and plain returnBuffer (λ vs. refl) (λ vs. refl)
-    and plain resizeSegment (λ vs. refl) (λ vs. refl)
-    and plain tick (λ vs. refl) (λ vs. refl)
-    and done
+each-makes = search (done, _and_, makes-create, makes-get, plain) depth 40 fits 4000
 
 pub made : (k : ℕ) → k < length calls → (vs : List ℕ) → Fit (getD calls k noRow .keys) vs → Made (getD calls k noRow) vs
 unfolding Makes
@@ -148,39 +130,27 @@ wait-there : (w : Wait) → waitOf (waitNumber w) ≡ w
 wait-there No = refl
 wait-there Yes = refl
 
-pub remade : (c : Call) → rowOf c .call (argumentsOf c) ≡ c
-remade (CreateRegion n s l p o) = rw (order-there o)
-remade (CreatePartition n s l z) = refl
-remade (IdentRegion n) = refl
-remade (IdentPartition n) = refl
-remade (DeleteRegion i) = refl
-remade (DeletePartition i) = refl
-remade (RegionInformation i) = refl
-remade (GetBuffer i) = refl
-remade (GetSegment i z w t p k) = rw (wait-there w)
-remade (ReturnSegment i a) = refl
-remade (SegmentSize i a) = refl
-remade (ReturnBuffer i a) = refl
-remade (ResizeSegment i a z) = refl
-remade Tick = refl
-
 pub record Listed (c : Call) : Type 0 where
   pub place : ℕ
   pub known : place < length calls
   pub is : getD calls place noRow ≡ rowOf c
+  pub remade : rowOf c .call (argumentsOf c) ≡ c
+
+at-place : (c : Call) (k : ℕ) → k < length calls → getD calls k noRow ≡ rowOf c → rowOf c .call (argumentsOf c) ≡ c → Listed c
+at-place c k h e f = record { place = k; known = h; is = e; remade = f }
 
 pub listed : (c : Call) → Listed c
-listed (CreateRegion n s l p o) = record { place = 0; known = omega arith; is = refl }
-listed (CreatePartition n s l z) = record { place = 1; known = omega arith; is = refl }
-listed (IdentRegion n) = record { place = 2; known = omega arith; is = refl }
-listed (IdentPartition n) = record { place = 3; known = omega arith; is = refl }
-listed (DeleteRegion i) = record { place = 4; known = omega arith; is = refl }
-listed (DeletePartition i) = record { place = 5; known = omega arith; is = refl }
-listed (RegionInformation i) = record { place = 6; known = omega arith; is = refl }
-listed (GetBuffer i) = record { place = 7; known = omega arith; is = refl }
-listed (GetSegment i z w t p k) = record { place = 8; known = omega arith; is = refl }
-listed (ReturnSegment i a) = record { place = 9; known = omega arith; is = refl }
-listed (SegmentSize i a) = record { place = 10; known = omega arith; is = refl }
-listed (ReturnBuffer i a) = record { place = 11; known = omega arith; is = refl }
-listed (ResizeSegment i a z) = record { place = 12; known = omega arith; is = refl }
-listed Tick = record { place = 13; known = omega arith; is = refl }
+listed (CreateRegion n s l p o) = at-place (CreateRegion n s l p o) 0 (omega arith) refl (rw (order-there o))
+listed (CreatePartition n s l z) = at-place (CreatePartition n s l z) 1 (omega arith) refl refl
+listed (IdentRegion n) = at-place (IdentRegion n) 2 (omega arith) refl refl
+listed (IdentPartition n) = at-place (IdentPartition n) 3 (omega arith) refl refl
+listed (DeleteRegion i) = at-place (DeleteRegion i) 4 (omega arith) refl refl
+listed (DeletePartition i) = at-place (DeletePartition i) 5 (omega arith) refl refl
+listed (RegionInformation i) = at-place (RegionInformation i) 6 (omega arith) refl refl
+listed (GetBuffer i) = at-place (GetBuffer i) 7 (omega arith) refl refl
+listed (GetSegment i z w t p k) = at-place (GetSegment i z w t p k) 8 (omega arith) refl (rw (wait-there w))
+listed (ReturnSegment i a) = at-place (ReturnSegment i a) 9 (omega arith) refl refl
+listed (SegmentSize i a) = at-place (SegmentSize i a) 10 (omega arith) refl refl
+listed (ReturnBuffer i a) = at-place (ReturnBuffer i a) 11 (omega arith) refl refl
+listed (ResizeSegment i a z) = at-place (ResizeSegment i a z) 12 (omega arith) refl refl
+listed Tick = at-place Tick 13 (omega arith) refl refl

@@ -125,13 +125,25 @@ line-held k h = held lineTexts lineText lineFrom k (all-upto (length calls) (hel
 pub line-text : (k : ℕ) → getD lineTexts k [] ≡ getD calls k noRow .line
 line-text k = List·getD-map (λ (x : Row). x .line) calls k noRow
 
-pub line-length : (k : ℕ) → k < length calls → getD lineFrom (k + 1) 0 - getD lineFrom k 0 ≡ length (getD calls k noRow .line)
+-- how many bytes it has
+abbrev pub lineSize : ℕ → ℕ
+lineSize k = getD lineFrom (k + 1) 0 - getD lineFrom k 0
+
+pub line-length : (k : ℕ) → k < length calls → lineSize k ≡ length (getD calls k noRow .line)
 line-length k h =
     let r = line-held k h in
     let w = r .within in
     let d = length-drop (getD lineFrom k 0) lineText in
     sym (length-take-le (getD lineFrom (k + 1) 0 - getD lineFrom k 0) (drop (getD lineFrom k 0) lineText) (omega arith))
     ∙ ap (λ (x : List ℕ). length x) (r .is ∙ line-text k)
+
+-- ---- whether the answer has six values
+
+abbrev pub sixValues : List Bool
+sixValues = map (λ (r : Row). r .sixValues) calls
+
+pub six-values : (k : ℕ) → getD sixValues k false ≡ getD calls k noRow .sixValues
+six-values k = List·getD-map (λ (x : Row). x .sixValues) calls k noRow
 
 -- ---- the keys of the calls, by their numbers
 

@@ -20,14 +20,14 @@ use Rattle.text.proofs.Digits.{length-line}
 use Rattle.text.proofs.Numbers.{digits-some}
 use Rattle.text.proofs.WrittenLines.{plain, starts-complete, starts-sound, FieldRead, field-complete, field-sound}
 use Rattle.manager.specs.declared.Call.{Call}
-use Rattle.script.specs.Table.{Key, noKey, Row, calls, noRow}
+use Rattle.script.specs.Table.{Key, noKey, Row, calls, noRow, rowOf, argumentsOf}
 use Rattle.script.specs.Reading.{findRow, keyAt, Numbers, numbers, wrong, onEntry, numbersFrom, onNumbers, onRow, readCall}
-use Rattle.script.specs.Written.{rowOf, argumentsOf, writeFields, write, Fit}
+use Rattle.script.specs.Written.{writeFields, write, Fit}
 use Rattle.script.specs.declared.ReadCall.{ReadCall}
 use Rattle.script.specs.declared.ReadCall.the-variants.{One, BadAt, End}
 use Rattle.script.proofs.Tables.{allUpto, both, all-upto}
-use Rattle.script.proofs.Laws.{find-starts, read-row}
-use Rattle.script.proofs.Rows.{Made, made, remade, listed}
+use Rattle.script.proofs.Laws.{none-some, some-same, find-starts, read-row}
+use Rattle.script.proofs.Rows.{Made, made, listed}
 
 -- ---- the keys: none has a newline or more than 52 bytes, and every largest number is below 2 ^ 32
 
@@ -104,12 +104,6 @@ record Placed (rs : List Row) (r : Row) : Type 0 where
   known : place < length rs
   is : getD rs place noRow ≡ r
 
-none-some : {A : Type 0} (r : Row) → none ≡ some r → A
-none-some r e = let z : _≡_ {A = ℕ} 0 1 = cc in absurd (omega arith)
-
-some-same : (q r : Row) → some q ≡ some r → q ≡ r
-some-same q r e = cc
-
 placed-go : (q r : Row) (rs : List Row) (bs : List ℕ) (t : Bool) → cond t (some q) (findRow rs bs) ≡ some r → (findRow rs bs ≡ some r → Placed rs r) → Placed (q ∷ rs) r
 placed-go q r rs bs true h f = record { place = 0; known = omega arith; is = some-same q r h }
 placed-go q r rs bs false h f =
@@ -155,7 +149,11 @@ numbers-list vs ws p q e = cc
 numbers-next : (vs ws : List ℕ) (p q : ℕ) → numbers vs p ≡ numbers ws q → p ≡ q
 numbers-next vs ws p q e = cc
 
-more-go : (k : Key) (ks : List Key) (s acc ws : List ℕ) (p q : ℕ) (g : Entry) → keyAt s p k ≡ g → onEntry g (wrong p) (λ v r. numbersFrom s (acc ++ (v ∷ [])) r ks) ≡ numbers ws q → ((v r : ℕ) → r ≤ length s → numbersFrom s (acc ++ (v ∷ [])) r ks ≡ numbers ws q → NumbersRead s (acc ++ (v ∷ [])) ks ws r q) → NumbersRead s acc (k ∷ ks) ws p q
+more-go : (k : Key) (ks : List Key) (s acc ws : List ℕ) (p q : ℕ) (g : Entry) →
+    keyAt s p k ≡ g →
+    onEntry g (wrong p) (λ v r. numbersFrom s (acc ++ (v ∷ [])) r ks) ≡ numbers ws q →
+    ((v r : ℕ) → r ≤ length s → numbersFrom s (acc ++ (v ∷ [])) r ks ≡ numbers ws q → NumbersRead s (acc ++ (v ∷ [])) ks ws r q) →
+    NumbersRead s acc (k ∷ ks) ws p q
 unfolding writeFields Fit keyAt
 more-go k ks s acc ws p q (Took v r) e h f =
     let a = field-sound s (k .text) p (k .most) v r e in
@@ -204,7 +202,7 @@ write-least c f =
 -- ---- a call
 
 -- A WRITTEN CALL IS READ BACK
-pub read-complete : (s rest : List ℕ) (at : ℕ) (c : Call) → Fit (rowOf c .keys) (argumentsOf c) → drop at s ≡ write c ++ rest → readCall s at ≡ One c (at + length (write c))
+pub read-complete : (s rest : List ℕ) (at : ℕ) (c : Call) → Fit (rowOf c .keys) (argumentsOf c) → drop at s ≡ write c ++ rest → readCall s at ≡ One c (rowOf c .sixValues) (at + length (write c))
 unfolding write
 read-complete s rest at c f h =
     let line = rowOf c .line in
@@ -220,37 +218,41 @@ read-complete s rest at c f h =
     let e : numbersFrom s [] (at + length line) (rowOf c .keys) ≡ numbers (argumentsOf c) (at + length line + length fields) = numbers-complete (rowOf c .keys) (argumentsOf c) s [] rest (at + length line) fine f d in
     read-row s at i
     ∙ ap (λ (o : Option Row). onRow o s at) found
-    ∙ ap (λ (x : Numbers). onNumbers x (rowOf c .call)) e
-    ∙ ap (λ (x : Call). One x (at + length line + length fields)) (remade c)
-    ∙ ap (λ (x : ℕ). One c x) (omega (arith, length-append line fields))
+    ∙ ap (λ (x : Numbers). onNumbers x (rowOf c)) e
+    ∙ ap (λ (x : Call). One x (rowOf c .sixValues) (at + length line + length fields)) (l .remade)
+    ∙ ap (λ (x : ℕ). One c (rowOf c .sixValues) x) (omega (arith, length-append line fields))
 
-pub record CallRead (s : List ℕ) (at : ℕ) (c : Call) (q : ℕ) : Type 0 where
+pub record CallRead (s : List ℕ) (at : ℕ) (c : Call) (six : Bool) (q : ℕ) : Type 0 where
+  pub values : six ≡ rowOf c .sixValues
   pub fit : Fit (rowOf c .keys) (argumentsOf c)
   pub text : drop at s ≡ write c ++ drop q s
   pub before : at < length s
   pub within : q ≤ length s
 
-end-one : {A : Type 0} (c : Call) (q : ℕ) → End ≡ One c q → A
-end-one c q e = let z : _≡_ {A = ℕ} 0 1 = cc in absurd (omega arith)
+end-one : {A : Type 0} (c : Call) (six : Bool) (q : ℕ) → End ≡ One c six q → A
+end-one c six q e = let z : _≡_ {A = ℕ} 0 1 = cc in absurd (omega arith)
 
-bad-one : {A : Type 0} (p : ℕ) (c : Call) (q : ℕ) → BadAt p ≡ One c q → A
-bad-one p c q e = let z : _≡_ {A = ℕ} 0 1 = cc in absurd (omega arith)
+bad-one : {A : Type 0} (p : ℕ) (c : Call) (six : Bool) (q : ℕ) → BadAt p ≡ One c six q → A
+bad-one p c six q e = let z : _≡_ {A = ℕ} 0 1 = cc in absurd (omega arith)
 
-one-call : (b c : Call) (p q : ℕ) → One b p ≡ One c q → b ≡ c
-one-call b c p q e = cc
+record SameOne (b c : Call) (u t : Bool) (p q : ℕ) : Type 0 where
+  call : b ≡ c
+  six : u ≡ t
+  next : p ≡ q
 
-one-next : (b c : Call) (p q : ℕ) → One b p ≡ One c q → p ≡ q
-one-next b c p q e = cc
+same-one : (b c : Call) (u t : Bool) (p q : ℕ) → One b u p ≡ One c t q → SameOne b c u t p q
+same-one b c u t p q e = record { call = cc; six = cc; next = cc }
 
-module _ (s : List ℕ) (at : ℕ) (c : Call) (q : ℕ) (i : at < length s) where
-  numbers-go : (r : Row) (n : Numbers) → findRow calls (drop at s) ≡ some r → numbersFrom s [] (at + length (r .line)) (r .keys) ≡ n → onNumbers n (r .call) ≡ One c q → CallRead s at c q
+module _ (s : List ℕ) (at : ℕ) (c : Call) (six : Bool) (q : ℕ) (i : at < length s) where
+  numbers-go : (r : Row) (n : Numbers) → findRow calls (drop at s) ≡ some r → numbersFrom s [] (at + length (r .line)) (r .keys) ≡ n → onNumbers n r ≡ One c six q → CallRead s at c six q
   unfolding write
   numbers-go r (numbers ws p) o e h =
       let st = find-starts calls (drop at s) r o in
       let pl = placed calls (drop at s) r o in
       let f = numbers-sound (r .keys) s [] ws (at + length (r .line)) p (starts-fits (r .line) s at (omega arith) st) e in
-      let ec : r .call ws ≡ c = one-call (r .call ws) c p q h in
-      let eq : p ≡ q = one-next (r .call ws) c p q h in
+      let o1 = same-one (r .call ws) c (r .sixValues) six p q h in
+      let ec : r .call ws ≡ c = o1 .call in
+      let eq : p ≡ q = o1 .next in
       let fw : Fit (r .keys) ws = rw (f .are) (f .fit) in
       let m = subst (λ (x : Row). Fit (x .keys) ws → Made x ws) (pl .is) (made (pl .place) (pl .known) ws) fw in
       let er : r ≡ rowOf c = sym (ap rowOf (sym ec) ∙ m .its-row) in
@@ -258,6 +260,7 @@ module _ (s : List ℕ) (at : ℕ) (c : Call) (q : ℕ) (i : at < length s) wher
       let ft : drop (at + length (r .line)) s ≡ writeFields (r .keys) ws ++ drop p s = rw (f .are) (f .text) in
       let t : drop at s ≡ (r .line ++ writeFields (r .keys) ws) ++ drop p s = starts-sound (r .line) (drop at s) st ∙ ap (λ (x : List ℕ). r .line ++ x) (drop-drop (length (r .line)) at s ∙ ft) ∙ sym (append-assoc (r .line) (writeFields (r .keys) ws) (drop p s)) in
       record {
+        values = sym (o1 .six) ∙ ap (λ (x : Row). x .sixValues) er;
         fit = subst (λ (x : List ℕ). Fit (rowOf c .keys) x) ea (subst (λ (x : Row). Fit (x .keys) ws) er fw);
         text = t
             ∙ ap (λ (x : Row). (x .line ++ writeFields (x .keys) ws) ++ drop p s) er
@@ -266,20 +269,20 @@ module _ (s : List ℕ) (at : ℕ) (c : Call) (q : ℕ) (i : at < length s) wher
         before = i;
         within = subst (λ (n : ℕ). n ≤ length s) eq (f .within);
       }
-  numbers-go r (wrong p) o e h = bad-one p c q h
+  numbers-go r (wrong p) o e h = bad-one p c six q h
 
-  row-go : (o : Option Row) → findRow calls (drop at s) ≡ o → onRow o s at ≡ One c q → CallRead s at c q
+  row-go : (o : Option Row) → findRow calls (drop at s) ≡ o → onRow o s at ≡ One c six q → CallRead s at c six q
   row-go (some r) e h = numbers-go r (numbersFrom s [] (at + length (r .line)) (r .keys)) e refl h
-  row-go none e h = bad-one at c q h
+  row-go none e h = bad-one at c six q h
 
-sound-go : (s : List ℕ) (at : ℕ) (c : Call) (q : ℕ) (t : Bool) → leb (length s) at ≡ t → cond t End (onRow (findRow calls (drop at s)) s at) ≡ One c q → CallRead s at c q
-sound-go s at c q true e h = end-one c q h
-sound-go s at c q false e h = row-go s at c q (leb-false (length s) at e) (findRow calls (drop at s)) refl h
+sound-go : (s : List ℕ) (at : ℕ) (c : Call) (six : Bool) (q : ℕ) (t : Bool) → leb (length s) at ≡ t → cond t End (onRow (findRow calls (drop at s)) s at) ≡ One c six q → CallRead s at c six q
+sound-go s at c six q true e h = end-one c six q h
+sound-go s at c six q false e h = row-go s at c six q (leb-false (length s) at e) (findRow calls (drop at s)) refl h
 
 -- WHAT IS READ IS A WRITTEN CALL
-pub read-sound : (s : List ℕ) (at : ℕ) (c : Call) (q : ℕ) → readCall s at ≡ One c q → CallRead s at c q
+pub read-sound : (s : List ℕ) (at : ℕ) (c : Call) (six : Bool) (q : ℕ) → readCall s at ≡ One c six q → CallRead s at c six q
 unfolding readCall
-read-sound s at c q h = sound-go s at c q (leb (length s) at) refl h
+read-sound s at c six q h = sound-go s at c six q (leb (length s) at) refl h
 
 -- the next line starts where the written call ends, 10 bytes on or more
 pub record Advances (s : List ℕ) (at q : ℕ) (n : ℕ) : Type 0 where
@@ -287,9 +290,9 @@ pub record Advances (s : List ℕ) (at q : ℕ) (n : ℕ) : Type 0 where
   pub far : at + 10 ≤ q
   pub within : q ≤ length s
 
-pub read-next : (s : List ℕ) (at : ℕ) (c : Call) (q : ℕ) → readCall s at ≡ One c q → Advances s at q (length (write c))
-read-next s at c q h =
-    let r = read-sound s at c q h in
+pub read-next : (s : List ℕ) (at : ℕ) (c : Call) (six : Bool) (q : ℕ) → readCall s at ≡ One c six q → Advances s at q (length (write c))
+read-next s at c six q h =
+    let r = read-sound s at c six q h in
     let b = r .before in
     let w = r .within in
     let l = write-least c (r .fit) in

@@ -12,7 +12,7 @@ use lib.Seq.{drop-drop, drop-append-seam}
 use lib.Dec.{leb}
 use borrow.Author.Tests.{leb-true}
 use Rattle.manager.specs.declared.Call.{Call}
-use Rattle.script.specs.Table.{Row, calls}
+use Rattle.script.specs.Table.{Row, calls, rowOf}
 use Rattle.script.specs.Reading.{findRow, Numbers, numbers, wrong, numbersFrom, onNumbers, onRow, readCall, Script, whole, stops, follows, onRead, readFrom, readAll}
 use Rattle.script.specs.Written.{write, writeAll, Fit, FitAll}
 use Rattle.script.specs.declared.ReadCall.{ReadCall}
@@ -32,14 +32,14 @@ unfolding readFrom
 from-bad zero s at p z e = absurd (omega arith)
 from-bad (suc k) s at p z e = rw e
 
-pub from-one : (k : ℕ) (s : List ℕ) (at : ℕ) (c : Call) (q : ℕ) → readCall s at ≡ One c q → readFrom (suc k) s at ≡ follows c (readFrom k s q)
+pub from-one : (k : ℕ) (s : List ℕ) (at : ℕ) (c : Call) (six : Bool) (q : ℕ) → readCall s at ≡ One c six q → readFrom (suc k) s at ≡ follows c (readFrom k s q)
 unfolding readFrom
-from-one k s at c q e = rw e
+from-one k s at c six q e = rw e
 
 -- ---- bytes enough: more turns than there are bytes left change nothing
 
-fuel-go : (k j : ℕ) (s : List ℕ) (at : ℕ) (r : ReadCall) → readCall s at ≡ r → ((c : Call) (q : ℕ) → readCall s at ≡ One c q → readFrom k s q ≡ readFrom j s q) → onRead r (λ q. readFrom k s q) ≡ onRead r (λ q. readFrom j s q)
-fuel-go k j s at (One c q) e f = ap (λ (t : Script). follows c t) (f c q e)
+fuel-go : (k j : ℕ) (s : List ℕ) (at : ℕ) (r : ReadCall) → readCall s at ≡ r → ((c : Call) (six : Bool) (q : ℕ) → readCall s at ≡ One c six q → readFrom k s q ≡ readFrom j s q) → onRead r (λ q. readFrom k s q) ≡ onRead r (λ q. readFrom j s q)
+fuel-go k j s at (One c six q) e f = ap (λ (t : Script). follows c t) (f c six q e)
 fuel-go k j s at (BadAt p) e f = refl
 fuel-go k j s at End e f = refl
 
@@ -49,15 +49,15 @@ fuel zero j s at h g = absurd (omega arith)
 fuel (suc k) zero s at h g = absurd (omega arith)
 fuel (suc k) (suc j) s at h g =
     fuel-go k j s at (readCall s at) refl
-    (λ c q e. let a = read-next s at c q e in let f = a .far in let w = a .within in fuel k j s q (omega arith) (omega arith))
+    (λ c six q e. let a = read-next s at c six q e in let f = a .far in let w = a .within in fuel k j s q (omega arith) (omega arith))
 
 -- a call and the rest
-pub then-one : (s : List ℕ) (at : ℕ) (c : Call) (q : ℕ) → readCall s at ≡ One c q → readFrom (suc (length s)) s at ≡ follows c (readFrom (suc (length s)) s q)
-then-one s at c q e =
-    let a = read-next s at c q e in
+pub then-one : (s : List ℕ) (at : ℕ) (c : Call) (six : Bool) (q : ℕ) → readCall s at ≡ One c six q → readFrom (suc (length s)) s at ≡ follows c (readFrom (suc (length s)) s q)
+then-one s at c six q e =
+    let a = read-next s at c six q e in
     let f = a .far in
     let w = a .within in
-    from-one (length s) s at c q e ∙ ap (λ (t : Script). follows c t) (fuel (length s) (suc (length s)) s q (omega arith) (omega arith))
+    from-one (length s) s at c six q e ∙ ap (λ (t : Script). follows c t) (fuel (length s) (suc (length s)) s q (omega arith) (omega arith))
 
 -- ---- what is written is read back
 
@@ -66,7 +66,7 @@ unfolding writeAll FitAll
 back-from [] s at f h = from-end (suc (length s)) s at (omega arith) (read-end s at (omega (arith, length-drop at s, ap (λ (x : List ℕ). length x) h)))
 back-from (c ∷ cs) s at f h =
     let d : drop (at + length (write c)) s ≡ writeAll cs = sym (drop-drop (length (write c)) at s) ∙ rw h (drop-append-seam (write c) (writeAll cs)) in
-    then-one s at c (at + length (write c)) (read-complete s (writeAll cs) at c (f .0) h)
+    then-one s at c (rowOf c .sixValues) (at + length (write c)) (read-complete s (writeAll cs) at c (f .0) h)
     ∙ ap (λ (t : Script). follows c t) (back-from cs s (at + length (write c)) (f .1) d)
 
 -- WHAT IS WRITTEN FROM A LIST OF CALLS READS BACK AS THAT LIST
@@ -76,18 +76,18 @@ reads-back cs f = back-from cs (writeAll cs) 0 f refl
 
 -- ---- what is accepted is written
 
-one-end : {A : Type 0} (c : Call) (q : ℕ) → One c q ≡ End → A
-one-end c q e = let z : _≡_ {A = ℕ} 0 1 = cc in absurd (omega arith)
+one-end : {A : Type 0} (c : Call) (six : Bool) (q : ℕ) → One c six q ≡ End → A
+one-end c six q e = let z : _≡_ {A = ℕ} 0 1 = cc in absurd (omega arith)
 
 bad-end : {A : Type 0} (p : ℕ) → BadAt p ≡ End → A
 bad-end p e = let z : _≡_ {A = ℕ} 0 1 = cc in absurd (omega arith)
 
-numbers-end : (n : Numbers) (call : List ℕ → Call) → onNumbers n call ≡ End → ⊥
-numbers-end (numbers vs q) call e = one-end (call vs) q e
-numbers-end (wrong p) call e = bad-end p e
+numbers-end : (n : Numbers) (r : Row) → onNumbers n r ≡ End → ⊥
+numbers-end (numbers vs q) r e = one-end (r .call vs) (r .sixValues) q e
+numbers-end (wrong p) r e = bad-end p e
 
 row-end : (o : Option Row) (s : List ℕ) (at : ℕ) → onRow o s at ≡ End → ⊥
-row-end (some r) s at e = numbers-end (numbersFrom s [] (at + length (r .line)) (r .keys)) (r .call) e
+row-end (some r) s at e = numbers-end (numbersFrom s [] (at + length (r .line)) (r .keys)) r e
 row-end none s at e = bad-end at e
 
 ended-go : (s : List ℕ) (at : ℕ) (t : Bool) → leb (length s) at ≡ t → cond t End (onRow (findRow calls (drop at s)) s at) ≡ End → length s ≤ at
@@ -115,24 +115,29 @@ record WrittenFrom (cs : List Call) (s : List ℕ) (at : ℕ) : Type 0 where
   fit : FitAll cs
   text : drop at s ≡ writeAll cs
 
-one-go : (s : List ℕ) (at : ℕ) (c : Call) (q : ℕ) (cs : List Call) (t : Script) → readCall s at ≡ One c q → follows c t ≡ whole cs → ((ds : List Call) → t ≡ whole ds → WrittenFrom ds s q) → WrittenFrom cs s at
+one-go : (s : List ℕ) (at : ℕ) (c : Call) (six : Bool) (q : ℕ) (cs : List Call) (t : Script) → readCall s at ≡ One c six q → follows c t ≡ whole cs → ((ds : List Call) → t ≡ whole ds → WrittenFrom ds s q) → WrittenFrom cs s at
 unfolding writeAll FitAll
-one-go s at c q [] t e h f = nil-cons c (t .calls) (sym (ap (λ (x : Script). x .calls) h))
-one-go s at c q (d ∷ cs) t e h f =
-    let r = read-sound s at c q e in
+one-go s at c six q [] t e h f = nil-cons c (t .calls) (sym (ap (λ (x : Script). x .calls) h))
+one-go s at c six q (d ∷ cs) t e h f =
+    let r = read-sound s at c six q e in
     let ec : c ≡ d = cons-head c d (t .calls) cs (ap (λ (x : Script). x .calls) h) in
     let et : t .calls ≡ cs = cons-tail c d (t .calls) cs (ap (λ (x : Script). x .calls) h) in
     let eb : t .bad ≡ none = ap (λ (x : Script). x .bad) h in
     let w = f cs (ap (λ (x : List Call). record { calls = x; bad = t .bad }) et ∙ ap (λ (x : Option ℕ). record { calls = cs; bad = x }) eb) in
     record { fit = (rw (← ec) (r .fit), w .fit); text = r .text ∙ rw (ec, w .text) }
 
-only-go : (k : ℕ) (cs : List Call) (s : List ℕ) (at : ℕ) (r : ReadCall) → length s - at < suc k → readCall s at ≡ r → onRead r (λ q. readFrom k s q) ≡ whole cs → ((ds : List Call) (q : ℕ) → length s - q < k → readFrom k s q ≡ whole ds → WrittenFrom ds s q) → WrittenFrom cs s at
+only-go : (k : ℕ) (cs : List Call) (s : List ℕ) (at : ℕ) (r : ReadCall) →
+    length s - at < suc k →
+    readCall s at ≡ r →
+    onRead r (λ q. readFrom k s q) ≡ whole cs →
+    ((ds : List Call) (q : ℕ) → length s - q < k → readFrom k s q ≡ whole ds → WrittenFrom ds s q) →
+    WrittenFrom cs s at
 unfolding writeAll FitAll
-only-go k cs s at (One c q) g e h f =
-    let a = read-next s at c q e in
+only-go k cs s at (One c six q) g e h f =
+    let a = read-next s at c six q e in
     let r = a .far in
     let w = a .within in
-    one-go s at c q cs (readFrom k s q) e h (λ ds i. f ds q (omega arith) i)
+    one-go s at c six q cs (readFrom k s q) e h (λ ds i. f ds q (omega arith) i)
 only-go k cs s at (BadAt p) g e h f = some-none p (ap (λ (x : Script). x .bad) h)
 only-go k cs s at End g e h f =
     let n : [] ≡ cs = ap (λ (x : Script). x .calls) h in

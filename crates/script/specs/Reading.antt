@@ -41,12 +41,12 @@ unfoldable pub numbersFrom : List ℕ → List ℕ → ℕ → List Key → Numb
 numbersFrom s vs p [] = numbers vs p
 numbersFrom s vs p (k ∷ ks) = onEntry (keyAt s p k) (wrong p) λ v q. numbersFrom s (vs ++ (v ∷ [])) q ks
 
-abbrev pub onNumbers : Numbers → (List ℕ → Call) → ReadCall
-onNumbers (numbers vs q) call = One (call vs) q
-onNumbers (wrong p) call = BadAt p
+abbrev pub onNumbers : Numbers → Row → ReadCall
+onNumbers (numbers vs q) r = One (r .call vs) (r .sixValues) q
+onNumbers (wrong p) r = BadAt p
 
 abbrev pub onRow : Option Row → List ℕ → ℕ → ReadCall
-onRow (some r) s at = onNumbers (numbersFrom s [] (at + length (r .line)) (r .keys)) (r .call)
+onRow (some r) s at = onNumbers (numbersFrom s [] (at + length (r .line)) (r .keys)) r
 onRow none s at = BadAt at
 
 -- the call at `at`
@@ -71,7 +71,7 @@ abbrev pub follows : Call → Script → Script
 follows c t = record { calls = c ∷ t .calls; bad = t .bad }
 
 abbrev pub onRead : ReadCall → (ℕ → Script) → Script
-onRead (One c q) rest = follows c (rest q)
+onRead (One c six q) rest = follows c (rest q)
 onRead (BadAt p) rest = stops p
 onRead End rest = whole []
 

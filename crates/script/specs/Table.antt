@@ -1,8 +1,9 @@
--- Document 01, "The program": the keys of a script with the largest number of each, and the calls with their keys. A new key or call is a
--- line of these tables. Assumes nothing.
+-- Document 01, "The program": the keys of a script with the largest number of each, and the calls with their keys. A new key or call is
+-- written here: nothing else in specs/ or in the laws names one, but for the proof that each call has its row (proofs/Rows.antt). Assumes nothing.
 use Prim.Native.Nat.{ℕ, zero, suc}
 use Prim.Native.String.{String, _++_}
 use mathlib.Core.List.{List, [], _∷_}
+use mathlib.Core.Bool.{Bool, true, false}
 use lib.ListN.{getD}
 use Rattle.text.specs.Bytes.{bytes}
 use Rattle.manager.specs.declared.Order.{Order}
@@ -19,52 +20,53 @@ pub record Key : Type 0 where
   pub most : ℕ
 
 abbrev pub key : String → ℕ → Key
-key name most = record { text = bytes (name ++ "="); most = most }
+key word most = record { text = bytes (word ++ "="); most = most }
 
--- a number is below 2^32
-abbrev pub any : ℕ
-any = 4294967295
+-- the largest number: each is below 2^32
+abbrev pub largest : ℕ
+largest = 4294967295
 
-abbrev pub name : Key
-name = key "name" any
+abbrev pub nameKey : Key
+nameKey = key "name" largest
 
-abbrev pub start : Key
-start = key "start" any
+abbrev pub startKey : Key
+startKey = key "start" largest
 
-abbrev pub length : Key
-length = key "length" any
+abbrev pub lengthKey : Key
+lengthKey = key "length" largest
 
-abbrev pub page : Key
-page = key "page" any
+abbrev pub pageKey : Key
+pageKey = key "page" largest
 
 -- "order 0 FIFO or 1 priority"
-abbrev pub order : Key
-order = key "order" 1
+abbrev pub orderKey : Key
+orderKey = key "order" 1
 
-abbrev pub id : Key
-id = key "id" any
+abbrev pub idKey : Key
+idKey = key "id" largest
 
-abbrev pub size : Key
-size = key "size" any
+abbrev pub sizeKey : Key
+sizeKey = key "size" largest
 
 -- "wait 0 or 1"
-abbrev pub wait : Key
-wait = key "wait" 1
+abbrev pub waitKey : Key
+waitKey = key "wait" 1
 
-abbrev pub task : Key
-task = key "task" any
+abbrev pub taskKey : Key
+taskKey = key "task" largest
 
-abbrev pub priority : Key
-priority = key "priority" any
+abbrev pub priorityKey : Key
+priorityKey = key "priority" largest
 
-abbrev pub ticks : Key
-ticks = key "ticks" any
+abbrev pub ticksKey : Key
+ticksKey = key "ticks" largest
 
-abbrev pub address : Key
-address = key "address" any
+abbrev pub addressKey : Key
+addressKey = key "address" largest
 
 abbrev pub keys : List Key
-keys = name ∷ start ∷ length ∷ page ∷ order ∷ id ∷ size ∷ wait ∷ task ∷ priority ∷ ticks ∷ address ∷ []
+keys =
+    nameKey ∷ startKey ∷ lengthKey ∷ pageKey ∷ orderKey ∷ idKey ∷ sizeKey ∷ waitKey ∷ taskKey ∷ priorityKey ∷ ticksKey ∷ addressKey ∷ []
 
 abbrev pub noKey : Key
 noKey = record { text = []; most = 0 }
@@ -79,78 +81,126 @@ abbrev pub waitOf : ℕ → Wait
 waitOf zero = No
 waitOf (suc n) = Yes
 
--- a call: the line that names it, its keys, and the call that their numbers make
+-- a call: the line that names it, its keys, whether its answer has six values, and the call that the numbers of the keys make
 pub record Row : Type 0 where
   pub line : List ℕ
   pub keys : List Key
+  pub sixValues : Bool
   pub call : List ℕ → Call
 
 -- the number at a place
-abbrev pub at : List ℕ → ℕ → ℕ
-at v i = getD v i 0
+abbrev pub number : List ℕ → ℕ → ℕ
+number v i = getD v i 0
 
-abbrev pub row : String → List Key → (List ℕ → Call) → Row
-row name keys call = record { line = bytes ("call=" ++ (name ++ "\n")); keys = keys; call = call }
+-- how many values its answer has: `six` or `one`
+abbrev pub six : Bool
+six = true
 
-abbrev pub createRegion : Row
-createRegion = row "create-region" (name ∷ start ∷ length ∷ page ∷ order ∷ []) λ v. CreateRegion (at v 0) (at v 1) (at v 2) (at v 3) (orderOf (at v 4))
+abbrev pub one : Bool
+one = false
 
-abbrev pub createPartition : Row
-createPartition = row "create-partition" (name ∷ start ∷ length ∷ size ∷ []) λ v. CreatePartition (at v 0) (at v 1) (at v 2) (at v 3)
+abbrev pub row : String → List Key → Bool → (List ℕ → Call) → Row
+row word keys sixValues call = record { line = bytes ("call=" ++ (word ++ "\n")); keys = keys; sixValues = sixValues; call = call }
 
-abbrev pub identRegion : Row
-identRegion = row "ident-region" (name ∷ []) λ v. IdentRegion (at v 0)
+abbrev pub createRegionRow : Row
+createRegionRow = row "create-region" (nameKey ∷ startKey ∷ lengthKey ∷ pageKey ∷ orderKey ∷ []) one λ v. CreateRegion (number v 0) (number v 1) (number v 2) (number v 3) (orderOf (number v 4))
 
-abbrev pub identPartition : Row
-identPartition = row "ident-partition" (name ∷ []) λ v. IdentPartition (at v 0)
+abbrev pub createPartitionRow : Row
+createPartitionRow = row "create-partition" (nameKey ∷ startKey ∷ lengthKey ∷ sizeKey ∷ []) one λ v. CreatePartition (number v 0) (number v 1) (number v 2) (number v 3)
 
-abbrev pub deleteRegion : Row
-deleteRegion = row "delete-region" (id ∷ []) λ v. DeleteRegion (at v 0)
+abbrev pub identRegionRow : Row
+identRegionRow = row "ident-region" (nameKey ∷ []) one λ v. IdentRegion (number v 0)
 
-abbrev pub deletePartition : Row
-deletePartition = row "delete-partition" (id ∷ []) λ v. DeletePartition (at v 0)
+abbrev pub identPartitionRow : Row
+identPartitionRow = row "ident-partition" (nameKey ∷ []) one λ v. IdentPartition (number v 0)
 
-abbrev pub information : Row
-information = row "info" (id ∷ []) λ v. RegionInformation (at v 0)
+abbrev pub deleteRegionRow : Row
+deleteRegionRow = row "delete-region" (idKey ∷ []) one λ v. DeleteRegion (number v 0)
 
-abbrev pub getBuffer : Row
-getBuffer = row "get-buffer" (id ∷ []) λ v. GetBuffer (at v 0)
+abbrev pub deletePartitionRow : Row
+deletePartitionRow = row "delete-partition" (idKey ∷ []) one λ v. DeletePartition (number v 0)
 
-abbrev pub getSegment : Row
-getSegment = row "get" (id ∷ size ∷ wait ∷ task ∷ priority ∷ ticks ∷ []) λ v. GetSegment (at v 0) (at v 1) (waitOf (at v 2)) (at v 3) (at v 4) (at v 5)
+abbrev pub informationRow : Row
+informationRow = row "info" (idKey ∷ []) six λ v. RegionInformation (number v 0)
 
-abbrev pub returnSegment : Row
-returnSegment = row "return" (id ∷ address ∷ []) λ v. ReturnSegment (at v 0) (at v 1)
+abbrev pub getBufferRow : Row
+getBufferRow = row "get-buffer" (idKey ∷ []) one λ v. GetBuffer (number v 0)
 
-abbrev pub segmentSize : Row
-segmentSize = row "size" (id ∷ address ∷ []) λ v. SegmentSize (at v 0) (at v 1)
+abbrev pub getSegmentRow : Row
+getSegmentRow = row "get" (idKey ∷ sizeKey ∷ waitKey ∷ taskKey ∷ priorityKey ∷ ticksKey ∷ []) one λ v. GetSegment (number v 0) (number v 1) (waitOf (number v 2)) (number v 3) (number v 4) (number v 5)
 
-abbrev pub returnBuffer : Row
-returnBuffer = row "return-buffer" (id ∷ address ∷ []) λ v. ReturnBuffer (at v 0) (at v 1)
+abbrev pub returnSegmentRow : Row
+returnSegmentRow = row "return" (idKey ∷ addressKey ∷ []) one λ v. ReturnSegment (number v 0) (number v 1)
 
-abbrev pub resizeSegment : Row
-resizeSegment = row "resize" (id ∷ address ∷ size ∷ []) λ v. ResizeSegment (at v 0) (at v 1) (at v 2)
+abbrev pub segmentSizeRow : Row
+segmentSizeRow = row "size" (idKey ∷ addressKey ∷ []) one λ v. SegmentSize (number v 0) (number v 1)
 
-abbrev pub tick : Row
-tick = row "tick" [] λ v. Tick
+abbrev pub returnBufferRow : Row
+returnBufferRow = row "return-buffer" (idKey ∷ addressKey ∷ []) one λ v. ReturnBuffer (number v 0) (number v 1)
+
+abbrev pub resizeSegmentRow : Row
+resizeSegmentRow = row "resize" (idKey ∷ addressKey ∷ sizeKey ∷ []) one λ v. ResizeSegment (number v 0) (number v 1) (number v 2)
+
+abbrev pub tickRow : Row
+tickRow = row "tick" [] one λ v. Tick
 
 abbrev pub calls : List Row
 calls =
-    createRegion ∷
-    createPartition ∷
-    identRegion ∷
-    identPartition ∷
-    deleteRegion ∷
-    deletePartition ∷
-    information ∷
-    getBuffer ∷
-    getSegment ∷
-    returnSegment ∷
-    segmentSize ∷
-    returnBuffer ∷
-    resizeSegment ∷
-    tick ∷
+    createRegionRow ∷
+    createPartitionRow ∷
+    identRegionRow ∷
+    identPartitionRow ∷
+    deleteRegionRow ∷
+    deletePartitionRow ∷
+    informationRow ∷
+    getBufferRow ∷
+    getSegmentRow ∷
+    returnSegmentRow ∷
+    segmentSizeRow ∷
+    returnBufferRow ∷
+    resizeSegmentRow ∷
+    tickRow ∷
     []
 
 abbrev pub noRow : Row
-noRow = record { line = []; keys = []; call = λ v. Tick }
+noRow = record { line = []; keys = []; sixValues = one; call = λ v. Tick }
+
+-- ---- a call by its row
+
+abbrev pub orderNumber : Order → ℕ
+orderNumber Fifo = 0
+orderNumber Priority = 1
+
+abbrev pub waitNumber : Wait → ℕ
+waitNumber No = 0
+waitNumber Yes = 1
+
+-- a call's row, and its numbers in the order of the row's keys
+pub record Filled : Type 0 where
+  pub row : Row
+  pub numbers : List ℕ
+
+abbrev pub fill : Row → List ℕ → Filled
+fill r vs = record { row = r; numbers = vs }
+
+abbrev pub filled : Call → Filled
+filled (CreateRegion n s l p o) = fill createRegionRow (n ∷ s ∷ l ∷ p ∷ orderNumber o ∷ [])
+filled (CreatePartition n s l z) = fill createPartitionRow (n ∷ s ∷ l ∷ z ∷ [])
+filled (IdentRegion n) = fill identRegionRow (n ∷ [])
+filled (IdentPartition n) = fill identPartitionRow (n ∷ [])
+filled (DeleteRegion i) = fill deleteRegionRow (i ∷ [])
+filled (DeletePartition i) = fill deletePartitionRow (i ∷ [])
+filled (RegionInformation i) = fill informationRow (i ∷ [])
+filled (GetBuffer i) = fill getBufferRow (i ∷ [])
+filled (GetSegment i z w t p k) = fill getSegmentRow (i ∷ z ∷ waitNumber w ∷ t ∷ p ∷ k ∷ [])
+filled (ReturnSegment i a) = fill returnSegmentRow (i ∷ a ∷ [])
+filled (SegmentSize i a) = fill segmentSizeRow (i ∷ a ∷ [])
+filled (ReturnBuffer i a) = fill returnBufferRow (i ∷ a ∷ [])
+filled (ResizeSegment i a z) = fill resizeSegmentRow (i ∷ a ∷ z ∷ [])
+filled Tick = fill tickRow []
+
+abbrev pub rowOf : Call → Row
+rowOf c = filled c .row
+
+abbrev pub argumentsOf : Call → List ℕ
+argumentsOf c = filled c .numbers

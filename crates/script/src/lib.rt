@@ -1,4 +1,4 @@
-// Reads the calls of a script by tables: only `call_of` and what it calls name a directive.
+// Reads the calls of a script by tables: only `call_of` and `memory_call` name a directive.
 mod table;
 
 use manager::Call;
@@ -15,9 +15,10 @@ ghost use Rattle.text.specs.Lines.{starts};
 ghost use Rattle.script.specs.Table.{keys, calls, noKey, noRow, orderOf, waitOf};
 ghost use Rattle.script.specs.Reading.{keyAt, findRow, numbersFrom, fieldsOf, readCall};
 
-// What reading at a place finds: a call and where the next line starts; where the first bad or missing line starts; nothing left.
+// What reading at a place finds: a call, whether its answer has six values, and where the next line starts; where the first bad or missing
+// line starts; nothing left.
 pub enum ReadCall {
-    One(Call, usize),
+    One(Call, bool, usize),
     BadAt(usize),
     End,
 }
@@ -103,33 +104,6 @@ fn wait_of(n: u32) -> Wait
     }
 }
 
-// The calls with numbers up to 6: those that create, find, delete and describe objects.
-fn object_call(k: usize, v: &[u32; 8]) -> Call
-    requires { ⌜ k < 7 ⌝ }
-    ensures { λ r. ⌜ r ≡ getD calls k noRow .call (now (v .entry)) ⌝ }
-{
-    match k {
-        0 => Call::CreateRegion {
-            name: v[0],
-            start: v[1],
-            length: v[2],
-            page: v[3],
-            order: order_of(v[4]),
-        },
-        1 => Call::CreatePartition {
-            name: v[0],
-            start: v[1],
-            length: v[2],
-            size: v[3],
-        },
-        2 => Call::IdentRegion { name: v[0] },
-        3 => Call::IdentPartition { name: v[0] },
-        4 => Call::DeleteRegion { id: v[0] },
-        5 => Call::DeletePartition { id: v[0] },
-        _ => Call::RegionInformation { id: v[0] },
-    }
-}
-
 // The calls with numbers from 7 on: those that get, return and resize memory, and the clock tick.
 fn memory_call(k: usize, v: &[u32; 8]) -> Call
     requires { ⌜ 7 ≤ k ⌝ }
@@ -172,10 +146,28 @@ fn call_of(k: usize, v: &[u32; 8]) -> Call
     requires { ⌜ k < length calls ⌝ }
     ensures { λ r. ⌜ r ≡ getD calls k noRow .call (now (v .entry)) ⌝ }
 {
-    if k < 7 {
-        object_call(k, v)
-    } else {
-        memory_call(k, v)
+    if 7 <= k {
+        return memory_call(k, v);
+    }
+    match k {
+        0 => Call::CreateRegion {
+            name: v[0],
+            start: v[1],
+            length: v[2],
+            page: v[3],
+            order: order_of(v[4]),
+        },
+        1 => Call::CreatePartition {
+            name: v[0],
+            start: v[1],
+            length: v[2],
+            size: v[3],
+        },
+        2 => Call::IdentRegion { name: v[0] },
+        3 => Call::IdentPartition { name: v[0] },
+        4 => Call::DeleteRegion { id: v[0] },
+        5 => Call::DeletePartition { id: v[0] },
+        _ => Call::RegionInformation { id: v[0] },
     }
 }
 
@@ -193,7 +185,7 @@ pub fn read_call(src: &[u8], at: usize) -> ReadCall
     let from = at + (table::LINE_FROM[k + 1] - table::LINE_FROM[k]);
     let mut v = [0u32; 8];
     match read_fields(src, from, k, &mut v) {
-        Fields::All(next) => ReadCall::One(call_of(k, &v), next),
+        Fields::All(next) => ReadCall::One(call_of(k, &v), table::SIX_VALUES[k], next),
         Fields::Wrong(p) => ReadCall::BadAt(p),
     }
 }

@@ -22,7 +22,7 @@ pub(crate) const MOST: [u32; 12] = [
     4294967295,
 ];
 
-// The lines that name the calls, and the keys of each.
+// The lines that name the calls, whether the answer of each has six values, and the keys of each.
 pub(crate) const CALLS: usize = 14;
 
 pub(crate) const LINE_TEXT: [u8; 219] = *b"\
@@ -58,6 +58,23 @@ pub(crate) const LINE_FROM: [usize; 15] = [
     197,
     209,
     219,
+];
+
+pub(crate) const SIX_VALUES: [bool; 14] = [
+    false,
+    false,
+    false,
+    false,
+    false,
+    false,
+    true,
+    false,
+    false,
+    false,
+    false,
+    false,
+    false,
+    false,
 ];
 
 pub(crate) const SEQUENCE: [usize; 30] = [

@@ -43,7 +43,7 @@ fn read_all(fd: i32, buf: &mut [u8]) -> Input
 
 // One byte more than a script may have is read, so that a longer one is told from one that just fits.
 fn main() {
-    let mut src = [0u8; 32769];
+    let mut src = [0u8; run::SCRIPT + 1];
     let Input::Filled(n) = read_all(STDIN_FILENO, &mut src) else {
         io::write_all(STDERR_FILENO, b"steepleclay: reading failed\n");
         return;

@@ -11,7 +11,9 @@ use lib.Seq.{drop-cons}
 use lib.Dec.{ltb, eqb}
 use borrow.Author.Tests.{eq-eqb, ne-eqb, eqb-true, lt-ltb, le-ltb}
 use Rattle.text.specs.Lines.{numberAfter, numberOf, lineFrom, lineAt, starts, part, fieldAt, onLine, onNum}
+use Rattle.text.specs.declared.Num.{Num}
 use Rattle.text.specs.declared.Num.the-variants.{Is, Not}
+use Rattle.text.specs.declared.Line.{Line}
 use Rattle.text.specs.declared.Line.the-variants.{Ends, Never}
 use Rattle.text.specs.declared.Entry.the-variants.{Took, Bad}
 
@@ -166,6 +168,39 @@ number-many [] h e = absurd (omega arith)
 number-many (b ∷ []) h e = absurd (omega arith)
 number-many (b ∷ c ∷ bs) h e = rw (ne-eqb b 48 e)
 
+-- ---- the loop of `number`: the digits before i have been read, as a
+
+pub record NumberLeft (s : List ℕ) (a i : ℕ) : Type 0 where
+  pub rest : numberOf s ≡ numberAfter a (drop i s)
+  pub passed : i ≤ length s
+  pub small : a ≤ 4294967295
+
+pub left-one : (s : List ℕ) → 0 < length s → length s ≤ 1 → NumberLeft s 0 0
+left-one s h g = record { rest = number-one s h g; passed = omega arith; small = omega arith }
+
+pub left-many : (s : List ℕ) → 1 < length s → (getD s 0 0 ≡ 48 → ⊥) → NumberLeft s 0 0
+left-many s h e = record { rest = number-many s h e; passed = omega arith; small = omega arith }
+
+module _ {s : List ℕ} {a i : ℕ} (n : NumberLeft s a i) where
+  pub number-end : length s ≤ i → Is a ≡ numberOf s
+  number-end h = sym (n .rest ∙ num-end s a i h)
+
+  module _ (h : i < length s) where
+    pub number-low : getD s i 0 < 48 → Not ≡ numberOf s
+    number-low l = sym (n .rest ∙ num-low s a i h l)
+
+    pub number-high : 57 < getD s i 0 → Not ≡ numberOf s
+    number-high l = sym (n .rest ∙ num-high s a i h l)
+
+    module _ (d : ℕ) (e : d ≡ getD s i 0 - 48) (l : 48 ≤ getD s i 0) (m : getD s i 0 ≤ 57) where
+      pub number-over : 4294967295 < a * 10 + d → Not ≡ numberOf s
+      number-over o = sym (n .rest ∙ num-over s a i h l m (omega arith))
+
+      pub number-more : a * 10 + d ≤ 4294967295 → NumberLeft s (a * 10 + d) (i + 1)
+      number-more o = record { rest = n .rest ∙ num-more s a i h l m (omega arith) ∙ rw e; passed = omega arith; small = o }
+
+pub ruleset numberAnswers = (left-one, left-many, number-end, number-low, number-high, number-over, number-more)
+
 -- ---- a line of a key and a number: each way through `fieldAt`
 
 module _ (s key : List ℕ) (at most : ℕ) where
@@ -190,3 +225,25 @@ module _ (s key : List ℕ) (at most : ℕ) where
       pub field-took : (v : ℕ) → numberOf (part s (at + length key) e) ≡ Is v → v ≤ most → fieldAt s at key most ≡ Took v (e + 1)
       unfolding fieldAt
       field-took v n h = rw (l, k, n, le-ltb most v h)
+
+-- ---- what `field` answers, from what the calls before it found
+
+module _ (s key : List ℕ) (at most : ℕ) (l : Line) (a : l ≡ lineAt s at) where
+  pub answer-never : l ≡ Never → Bad ≡ fieldAt s at key most
+  answer-never e = sym (field-never s key at most (sym a ∙ e))
+
+  module _ (e : ℕ) (b : l ≡ Ends e) (t : Bool) (c : t ≡ starts key (part s at e)) where
+    pub answer-key : t ≡ false → Bad ≡ fieldAt s at key most
+    answer-key f = sym (field-key s key at most e (sym a ∙ b) (sym c ∙ f))
+
+    module _ (u : t ≡ true) (n : Num) (d : n ≡ numberOf (part s (at + length key) e)) where
+      pub answer-not : n ≡ Not → Bad ≡ fieldAt s at key most
+      answer-not f = sym (field-not s key at most e (sym a ∙ b) (sym c ∙ u) (sym d ∙ f))
+
+      pub answer-over : (v : ℕ) → n ≡ Is v → most < v → Bad ≡ fieldAt s at key most
+      answer-over v f h = sym (field-over s key at most e (sym a ∙ b) (sym c ∙ u) v (sym d ∙ f) h)
+
+      pub answer-took : (v : ℕ) → n ≡ Is v → v ≤ most → Took v (e + 1) ≡ fieldAt s at key most
+      answer-took v f h = sym (field-took s key at most e (sym a ∙ b) (sym c ∙ u) v (sym d ∙ f) h)
+
+pub ruleset fieldAnswers = (answer-never, answer-key, answer-not, answer-over, answer-took)

@@ -2,8 +2,8 @@
 use Prim.Native.Nat.{ℕ}
 use Prim.Native.Char.{code}
 use Prim.Native.String.{String, [], _∷_}
-use mathlib.Core.List.{List, [] as none, _∷_ as _then_}
+use mathlib.Core.List.{List, [] as nil, _∷_ as _then_}
 
 abbrev pub bytes : String → List ℕ
-bytes [] = none
+bytes [] = nil
 bytes (c ∷ s) = code c then bytes s

@@ -2,9 +2,7 @@
 use native.Mathlib.Omega.{arith}
 use borrow.Author.Needs.{needs}
 use mathlib.Core.Path.{_≡_, refl, sym, _∙_, ap}
-use borrow.Author.Tests.{lt-ltb, le-ltb}
-use Rattle.run.specs.Run.{runAll, memoryAll}
-use Rattle.run.proofs.Stores.{puts-most}
+use Rattle.run.proofs.Running.{too-long, too-long-memory, all-run, all-memory, ends-within}
 use Rattle.run.proofs.run.Statement.{statement}
 use Rattle.run.proofs.run.Tie as tie
 use Rattle.run.proofs.run.Reads as reads
@@ -16,12 +14,10 @@ put-bad-requires : tie.Need-put-bad-requires
 put-bad-requires c κs = search needs
 
 returns : tie.Need-returns
-unfolding runAll memoryAll
 returns c =
-    let w = c .put-bad .ensures .within in (
-      rw (lt-ltb _ _ (c .before .before .if1 .taken)) (puts-most (omega arith) (c .put-bad .ensures)),
-      (rw (lt-ltb _ _ (c .before .before .if1 .taken)), omega (arith, c .put-bad .kept .0)),
-    )
+    let h = c .before .before .if1 .taken in
+    let p = c .put-bad .ensures in
+    (too-long _ _ h p, (too-long-memory _ _ h, ends-within p (omega arith) (c .put-bad .kept .0)))
 
 run-calls-requires : tie.Need-run-calls-requires
 run-calls-requires c κs = search needs
@@ -30,12 +26,10 @@ same-length : tie.Need-same-length
 same-length c = search needs
 
 returns-2 : tie.Need-returns-2
-unfolding runAll memoryAll
 returns-2 c =
-    let w = c .before .before .run-calls .ensures .0 .within in (
-      rw (le-ltb _ _ (c .before .before .before .before .before .if1 .left)) (c .before .before .run-calls .ensures .0),
-      (rw (le-ltb _ _ (c .before .before .before .before .before .if1 .left)) (c .before .before .run-calls .ensures .1), omega (arith, c .before .before .run-calls .kept .1 .1 .0)),
-    )
+    let h = c .before .before .before .before .before .if1 .left in
+    let r = c .before .before .run-calls .ensures in
+    (all-run _ _ h r, (all-memory _ _ h r, ends-within (r .0) (omega arith) (c .before .before .run-calls .kept .1 .1 .0)))
 
 pub run-spec : {M : Type 1} → statement M
 run-spec = tie.close (tie.spec put-bad-requires returns run-calls-requires same-length returns-2)

@@ -4,15 +4,13 @@ use borrow.Author.Needs.{needs}
 use mathlib.Core.Path.{_≡_, refl, sym, _∙_, ap}
 use Prim.Native.Nat.{ℕ, _-_}
 use lib.ListN.{length}
-use Rattle.script.proofs.WrittenCalls.{read-next}
-use Rattle.run.proofs.Running.{Running, running-start, running-one, running-end, running-out, running-bad, room, room-one}
+use Rattle.run.proofs.Running.{Running, running-start, running-one, running-end, running-out, running-bad, room, room-one, forward}
 use Rattle.run.proofs.run_calls.Statement.{statement}
 use Rattle.run.proofs.run_calls.Tie as tie
 use Rattle.run.proofs.run_calls.Reads as reads
 use Rattle.run.proofs.run_calls.Lts as lts
 use Rattle.directives.proofs.perform.Reads as perform-reads
 use Rattle.manager.proofs.Manager.new.Reads as new-reads
-use Rattle.run.proofs.asks_information.Reads as asks-information-reads
 use Rattle.run.proofs.line_number.Reads as line-number-reads
 use Rattle.run.proofs.output.put_answer.Reads as put-answer-reads
 use Rattle.run.proofs.output.put_bad.Reads as put-bad-reads
@@ -43,7 +41,7 @@ same-length-2 : tie.Need-same-length-2 Inv-loop μ-loop
 same-length-2 c = c .before .before .before .before .loop .inv .2
 
 returns : tie.Need-returns Inv-loop μ-loop
-returns c = running-end (c .before .before .before .before .before .before .before .before .before .args .src .now) (c .before .before .before .before .before .before .before .before .before .args .mem .now) (c .before .before .before .before .before .before .before .before .before .args .out .now) (c .before .before .before .before .loop .mem) (c .before .before .before .before .loop .out) (c .before .before .before .before .loop .d) (c .before .before .before .before .loop .at) (c .before .before .before .before .loop .n) (c .before .before .before .before .loop .inv .0) (c .before .before .before .before .before .before .before .before .before .pre .0) (sym (c .before .before .read-call .ensures) ∙ c .enum-told .given .1)
+returns c = running-end (c .before .before .before .before .loop .inv .0) _ (c .before .before .before .before .before .before .before .before .before .pre .0) (c .before .before .read-call .ensures) (c .enum-told .given .1)
 
 enum-known-p : tie.Need-enum-known-p Inv-loop μ-loop
 enum-known-p c = search needs
@@ -61,7 +59,11 @@ same-length-4 : tie.Need-same-length-4 Inv-loop μ-loop
 same-length-4 c = c .before .before .put-bad .kept .0 ∙ c .before .before .before .before .before .before .before .before .before .before .loop .inv .2
 
 returns-2 : tie.Need-returns-2 Inv-loop μ-loop
-returns-2 c = running-bad (c .before .before .before .before .before .before .before .before .before .before .before .before .before .before .before .args .src .now) (c .before .before .before .before .before .before .before .before .before .before .before .before .before .before .before .args .mem .now) (c .before .before .before .before .before .before .before .before .before .before .before .before .before .before .before .args .out .now) (c .before .before .before .before .before .before .before .before .before .before .loop .mem) (c .before .before .before .before .before .before .before .before .before .before .loop .out) (c .before .before .before .before .before .before .before .before .before .before .loop .d) (c .before .before .before .before .before .before .before .before .before .before .loop .at) (c .before .before .before .before .before .before .before .before .before .before .loop .n) (c .before .before .before .before .before .before .before .before .before .before .loop .inv .0) (c .before .before .before .before .before .before .p .given .0 .0) (c .before .before .before .line-number .result) (c .before .before .put-bad .last .0) (c .before .before .put-bad .result) (c .before .before .before .before .before .before .before .before .before .before .before .before .before .before .before .pre .0) (sym (c .before .before .before .before .before .before .before .before .read-call .ensures) ∙ c .before .before .before .before .before .before .p .given .1) (c .before .before .before .line-number .ensures) (c .before .before .put-bad .ensures)
+returns-2 c =
+    let r = c .before .before .before .before .before .before .before .before .before .before .loop .inv .0 in
+    let b = c .before .before .before .before .before .before .p .given .1 in
+    let f = c .before .before .before .before .before .before .before .before .read-call .ensures in
+    running-bad r _ _ _ (c .before .before .before .before .before .before .before .before .before .before .before .before .before .before .before .pre .0) f b (c .before .before .before .line-number .ensures) (c .before .before .put-bad .ensures)
 
 enum-known-call : tie.Need-enum-known-call Inv-loop μ-loop
 enum-known-call c = search needs
@@ -69,21 +71,29 @@ enum-known-call c = search needs
 perform-requires : tie.Need-perform-requires Inv-loop μ-loop
 perform-requires c κs = search needs
 
-asks-information-requires : tie.Need-asks-information-requires Inv-loop μ-loop
-asks-information-requires c κs = search needs
-
 put-answer-requires : tie.Need-put-answer-requires Inv-loop μ-loop
-put-answer-requires c κs = omega (arith, room-one (c .before .before .before .before .before .before .before .before .before .before .before .loop .inv .0) _ _ (sym (c .before .before .before .before .before .before .before .before .before .read-call .ensures) ∙ c .before .before .before .before .before .before .before .call .given .1) (c .before .before .before .before .before .before .before .before .before .before .before .before .before .before .before .before .pre .0))
+put-answer-requires c κs =
+    let r = c .before .before .before .before .before .before .before .before .before .before .loop .inv .0 in
+    let f = c .before .before .before .before .before .before .before .before .read-call .ensures in
+    omega (arith, room-one r _ _ _ _ f (c .before .before .before .before .before .before .call .given .1) (c .before .before .before .before .before .before .before .before .before .before .before .before .before .before .before .pre .0))
 
 loop-less : tie.Need-loop-less Inv-loop μ-loop
-loop-less c = let w = read-next _ _ _ _ (sym (c .before .before .before .before .before .before .before .before .before .before .before .before .before .read-call .ensures) ∙ c .before .before .before .before .before .before .before .before .before .before .before .call .given .1) in let f = w .far in let g = w .within in omega arith
+loop-less c =
+    let r = c .before .before .before .before .before .before .before .before .before .before .before .before .before .before .loop .inv .0 in
+    let f = c .before .before .before .before .before .before .before .before .before .before .before .before .read-call .ensures in
+    forward r _ _ _ _ f (c .before .before .before .before .before .before .before .before .before .before .call .given .1)
 
 loop-again : tie.Need-loop-again Inv-loop μ-loop
-loop-again c = (
-  running-one (c .before .before .before .before .before .before .before .before .before .before .before .before .before .before .before .before .before .before .before .before .args .src .now) (c .before .before .before .before .before .before .before .before .before .before .before .before .before .before .before .before .before .before .before .before .args .mem .now) (c .before .before .before .before .before .before .before .before .before .before .before .before .before .before .before .before .before .before .before .before .args .out .now) (c .before .before .before .before .before .before .before .before .before .before .before .before .before .before .before .loop .mem) (c .before .before .before .before .before .before .before .before .before .before .before .before .before .before .before .loop .out) (c .before .before .before .before .before .before .before .before .before .before .before .before .before .before .before .loop .d) (c .before .before .before .before .before .before .before .before .before .before .before .before .before .before .before .loop .at) (c .before .before .before .before .before .before .before .before .before .before .before .before .before .before .before .loop .n) (c .before .before .before .before .before .before .before .before .before .before .before .before .before .before .before .loop .inv .0) (c .before .before .before .before .before .before .before .before .before .before .before .call .given .0 .0) (c .before .before .before .before .before .before .before .before .before .before .before .call .given .0 .1 .0) _ (c .before .before .before .before .before .before .before .before .perform .result) (c .before .before .before .before .asks-information .result) _ _ (sym (c .before .before .before .before .before .before .before .before .before .before .before .before .before .read-call .ensures) ∙ c .before .before .before .before .before .before .before .before .before .before .before .call .given .1) (c .before .before .before .before .before .before .before .before .perform .ensures) (c .before .before .before .before .asks-information .ensures) (c .before .before .before .put-answer .ensures),
-  c .before .before .before .before .before .before .before .before .perform .kept .0 ∙ c .before .before .before .before .before .before .before .before .before .before .before .before .before .before .before .loop .inv .1,
-  c .before .before .before .put-answer .kept .0 ∙ c .before .before .before .before .before .before .before .before .before .before .before .before .before .before .before .loop .inv .2,
-)
+loop-again c =
+    let r = c .before .before .before .before .before .before .before .before .before .before .before .before .before .before .loop .inv .0 in
+    let f = c .before .before .before .before .before .before .before .before .before .before .before .before .read-call .ensures in
+    let b = c .before .before .before .before .before .before .before .before .before .before .call .given .1 in
+    let g = c .before .before .before .before .before .before .before .perform .ensures in
+    let p = c .before .before .before .put-answer .ensures in (
+      running-one r _ _ _ _ f b g p,
+      c .before .before .before .before .before .before .before .perform .kept .0 ∙ c .before .before .before .before .before .before .before .before .before .before .before .before .before .before .loop .inv .1,
+      c .before .before .before .put-answer .kept .0 ∙ c .before .before .before .before .before .before .before .before .before .before .before .before .before .before .loop .inv .2,
+    )
 
 same-length-5 : tie.Need-same-length-5 Inv-loop μ-loop
 same-length-5 c = c .before .loop .inv .1
@@ -92,7 +102,7 @@ same-length-6 : tie.Need-same-length-6 Inv-loop μ-loop
 same-length-6 c = c .before .loop .inv .2
 
 returns-3 : tie.Need-returns-3 Inv-loop μ-loop
-returns-3 c = running-out (c .before .before .before .before .before .before .args .src .now) (c .before .before .before .before .before .before .args .mem .now) (c .before .before .before .before .before .before .args .out .now) (c .before .loop .mem) (c .before .loop .out) (c .before .loop .d) (c .before .loop .at) (c .before .loop .n) (c .before .loop .inv .0) (c .before .before .before .before .before .before .pre .0) (c .loop-test .left)
+returns-3 c = running-out (c .before .loop .inv .0) (c .before .before .before .before .before .before .pre .0) (c .loop-test .left)
 
 pub run-calls-spec : {M : Type 1} → statement M
 run-calls-spec =
@@ -115,7 +125,6 @@ run-calls-spec =
     returns-2
     enum-known-call
     perform-requires
-    asks-information-requires
     put-answer-requires
     loop-less
     loop-again

@@ -1,7 +1,8 @@
 -- `script::memory_call` meets its contract: each arm is a row of the table. Assumes nothing.
 use native.Mathlib.Omega.{arith}
+use mathlib.Core.Path.{_≡_}
+use Rattle.script.proofs.Laws.{row-call}
 use borrow.Author.Needs.{needs}
-use mathlib.Core.Path.{_≡_, refl, sym, _∙_, ap}
 use Rattle.script.proofs.memory_call.Statement.{statement}
 use Rattle.script.proofs.memory_call.Tie as tie
 use Rattle.script.proofs.memory_call.Reads as reads
@@ -60,22 +61,22 @@ element-copy-out-t52 : tie.Need-element-copy-out-t52
 element-copy-out-t52 c = search needs
 
 returns : tie.Need-returns
-returns c = rw (c .before .match .keys1)
+returns c = search (needs, row-call)
 
 returns-2 : tie.Need-returns-2
-returns-2 c = rw (c .before .before .before .before .before .before .before .match .keys2, c .before .before .before .wait-of .ensures)
+returns-2 c = search (needs, row-call)
 
 returns-3 : tie.Need-returns-3
-returns-3 c = rw (c .before .before .match .keys3)
+returns-3 c = search (needs, row-call)
 
 returns-4 : tie.Need-returns-4
-returns-4 c = rw (c .before .before .match .keys4)
+returns-4 c = search (needs, row-call)
 
 returns-5 : tie.Need-returns-5
-returns-5 c = rw (c .before .before .match .keys5)
+returns-5 c = search (needs, row-call)
 
 returns-6 : tie.Need-returns-6
-returns-6 c = rw (c .before .before .before .match .keys6)
+returns-6 c = search (needs, row-call)
 
 returns-7 : tie.Need-returns-7
 returns-7 c = let e : c .before .args .k ≡ 13 = omega arith in rw e

@@ -5,8 +5,8 @@ use mathlib.Core.Path.{_≡_, refl, sym, _∙_, ap}
 use Prim.Native.Nat.{ℕ, _+_, _≤_, _<_, _-_}
 use lib.ListN.{length, getD}
 use Rattle.script.specs.Table.{calls, noRow}
-use Rattle.script.proofs.Tables.{line-held, line-length, lineFrom}
-use Rattle.script.proofs.Laws.{read-end, read-none, read-fits, read-wrong, read-took}
+use Rattle.script.proofs.Tables.{line-held}
+use Rattle.script.proofs.Laws.{callAnswers, fields-within}
 use Rattle.script.proofs.read_call.Statement.{statement}
 use Rattle.script.proofs.read_call.Tie as tie
 use Rattle.script.proofs.read_call.Reads as reads
@@ -16,13 +16,13 @@ use Rattle.script.proofs.call_of.Reads as call-of-reads
 use Rattle.script.proofs.read_fields.Reads as read-fields-reads
 
 returns : tie.Need-returns
-returns c = sym (read-end _ _ (c .if1 .taken))
+returns c = search (needs, callAnswers)
 
 call-at-requires : tie.Need-call-at-requires
 call-at-requires c κs = search needs
 
 returns-2 : tie.Need-returns-2
-returns-2 c = sym (read-none _ _ _ (c .before .before .if1 .left) (c .before .call-at .ensures) (c .if2 .taken))
+returns-2 c = search (needs, callAnswers)
 
 add-from : tie.Need-add-from
 add-from c = search needs
@@ -43,7 +43,7 @@ sub-from : tie.Need-sub-from
 sub-from c = line-held _ (c .if2 .left) .order
 
 add-from-2 : tie.Need-add-from-2
-add-from-2 c = let w = read-fits _ _ _ (c .before .before .if1 .left) (c .before .call-at .ensures) (c .if2 .left) in let n = line-length (c .before .call-at .result) (c .if2 .left) in omega arith
+add-from-2 c = let w = fields-within _ _ _ (c .before .before .if1 .left) (c .before .call-at .ensures) (c .if2 .left) in omega arith
 
 slice-aggregate-read-fields : tie.Need-slice-aggregate-read-fields
 slice-aggregate-read-fields c = search needs
@@ -57,14 +57,17 @@ enum-known-next c = search needs
 call-of-requires : tie.Need-call-of-requires
 call-of-requires c κs = search needs
 
+array-read-t30 : tie.Need-array-read-t30
+array-read-t30 c = search needs
+
 enum-known-p : tie.Need-enum-known-p
 enum-known-p c = search needs
 
 returns-3 : tie.Need-returns-3
-returns-3 c = read-took (c .before .before .before .before .before .before .before .before .before .before .before .before .args .src .now) (c .before .before .before .before .before .before .before .before .before .before .before .before .args .at) (c .before .before .before .before .before .before .before .before .before .call-at .result) _ (c .before .before .before .before .before .before .before .before .before .before .if1 .left) (c .before .before .before .before .before .before .before .before .before .call-at .ensures) (c .before .before .before .before .before .before .before .before .if2 .left) (ap (λ (n : ℕ). c .before .before .before .before .before .before .before .before .before .before .before .before .args .at + n) (line-length _ (c .before .before .before .before .before .before .before .before .if2 .left))) _ _ (c .call-of .result) (c .before .before .before .before .before .before .read-fields .kept .1 .1 .1 .0) (rw (c .before .before .before .next .given .1) at (c .before .before .before .before .before .before .read-fields .ensures)) (c .call-of .ensures)
+returns-3 c = search (needs, callAnswers)
 
 returns-4 : tie.Need-returns-4
-returns-4 c = read-wrong (c .before .before .before .before .before .before .before .before .before .before .args .src .now) (c .before .before .before .before .before .before .before .before .before .before .args .at) (c .before .before .before .before .before .before .before .call-at .result) _ (c .before .before .before .before .before .before .before .before .if1 .left) (c .before .before .before .before .before .before .before .call-at .ensures) (c .before .before .before .before .before .before .if2 .left) (ap (λ (n : ℕ). c .before .before .before .before .before .before .before .before .before .before .args .at + n) (line-length _ (c .before .before .before .before .before .before .if2 .left))) _ (rw (c .before .p .given .1) at (c .before .before .before .before .read-fields .ensures))
+returns-4 c = search (needs, callAnswers)
 
 pub read-call-spec : {M : Type 1} → statement M
 read-call-spec =
@@ -84,6 +87,7 @@ read-call-spec =
     read-fields-requires
     enum-known-next
     call-of-requires
+    array-read-t30
     enum-known-p
     returns-3
     returns-4)

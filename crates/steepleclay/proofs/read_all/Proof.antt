@@ -44,7 +44,10 @@ loop-less : tie.Need-loop-less Inv-loop μ-loop
 loop-less c = let b = rw (c .before .before .next .given .1) at (c .before .before .before .before .before .before .read-once .ensures) in omega arith
 
 loop-again : tie.Need-loop-again Inv-loop μ-loop
-loop-again c = let b = rw (c .before .before .next .given .1) at (c .before .before .before .before .before .before .read-once .ensures) in (omega (arith, b), c .before .before .before .before .before .before .read-once .kept .1 .0 ∙ c .before .before .before .before .before .before .before .before .before .loop .inv .1)
+loop-again c =
+    let r = c .before .before .before .before .before .before .read-once in
+    let b = rw (c .before .before .next .given .1) at (r .ensures) in
+    (omega (arith, b), r .kept .1 .0 ∙ c .before .before .before .before .before .before .before .before .before .loop .inv .1)
 
 same-length-3 : tie.Need-same-length-3 Inv-loop μ-loop
 same-length-3 c = c .before .loop .inv .1

@@ -7,7 +7,7 @@ use Prim.Native.Nat.{ℕ, _+_, _≤_, _<_}
 use lib.ListN.{length}
 use Rattle.text.specs.Lines.{lineAt}
 use Rattle.text.specs.declared.Line.the-variants.{Ends}
-use Rattle.text.proofs.Laws.{line-within, starts-part, field-never, field-key, field-not, field-over, field-took}
+use Rattle.text.proofs.Laws.{line-within, starts-part, fieldAnswers}
 use Rattle.text.proofs.field.Statement.{statement}
 use Rattle.text.proofs.field.Tie as tie
 use Rattle.text.proofs.field.Reads as reads
@@ -37,7 +37,7 @@ enum-told : tie.Need-enum-told
 enum-told c = search needs
 
 returns : tie.Need-returns
-returns c = sym (field-never _ _ _ _ (sym (c .before .before .line-end .ensures) ∙ c .enum-told .given .1))
+returns c = search (needs, fieldAnswers)
 
 sub-starts-with : tie.Need-sub-starts-with
 sub-starts-with c = within c .0
@@ -73,19 +73,19 @@ enum-told-2 : tie.Need-enum-told-2
 enum-told-2 c = search needs
 
 returns-2 : tie.Need-returns-2
-returns-2 c = sym (field-not _ _ _ _ _ (is-line (c .before .before .before .before .before .before .before)) (sym (c .before .before .before .before .before .starts-with .ensures) ∙ c .before .before .before .before .if1 .taken) (sym (c .before .before .number .ensures) ∙ c .enum-told2 .given .1))
+returns-2 c = search (needs, fieldAnswers)
 
 returns-3 : tie.Need-returns-3
-returns-3 c = sym (field-over _ _ _ _ _ (is-line (c .before .before .before .before .before .before .before .before .before)) (sym (c .before .before .before .before .before .before .before .starts-with .ensures) ∙ c .before .before .before .before .before .before .if1 .taken) _ (sym (c .before .before .before .before .number .ensures) ∙ c .before .before .v .given .1) (c .if2 .taken))
+returns-3 c = search (needs, fieldAnswers)
 
 add-t15 : tie.Need-add-t15
 add-t15 c = let w = within (c .before .before .before .before .before .before .before .before .before) in omega arith
 
 returns-4 : tie.Need-returns-4
-returns-4 c = sym (field-took _ _ _ _ _ (is-line (c .before .before .before .before .before .before .before .before .before)) (sym (c .before .before .before .before .before .before .before .starts-with .ensures) ∙ c .before .before .before .before .before .before .if1 .taken) _ (sym (c .before .before .before .before .number .ensures) ∙ c .before .before .v .given .1) (c .if2 .left))
+returns-4 c = search (needs, fieldAnswers)
 
 returns-5 : tie.Need-returns-5
-returns-5 c = sym (field-key _ _ _ _ _ (is-line (c .before .before .before)) (sym (c .before .starts-with .ensures) ∙ c .if1 .left))
+returns-5 c = search (needs, fieldAnswers)
 
 pub field-spec : {M : Type 1} → statement M
 field-spec =

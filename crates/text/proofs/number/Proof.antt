@@ -1,12 +1,11 @@
--- `text::number` meets its contract. The invariant: the number from the start is the number from `i` on, read after `a`.
+-- `text::number` meets its contract. The invariant is `NumberLeft`: the number from the start is the number from `i` on, read after `a`.
 -- Assumes nothing.
 use native.Mathlib.Omega.{arith}
 use mathlib.Core.Path.{_≡_, refl, sym, _∙_}
 use mathlib.Core.Logic.{⊎-elim}
 use Prim.Native.Nat.{ℕ, _≤_, _-_}
-use lib.ListN.{length, drop}
-use Rattle.text.specs.Lines.{numberOf, numberAfter}
-use Rattle.text.proofs.Laws.{num-end, num-low, num-high, num-over, num-more, number-none, number-one, number-zero, number-many}
+use lib.ListN.{length}
+use Rattle.text.proofs.Laws.{NumberLeft, left-one, left-many, number-none, number-zero, numberAnswers}
 use borrow.Author.Needs.{needs}
 use Rattle.text.proofs.number.Statement.{statement}
 use Rattle.text.proofs.number.Tie as tie
@@ -15,7 +14,7 @@ use Rattle.text.proofs.number.Lts as lts
 use Rattle.text.proofs.wide.Reads as wide-reads
 
 abbrev Inv-loop : tie.InvT-loop
-Inv-loop text a₀ i₀ a i = (numberOf text ≡ numberAfter a (drop i text)) × (i ≤ length text) × (a ≤ 4294967295)
+Inv-loop text a₀ i₀ a i = NumberLeft text a i
 
 abbrev μ-loop : tie.MeasureT-loop
 μ-loop text a₀ i₀ a i = length text - i
@@ -30,23 +29,16 @@ returns-2 : tie.Need-returns-2 Inv-loop μ-loop
 returns-2 c = sym (number-zero _ (omega arith) (c .if3 .taken))
 
 loop-holds : tie.Need-loop-holds Inv-loop μ-loop
-loop-holds c = (
-  ⊎-elim
-      (λ w. number-many _ (omega arith) (w .2 .left))
-      (λ w. number-one _ (omega arith) (omega arith))
-      (c .if2 .came),
-  omega arith,
-  omega arith,
-)
+loop-holds c = ⊎-elim (λ w. left-many _ (omega arith) (w .2 .left)) (λ w. left-one _ (omega arith) (omega arith)) (c .if2 .came)
 
 shared-slice-read-b : tie.Need-shared-slice-read-b Inv-loop μ-loop
 shared-slice-read-b c = search needs
 
 returns-3 : tie.Need-returns-3 Inv-loop μ-loop
-returns-3 c = sym (c .before .before .before .loop .inv .0 ∙ num-low (c .before .before .before .before .before .before .before .args .text .now) (c .before .before .before .loop .a) (c .before .before .before .loop .i) (omega arith) (c .if4 .taken))
+returns-3 c = search (needs, numberAnswers)
 
 returns-4 : tie.Need-returns-4 Inv-loop μ-loop
-returns-4 c = sym (c .before .before .before .before .loop .inv .0 ∙ num-high (c .before .before .before .before .before .before .before .before .args .text .now) (c .before .before .before .before .loop .a) (c .before .before .before .before .loop .i) (omega arith) (c .if5 .taken))
+returns-4 c = search (needs, numberAnswers)
 
 mul-a : tie.Need-mul-a Inv-loop μ-loop
 mul-a c = search needs
@@ -58,7 +50,7 @@ add-a : tie.Need-add-a Inv-loop μ-loop
 add-a c = search needs
 
 returns-5 : tie.Need-returns-5 Inv-loop μ-loop
-returns-5 c = sym (c .before .before .before .before .before .before .loop .inv .0 ∙ num-over (c .before .before .before .before .before .before .before .before .before .before .args .text .now) (c .before .before .before .before .before .before .loop .a) (c .before .before .before .before .before .before .loop .i) (omega arith) (omega arith) (omega arith) (omega arith))
+returns-5 c = search (needs, numberAnswers)
 
 add-i : tie.Need-add-i Inv-loop μ-loop
 add-i c = search needs
@@ -67,13 +59,13 @@ loop-less : tie.Need-loop-less Inv-loop μ-loop
 loop-less c = search needs
 
 loop-again : tie.Need-loop-again Inv-loop μ-loop
-loop-again c = (cc (num-more (c .before .before .before .before .before .before .before .before .before .before .args .text .now) (c .before .before .before .before .before .before .loop .a) (c .before .before .before .before .before .before .loop .i) (omega arith) (omega arith) (omega arith) (omega arith)), omega arith, omega arith)
+loop-again c = search (needs, numberAnswers)
 
 cast-t17 : tie.Need-cast-t17 Inv-loop μ-loop
 cast-t17 c = search needs
 
 returns-6 : tie.Need-returns-6 Inv-loop μ-loop
-returns-6 c = sym (c .before .loop .inv .0 ∙ num-end (c .before .before .before .before .before .args .text .now) (c .before .loop .a) (c .before .loop .i) (omega arith))
+returns-6 c = search (needs, numberAnswers)
 
 pub number-spec : {M : Type 1} → statement M
 number-spec =

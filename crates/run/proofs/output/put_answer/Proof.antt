@@ -2,8 +2,7 @@
 use native.Mathlib.Omega.{arith}
 use borrow.Author.Needs.{needs}
 use mathlib.Core.Path.{_≡_, refl, sym, _∙_, ap}
-use Rattle.run.specs.Output.{answerText}
-use Rattle.run.proofs.Stores.{puts-append}
+use Rattle.run.proofs.Texts.{textsPut}
 use Rattle.run.proofs.output.put_answer.Statement.{statement}
 use Rattle.run.proofs.output.put_answer.Tie as tie
 use Rattle.run.proofs.output.put_answer.Reads as reads
@@ -32,8 +31,7 @@ same-length : tie.Need-same-length
 same-length c = search needs
 
 returns : tie.Need-returns
-unfolding answerText
-returns c = rw (← (c .before .before .before .before .before .before .before .before .before .before .before .number .ensures)) (puts-append (c .before .before .before .before .before .before .before .before .before .before .put-line .ensures) (puts-append (c .before .before .before .before .before .before .put-values .ensures) (c .before .before .put-notices .ensures)))
+returns c = search (needs, textsPut)
 
 pub put-answer-spec : {M : Type 1} → statement M
 put-answer-spec =

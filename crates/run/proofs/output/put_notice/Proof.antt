@@ -2,8 +2,7 @@
 use native.Mathlib.Omega.{arith}
 use borrow.Author.Needs.{needs}
 use mathlib.Core.Path.{_≡_, refl, sym, _∙_, ap}
-use Rattle.run.specs.Output.{noticeText}
-use Rattle.run.proofs.Stores.{puts-append}
+use Rattle.run.proofs.Texts.{textsPut}
 use Rattle.run.proofs.output.put_notice.Statement.{statement}
 use Rattle.run.proofs.output.put_notice.Tie as tie
 use Rattle.run.proofs.output.put_notice.Reads as reads
@@ -34,9 +33,7 @@ same-length : tie.Need-same-length
 same-length c = search needs
 
 returns : tie.Need-returns
-unfolding noticeText
-returns c =
-    rw (← (c .before .before .before .before .before .before .before .number .ensures)) (puts-append (c .before .before .before .before .before .before .before .before .before .before .before .before .put-line .ensures) (puts-append (c .before .before .before .before .before .before .put-line2 .ensures) (c .before .before .put-value .ensures)))
+returns c = search (needs, textsPut)
 
 pub put-notice-spec : {M : Type 1} → statement M
 put-notice-spec =

@@ -1,13 +1,11 @@
--- `run::output::put_notices` meets its contract. The invariant: what is left to put is the text of the notices from `i` on. Assumes nothing.
+-- `run::output::put_notices` meets its contract. The invariant is `NoticesLeft`. Assumes nothing.
 use native.Mathlib.Omega.{arith}
 use borrow.Author.Needs.{needs}
 use mathlib.Core.Path.{_≡_, refl, sym, _∙_, ap}
 use Prim.Native.Nat.{ℕ, _+_, _*_, _≤_, _<_, _-_}
-use lib.ListN.{length, drop}
-use Rattle.run.specs.Output.{noticesText}
-use Rattle.run.proofs.Stores.{Left, left-all, left-put, left-none}
-use Rattle.run.proofs.Laws.{notices-end, notices-unused, notices-used}
-use Rattle.run.proofs.Laws.{unmapped}
+use lib.ListN.{length}
+use Rattle.manager.specs.Record.{tasks}
+use Rattle.run.proofs.Notices.{NoticesLeft, notice-room, noticesPut}
 use Rattle.run.proofs.output.put_notices.Statement.{statement}
 use Rattle.run.proofs.output.put_notices.Tie as tie
 use Rattle.run.proofs.output.put_notices.Reads as reads
@@ -16,13 +14,13 @@ use Rattle.run.proofs.output.put_notice.Reads as put-notice-reads
 
 abbrev Inv-loop : tie.InvT-loop
 Inv-loop out₀ at notices p₀ i₀ out p i =
-    Left out₀ at (noticesText notices) out p (noticesText (drop i notices)) × (i ≤ 16) × (p ≤ at + 49 * i) × (length out ≡ length out₀)
+    NoticesLeft out₀ at notices out p i × (length out ≡ length out₀)
 
 abbrev μ-loop : tie.MeasureT-loop
-μ-loop out₀ at notices p₀ i₀ out p i = 16 - i
+μ-loop out₀ at notices p₀ i₀ out p i = tasks - i
 
 loop-holds : tie.Need-loop-holds Inv-loop μ-loop
-loop-holds c = search needs
+loop-holds c = (search (needs, noticesPut), refl)
 
 mul-n : tie.Need-mul-n Inv-loop μ-loop
 mul-n c = search needs
@@ -34,32 +32,25 @@ add-i : tie.Need-add-i Inv-loop μ-loop
 add-i c = search needs
 
 put-notice-requires : tie.Need-put-notice-requires Inv-loop μ-loop
-put-notice-requires c κs = search needs
+put-notice-requires c κs = omega (arith, notice-room (c .before .before .before .before .before .loop .inv .0) (omega arith))
 
 loop-less : tie.Need-loop-less Inv-loop μ-loop
 loop-less c = search needs
 
 loop-again : tie.Need-loop-again Inv-loop μ-loop
-loop-again c =
-    let h : length (c .before .before .before .before .before .before .before .before .before .before .args .t3) ≡ 16 = search (needs, unmapped) in
-    let i : c .before .before .before .before .before .before .before .before .loop .i < length (c .before .before .before .before .before .before .before .before .before .before .args .t3) = omega arith in
-    let e = c .before .before .put-notice .ensures .within in
-    (left-put (rw (notices-used (c .before .before .before .before .before .before .before .before .before .before .args .t3) (c .before .before .before .before .before .before .before .before .loop .i) i (c .before .before .before .before .if1 .taken)) at (c .before .before .before .before .before .before .before .before .loop .inv .0)) (c .before .before .put-notice .ensures), omega arith, omega arith, c .before .before .put-notice .kept .0 ∙ c .before .before .before .before .before .before .before .before .loop .inv .3)
+loop-again c = (search (needs, noticesPut), c .before .before .put-notice .kept .0 ∙ c .before .before .before .before .before .before .before .before .loop .inv .1)
 
 loop-less-2 : tie.Need-loop-less-2 Inv-loop μ-loop
 loop-less-2 c = search needs
 
 loop-again-2 : tie.Need-loop-again-2 Inv-loop μ-loop
-loop-again-2 c =
-    let h : length (c .before .before .before .before .before .before .args .t3) ≡ 16 = search (needs, unmapped) in
-    let i : c .before .before .before .before .loop .i < length (c .before .before .before .before .before .before .args .t3) = omega arith in
-    (rw (notices-unused (c .before .before .before .before .before .before .args .t3) (c .before .before .before .before .loop .i) i (c .if1 .left)) at (c .before .before .before .before .loop .inv .0), omega arith, omega arith, c .before .before .before .before .loop .inv .3)
+loop-again-2 c = (search (needs, noticesPut), c .before .before .before .before .loop .inv .1)
 
 same-length : tie.Need-same-length Inv-loop μ-loop
-same-length c = c .before .loop .inv .3
+same-length c = c .before .loop .inv .1
 
 returns : tie.Need-returns Inv-loop μ-loop
-returns c = let h : length (c .before .before .before .args .t3) ≡ 16 = search (needs, unmapped) in left-none (rw (notices-end (c .before .before .before .args .t3) (c .before .loop .i) (omega arith)) at (c .before .loop .inv .0)) (omega arith)
+returns c = search (needs, noticesPut)
 
 pub put-notices-spec : {M : Type 1} → statement M
 put-notices-spec =

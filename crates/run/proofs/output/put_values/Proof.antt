@@ -2,8 +2,7 @@
 use native.Mathlib.Omega.{arith}
 use borrow.Author.Needs.{needs}
 use mathlib.Core.Path.{_≡_, refl, sym, _∙_, ap}
-use Rattle.run.specs.Output.{valuesText}
-use Rattle.run.proofs.Stores.{puts-most}
+use Rattle.run.proofs.Texts.{textsPut}
 use Rattle.run.proofs.output.put_values.Statement.{statement}
 use Rattle.run.proofs.output.put_values.Tie as tie
 use Rattle.run.proofs.output.put_values.Reads as reads
@@ -21,15 +20,13 @@ same-length : tie.Need-same-length
 same-length c = search needs
 
 returns : tie.Need-returns
-unfolding valuesText
-returns c = rw (c .before .before .before .before .before .if1 .taken) (c .before .before .put-information .ensures)
+returns c = search (needs, textsPut)
 
 same-length-2 : tie.Need-same-length-2
 same-length-2 c = search needs
 
 returns-2 : tie.Need-returns-2
-unfolding valuesText
-returns-2 c = rw (c .before .before .before .before .if1 .left) (puts-most (omega arith) (c .before .before .put-value .ensures))
+returns-2 c = search (needs, textsPut)
 
 pub put-values-spec : {M : Type 1} → statement M
 put-values-spec =
