@@ -108,17 +108,17 @@ same-region d i id = refl
 
 module _ (m : List ℕ) (d : Manager) (id : ℕ) (s : Sited m (regionOf d id)) (r : Region) (er : r ≡ regionOf d id) (i : ℕ) (q : i ≡ firstOf id (d .waiters)) where
   -- nobody waits
-  pub turn-none : tasks ≤ i → Turns m d id m Stop
+  pub turn-none : 16 ≤ i → Turns m d id m Stop
   unfolding turnOf
-  turn-none h = record { turn = rw (← q, le-ltb i tasks h); memory = refl; sited = s }
+  turn-none h = record { turn = rw (← q, le-ltb i 16 h); memory = refl; sited = s }
 
   pub turn-live : Sited m r
   turn-live = rw er s
 
-  pub turn-asks : Asking d → i < tasks → length (d .waiters) ≡ tasks → (k : ℕ) → k ≡ pagesAsked r (getD (d .waiters) i noWaiter .size) → 1 ≤ k
+  pub turn-asks : Asking d → i < 16 → length (d .waiters) ≡ 16 → (k : ℕ) → k ≡ pagesAsked r (getD (d .waiters) i noWaiter .size) → 1 ≤ k
   turn-asks a h l k e = asked-some m r d id i k turn-live a q (omega arith) e
 
-  module _ (h : i < tasks) (k : ℕ) (ek : k ≡ pagesAsked r (getD (d .waiters) i noWaiter .size)) (out : List ℕ) (p : Place) (t : Takes r k m out p) where
+  module _ (h : i < 16) (k : ℕ) (ek : k ≡ pagesAsked r (getD (d .waiters) i noWaiter .size)) (out : List ℕ) (p : Place) (t : Takes r k m out p) where
     pages-first : k ≡ pagesFirst d id
     pages-first = ek ∙ rw (er, q)
 
@@ -130,7 +130,7 @@ module _ (m : List ℕ) (d : Manager) (id : ℕ) (s : Sited m (regionOf d id)) (
     unfolding turnOf
     turn-no e =
         record {
-          turn = rw (← placed-is, e, ← q, lt-ltb i tasks h);
+          turn = rw (← placed-is, e, ← q, lt-ltb i 16 h);
           memory = t .memory ∙ none-taken m r turn-live k (sym (t .place) ∙ e);
           sited = rw (← er) (t .sited);
         }
@@ -142,7 +142,7 @@ module _ (m : List ℕ) (d : Manager) (id : ℕ) (s : Sited m (regionOf d id)) (
     unfolding turnOf
     turn-yes j e a ea =
         record {
-          turn = rw (← placed-is, e, ← q, lt-ltb i tasks h, ea, er);
+          turn = rw (← placed-is, e, ← q, lt-ltb i 16 h, ea, er);
           memory = t .memory ∙ rw (er, pages-first);
           sited = rw (← er) (t .sited);
         }
@@ -168,46 +168,46 @@ module _ (f : ℕ) (m : List ℕ) (d : Manager) (id : ℕ) where
 
 -- what is left to serve from here gives what serving from the start gives
 pub record Serving (m₀ : List ℕ) (id : ℕ) (d₀ : Manager) (m : List ℕ) (d : Manager) (ns : List Notice) (n : ℕ) : Type 0 where
-  pub within : n ≤ tasks
+  pub within : n ≤ 16
   pub size : length m ≡ length m₀
   pub sited : Sited m (regionOf d id)
   pub asking : Asking d
-  pub memory : serveUpTo (tasks - n) m d id .memory ≡ serve m₀ d₀ id .memory
-  pub manager : serveUpTo (tasks - n) m d id .manager ≡ serve m₀ d₀ id .manager
-  pub told : Filling noNotice tasks ns n (serveUpTo (tasks - n) m d id .notices) (serve m₀ d₀ id .notices)
+  pub memory : serveUpTo (16 - n) m d id .memory ≡ serve m₀ d₀ id .memory
+  pub manager : serveUpTo (16 - n) m d id .manager ≡ serve m₀ d₀ id .manager
+  pub told : Filling noNotice 16 ns n (serveUpTo (16 - n) m d id .notices) (serve m₀ d₀ id .notices)
 
 pub serve-start : (m : List ℕ) (id : ℕ) (d : Manager) (ns : List Notice) → Sited m (regionOf d id) → Asking d → ns ≡ replicate tasks noNotice → Serving m id d m d ns 0
 unfolding serve
 serve-start m id d ns s a f =
-    record { within = omega arith; size = refl; sited = s; asking = a; memory = refl; manager = refl; told = rw f (fill-start noNotice tasks (serveUpTo tasks m d id .notices)) }
+    record { within = omega arith; size = refl; sited = s; asking = a; memory = refl; manager = refl; told = rw f (fill-start noNotice 16 (serveUpTo 16 m d id .notices)) }
 
 module _ (m₀ : List ℕ) (id : ℕ) (d₀ : Manager) (m : List ℕ) (d : Manager) (ns : List Notice) (n : ℕ) (v : Serving m₀ id d₀ m d ns n) where
   abbrev Done : List ℕ → Type 0
   Done out = Serves (serve m₀ d₀ id) out (record { manager = d; notices = ns })
 
-  serve-finish : (out : List ℕ) → out ≡ m → serveUpTo (tasks - n) m d id ≡ quiet m d → Done out
+  serve-finish : (out : List ℕ) → out ≡ m → serveUpTo (16 - n) m d id ≡ quiet m d → Done out
   serve-finish out x e =
       let a : m ≡ serve m₀ d₀ id .memory = rw e at (v .memory) in
       let b : d ≡ serve m₀ d₀ id .manager = rw e at (v .manager) in
-      let t : Filling noNotice tasks ns n [] (serve m₀ d₀ id .notices) = rw e at (v .told) in
-      record { memory = x ∙ a; manager = b; notices = fill-end noNotice tasks ns n (serve m₀ d₀ id .notices) t }
+      let t : Filling noNotice 16 ns n [] (serve m₀ d₀ id .notices) = rw e at (v .told) in
+      record { memory = x ∙ a; manager = b; notices = fill-end noNotice 16 ns n (serve m₀ d₀ id .notices) t }
 
-  pub serve-full : tasks ≤ n → Done m
+  pub serve-full : 16 ≤ n → Done m
   unfolding serveUpTo
-  serve-full h = let z : tasks - n ≡ 0 = omega arith in serve-finish m refl (rw z)
+  serve-full h = let z : 16 - n ≡ 0 = omega arith in serve-finish m refl (rw z)
 
-  module _ (lt : n < tasks) (out : List ℕ) (t : Turn) (u : Turns m d id out t) where
+  module _ (lt : n < 16) (out : List ℕ) (t : Turn) (u : Turns m d id out t) where
     pub serve-stop : t ≡ Stop → Done out
     serve-stop e =
-        let z : tasks - n ≡ suc (tasks - (n + 1)) = omega arith in
-        serve-finish out (u .memory ∙ rw e) (rw z (up-turn (tasks - (n + 1)) m d id ∙ rw (← (u .turn), e)))
+        let z : 16 - n ≡ suc (16 - (n + 1)) = omega arith in
+        serve-finish out (u .memory ∙ rw e) (rw z (up-turn (16 - (n + 1)) m d id ∙ rw (← (u .turn), e)))
 
     pub serve-more : (i : ℕ) (notice : Notice) → t ≡ Serve i notice → length out ≡ length m → (d′ : Manager) → d′ ≡ dequeue d i
         → Serving m₀ id d₀ out d′ (set ns n notice) (n + 1)
     serve-more i notice e len d′ x =
-        let z : tasks - n ≡ suc (tasks - (n + 1)) = omega arith in
+        let z : 16 - n ≡ suc (16 - (n + 1)) = omega arith in
         let o : out ≡ taken m (regionOf d id) (pagesFirst d id) = u .memory ∙ rw e in
-        let y : serveUpTo (tasks - n) m d id ≡ telling notice (serveUpTo (tasks - (n + 1)) out d′ id) = rw (z, x, o) (up-turn (tasks - (n + 1)) m d id ∙ rw (← (u .turn), e)) in
+        let y : serveUpTo (16 - n) m d id ≡ telling notice (serveUpTo (16 - (n + 1)) out d′ id) = rw (z, x, o) (up-turn (16 - (n + 1)) m d id ∙ rw (← (u .turn), e)) in
         record {
           within = omega arith;
           size = len ∙ v .size;
@@ -215,7 +215,7 @@ module _ (m₀ : List ℕ) (id : ℕ) (d₀ : Manager) (m : List ℕ) (d : Manag
           asking = rw x (asking-less d i (v .asking));
           memory = rw y at (v .memory);
           manager = rw y at (v .manager);
-          told = fill-put noNotice tasks ns n _ _ _ lt (rw y at (v .told));
+          told = fill-put noNotice 16 ns n _ _ _ lt (rw y at (v .told));
         }
 
 pub ruleset serving = (serve-start, serve-full, serve-stop, serve-more)

@@ -43,7 +43,7 @@ pub fn may_wait(d: Manager, wait: Wait, task: u32, priority: u32) -> Verdict
     if task == 0 {
         return Verdict::Bad(Status::InvalidNumber);
     }
-    if Manager::TASKS < task as usize {
+    if 16 < task {
         return Verdict::Bad(Status::InvalidNumber);
     }
     if priority == 0 {

@@ -16,7 +16,7 @@ ghost use Rattle.regions.specs.Serving.{Asking, Serves, Turns};
 // The manager record and the notices after serving.
 pub struct Granted {
     pub manager: Manager,
-    pub notices: [Notice; Manager::TASKS],
+    pub notices: [Notice; 16],
 }
 
 // The address of page p of the region.

@@ -1,7 +1,6 @@
 -- `serve` meets its contract: each turn is one of the definition, and each end is where the definition ends. Assumes nothing.
 use Prim.Native.Nat.{_-_}
 use native.Mathlib.Omega.{arith}
-use Rattle.manager.specs.Record.{tasks}
 use Rattle.regions.proofs.Serving.{Serving, serving}
 use borrow.Author.Needs.{needs}
 use Rattle.regions.proofs.serve.serve.Statement.{statement}
@@ -11,7 +10,7 @@ abbrev Inv-loop : tie.InvT-loop
 Inv-loop mem₀ id e₀ told₀ n₀ mem e told n = Serving mem₀ id e₀ mem e told n
 
 abbrev μ-loop : tie.MeasureT-loop
-μ-loop mem₀ id e₀ told₀ n₀ mem e told n = tasks - n
+μ-loop mem₀ id e₀ told₀ n₀ mem e told n = 16 - n
 
 pub serve-spec : {M : Type 1} → statement M
 serve-spec =
