@@ -1,18 +1,22 @@
--- The part of the memory that is a region's map, and the held segment at an address. Assumes nothing.
+-- The part of the memory that is a region's map, the page at an address, and the held segment there. Assumes nothing.
 use Prim.Native.Nat.{ℕ, _+_, _-_, _/_, _%_, _≤_, _<_}
 use mathlib.Core.Path.{_≡_, refl, sym, ap, _∙_}
 use mathlib.Core.Bool.{Bool, true, false, cond}
 use mathlib.Core.List.{List, []}
 use native.Mathlib.Omega.{arith}
+use native.Mathlib.Nat.{div-zero, zero-div, div-le-self}
+use borrow.Author.Needs.{fits-under}
 use borrow.Author.Tests.{eq-eqb, ne-eqb, le-leb, lt-leb}
 use lib.ListN.{length, take, drop, length-drop, drop-of-length-le}
 use lib.Seq.{take-all, take-nil}
+use mir.Syntax.{w32}
+use mir.Val.{Fits}
 use Rattle.arith.specs.Layout.{firstPage}
 use Rattle.arith.proofs.Laws.Layout.{count-zero}
 use Rattle.manager.specs.Lists.{some}
 use Rattle.manager.specs.Map.{decode, isHeldSegment}
-use Rattle.manager.specs.Paged.{heldFrom}
-use Rattle.manager.specs.Region.{pagesOf, baseOf, mapAt, mapWords, heldAt, anyHeld, startsPage, pageAt}
+use Rattle.manager.specs.Paged.{heldFrom, reachFrom}
+use Rattle.manager.specs.Region.{pagesOf, baseOf, mapAt, mapWords, segments, heldAt, anyHeld, startsPage, pageAt}
 use Rattle.manager.specs.declared.Region.{Region}
 
 pub base-is : (r : Region) (n f : ℕ) → n ≡ pagesOf r → f ≡ firstPage (r .start) (r .page) n → f ≡ baseOf r
@@ -37,6 +41,24 @@ module _ (m : List ℕ) (r : Region) (b n : ℕ) (eb : b ≡ mapAt r) (en : n �
 pub any-in : (m : List ℕ) (r : Region) (ws : List ℕ) (v : Bool) → ws ≡ mapWords m r → v ≡ some isHeldSegment (decode ws)
     → v ≡ anyHeld m r
 any-in m r ws v ew ev = ev ∙ ap (λ (l : List ℕ). some isHeldSegment (decode l)) ew
+
+pub reach-in : (m : List ℕ) (r : Region) (ws : List ℕ) (p n : ℕ) → ws ≡ mapWords m r → n ≡ reachFrom p 0 (decode ws) → n ≡ reachFrom p 0 (segments m r)
+reach-in m r ws p n ew en = en ∙ ap (λ (l : List ℕ). reachFrom p 0 (decode l)) ew
+
+-- the page at an address
+pub page-none : (r : Region) (a : ℕ) → r .page ≡ 0 → 0 ≡ pageAt r a
+page-none r a e = rw (e, div-zero)
+
+pub page-below : (r : Region) (a b : ℕ) → b ≡ baseOf r → a < b → 0 ≡ pageAt r a
+page-below r a b e l = let z : a - b ≡ 0 = omega arith in rw (← e, z) (sym (zero-div (r .page)))
+
+pub page-above : (r : Region) (a b : ℕ) → b ≡ baseOf r → (a - b) / r .page ≡ pageAt r a
+page-above r a b e = rw e
+
+pub page-fits : (a b page : ℕ) → a < 4294967296 → Fits w32 ((a - b) / page)
+page-fits a b page h = fits-under w32 ((a - b) / page) 4294967296 (omega (arith, div-le-self (a - b) page)) tt
+
+pub ruleset paging = (page-none, page-below, page-above, page-fits)
 
 either : (b : Bool) (n : ℕ) → n ≡ 0 → cond b n 0 ≡ 0
 either true n e = e
@@ -64,4 +86,4 @@ module _ (m : List ℕ) (r : Region) (a : ℕ) where
       held-there k ws n ew en =
           rw (← eb, le-leb b a h, eq-eqb ((a - b) % r .page) 0 k) (en ∙ ap (λ (l : List ℕ). heldFrom ((a - b) / r .page) 0 (decode l)) ew)
 
-pub ruleset parts = (base-is, words-out, words-short, words-whole, any-in, held-none, held-below, held-between, held-there)
+pub ruleset parts = (base-is, words-out, words-short, words-whole, any-in, reach-in, held-none, held-below, held-between, held-there)

@@ -6,7 +6,7 @@ ghost use lib.ListN.{drop};
 ghost use Rattle.manager.specs.Lists.{some};
 ghost use Rattle.manager.specs.Map.{decode, soundMap, isHeldSegment};
 ghost use Rattle.manager.specs.Paged.{heldFrom, reachFrom, lead};
-ghost use Rattle.manager.specs.Region.{pagesOf, baseOf, mapAt, mapWords, heldAt, anyHeld, pagesAsked};
+ghost use Rattle.manager.specs.Region.{pagesOf, baseOf, pageAt, mapAt, mapWords, segments, heldAt, anyHeld, pagesAsked};
 
 // How many pages the region has.
 pub fn pages_of(r: Region) -> u32
@@ -160,6 +160,21 @@ pub fn reach(map: &[u32], p: u32) -> u32
     0
 }
 
+// The page that starts at an address.
+pub fn page_at(r: Region, address: u32) -> u32
+    ensures { λ p. ⌜ p ≡ pageAt r address ⌝ }
+{
+    let page = r.page;
+    if page == 0 {
+        return 0;
+    }
+    let base = base_of(r);
+    if (address as u64) < base {
+        return 0;
+    }
+    ((address as u64 - base) / page as u64) as u32
+}
+
 // The pages of the region's held segment that starts at an address; 0 where none does.
 pub fn held_at(mem: &[u32], r: Region, address: u32) -> u32
     ensures { λ n. ⌜ n ≡ heldAt (now (mem .entry)) r address ⌝ }
@@ -178,6 +193,14 @@ pub fn held_at(mem: &[u32], r: Region, address: u32) -> u32
     }
     let map = map_words(mem, r);
     held_pages(map, (past / page as u64) as u32)
+}
+
+// The most pages that the region's held segment at page p can have.
+pub fn reach_in(mem: &[u32], r: Region, p: u32) -> u32
+    ensures { λ n. ⌜ n ≡ reachFrom p 0 (segments (now (mem .entry)) r) ⌝ }
+{
+    let map = map_words(mem, r);
+    reach(map, p)
 }
 
 // Whether something of the region is held.

@@ -1,0 +1,21 @@
+-- `take_at` meets its contract: where first fit finds page i, the definition holds the low end of that segment. Assumes nothing.
+use native.Mathlib.Omega.{arith}
+use mathlib.Core.Path.{_∙_}
+use Rattle.segments.proofs.Take.{Took, took}
+use borrow.Author.Needs.{needs}
+use Rattle.segments.proofs.map_words.take_at.Statement.{statement}
+use Rattle.segments.proofs.map_words.take_at.Tie as tie
+
+-- what stands at page i
+found : (c : tie.Start) → Took (c .args .k) (c .args .i) (c .args .map .now)
+found c = took _ _ _ (c .pre .0 .0) (c .pre .1 .0) (c .pre .1 .1)
+
+pub take-at-spec : {M : Type 1} → statement M
+take-at-spec =
+    tie.close
+    (tie.spec
+    (λ c. omega (arith, found (c .before)))
+    (λ c. omega (arith, found (c .before .before)))
+    (λ c κs. let f = found (c .before .before .before) in (c .before .before .before .pre .1 .0, f .room, f .within, c .before .before .before .pre .0 .1))
+    (λ c. search needs)
+    (λ c. c .before .before .hold .ensures ∙ found (c .before .before .before .before .before .before) .held))
