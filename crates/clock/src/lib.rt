@@ -1,4 +1,4 @@
-// The clock tick: document 01, "Regions (001): Tick". It answers 25 first, where the records are not sound. The function is total: any
+// The clock tick: document 01, "Regions", Tick. It answers 25 first, where the records are not sound. The function is total: any
 // record and memory have their answer.
 use manager::Answer;
 use manager::Manager;
@@ -7,7 +7,7 @@ ghost use mathlib.Core.Path.{_≡_};
 ghost use Rattle.manager.specs.Result.{Performs};
 ghost use Rattle.manager.specs.Regions.{tick};
 
-// Each waiter with ticks left loses one, and who has none left leaves with status 6. No check of its own; no word of the memory changes.
+// Each waiter with ticks left loses one; at 0 it leaves with status 6. No check of its own; no word of the memory changes.
 pub fn tick(mem: &[u32], d: Manager) -> Answer
     ensures { λ a. ⌜ Performs (tick (now (mem .entry)) d) (now (mem .entry)) a ⌝ }
 {

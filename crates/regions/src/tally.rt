@@ -74,7 +74,7 @@ fn count(map: &[u32]) -> Information
 }
 
 // The same in bytes.
-pub fn tally(map: &[u32], page: u32) -> Information
+pub(crate) fn tally(map: &[u32], page: u32) -> Information
     requires { ⌜ (soundMap (now map) ≡ true) × (length (now map) ≤ 16384) × (page ≤ 4096) ⌝ }
     ensures { λ r. ⌜ r ≡ informationOf page (freeSizes (decode (now (map .entry)))) (heldSizes (decode (now (map .entry)))) ⌝ }
 {

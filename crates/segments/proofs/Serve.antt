@@ -32,6 +32,7 @@ use Rattle.manager.specs.declared.Waiter.{Waiter}
 use Rattle.manager.specs.declared.Notice.{Notice}
 use Rattle.manager.specs.declared.Place.{Place}
 use Rattle.manager.specs.declared.Place.the-variants.{At, Nowhere}
+use Rattle.objects.proofs.Laws.{unmapped}
 use Rattle.queue.proofs.Fill.{Filling, fill-start, fill-put, fill-end}
 use Rattle.segments.specs.Lending.{Takes}
 use Rattle.segments.specs.Serving.{asks, Asking, onTurn, pagesFirst, turnOf, Turns, Serves}
@@ -147,7 +148,7 @@ module _ (m : List ℕ) (d : Manager) (id : ℕ) (s : Sited m (regionOf d id)) (
           sited = rw (← er) (t .sited);
         }
 
-pub ruleset turning = (turn-none, turn-live, turn-asks, turn-no, turn-address, turn-yes)
+pub ruleset turning = (unmapped, turn-none, turn-live, turn-asks, turn-no, turn-address, turn-yes)
 
 -- ---- one turn of the definition, by what it comes to
 

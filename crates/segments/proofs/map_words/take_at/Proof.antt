@@ -10,12 +10,22 @@ use Rattle.segments.proofs.map_words.take_at.Tie as tie
 found : (c : tie.Start) → Took (c .args .k) (c .args .i) (c .args .map .now)
 found c = took _ _ _ (c .pre .0 .0) (c .pre .1 .0) (c .pre .1 .1)
 
+mul-pages : tie.Need-mul-pages
+mul-pages c = omega (arith, found (c .before))
+
+slice-read-pages : tie.Need-slice-read-pages
+slice-read-pages c = omega (arith, found (c .before .before))
+
+hold-requires : tie.Need-hold-requires
+hold-requires c κs = let f = found (c .before .before .before) in (c .before .before .before .pre .1 .0, f .room, f .within, c .before .before .before .pre .0 .1)
+
+same-length : tie.Need-same-length
+same-length c = search needs
+
+returns : tie.Need-returns
+returns c = c .before .before .hold .ensures ∙ found (c .before .before .before .before .before .before) .held
+
 pub take-at-spec : {M : Type 1} → statement M
 take-at-spec =
     tie.close
-    (tie.spec
-    (λ c. omega (arith, found (c .before)))
-    (λ c. omega (arith, found (c .before .before)))
-    (λ c κs. let f = found (c .before .before .before) in (c .before .before .before .pre .1 .0, f .room, f .within, c .before .before .before .pre .0 .1))
-    (λ c. search needs)
-    (λ c. c .before .before .hold .ensures ∙ found (c .before .before .before .before .before .before) .held))
+    (tie.spec mul-pages slice-read-pages hold-requires same-length returns)

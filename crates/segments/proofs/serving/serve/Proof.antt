@@ -1,6 +1,5 @@
 -- `serve` meets its contract: each turn is one of the definition, and each end is where the definition ends. Assumes nothing.
 use Prim.Native.Nat.{_-_}
-use native.Mathlib.Omega.{arith}
 use Rattle.manager.specs.Record.{tasks}
 use Rattle.segments.proofs.Serve.{Serving, serving}
 use borrow.Author.Needs.{needs}

@@ -1,6 +1,4 @@
 -- `try_first` meets its contract: each end is one of the definition of a turn. Assumes nothing.
-use native.Mathlib.Omega.{arith}
-use Rattle.objects.proofs.Laws.{unmapped}
 use Rattle.segments.proofs.Serve.{turning}
 use borrow.Author.Needs.{needs}
 use Rattle.segments.proofs.serving.try_first.Statement.{statement}
@@ -16,7 +14,7 @@ try-first-spec =
     (λ c. search (needs, turning))
     (λ c. search (needs, turning))
     (λ c κs. search (needs, turning))
-    (λ c κs. search (needs, turning, unmapped))
+    (λ c κs. search (needs, turning))
     (λ c. search (needs, turning))
     (λ c. search (needs, turning))
     (λ c κs. search (needs, turning))
