@@ -1,7 +1,7 @@
 -- Return, exit by exit: the tests that led there, in their order, give the definition's result; then the pages are free, and the queue is
 -- served in the memory that they are free in. Assumes nothing.
 use Prim.Native.Nat.{ℕ}
-use mathlib.Core.Path.{_≡_, sym, _∙_}
+use mathlib.Core.Path.{_≡_}
 use mathlib.Core.Bool.{Bool, true, false}
 use mathlib.Core.List.{List}
 use borrow.Author.Tests.{eq-eqb, ne-eqb, not-true, not-false}
@@ -18,7 +18,7 @@ use Rattle.manager.specs.declared.Region.{Region}
 use Rattle.manager.specs.declared.Information.{Information}
 use Rattle.manager.specs.declared.Status.the-variants.{Successful, InvalidId, InvalidAddress, InternalError}
 use Rattle.segments.specs.Lending.{Draws}
-use Rattle.segments.specs.Serving.{Asking, Serves}
+use Rattle.segments.specs.Serving.{Serves}
 use Rattle.segments.specs.declared.serving.Granted.{Granted}
 use Rattle.segments.proofs.Address.{live, held-some}
 use Rattle.segments.proofs.Serve.{sound-asking}
@@ -60,8 +60,4 @@ module _ (m : List ℕ) (d : Manager) (id address : ℕ) (b : Bool) (eb : b ≡ 
       unfolding returnSegment checked
       return-freed z p ep = rw (← eb, s, ← er, ne-eqb _ _ l, ← en, ne-eqb _ _ z, ← ep)
 
--- every waiter asks for something
-pub return-asking : (m : List ℕ) (d : Manager) (b : Bool) → b ≡ sound m d → b ≡ true → Asking d
-return-asking m d b eb h = sound-asking m d (sym eb ∙ h)
-
-pub ruleset returning = (performs-replied, performs-by, live, held-some, return-asking, return-unsound, return-dead, return-none, return-freed, not-true, not-false)
+pub ruleset returning = (performs-replied, performs-by, live, held-some, sound-asking, return-unsound, return-dead, return-none, return-freed, not-true, not-false)

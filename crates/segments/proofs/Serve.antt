@@ -94,8 +94,8 @@ place-asks m d w e =
     and-first (leb 1 (w .size)) _ u4
     ))
 
-pub sound-asking : (m : List ℕ) (d : Manager) → sound m d ≡ true → Asking d
-sound-asking m d ok = every-imp (soundPlace m d) asks (place-asks m d) (d .waiters) (sound-every m d (sound-queue m d ok))
+pub sound-asking : (m : List ℕ) (d : Manager) (b : Bool) → b ≡ sound m d → b ≡ true → Asking d
+sound-asking m d b e h = every-imp (soundPlace m d) asks (place-asks m d) (d .waiters) (sound-every m d (sound-queue m d (sym e ∙ h)))
 
 -- one waiter less
 pub asking-less : (d : Manager) (i : ℕ) → Asking d → Asking (dequeue d i)
