@@ -16,8 +16,8 @@ pub fn perform(mem: &mut [u32], d: Manager, call: Call) -> Answer
             page,
             order,
         } => regions::create_region(mem, d, name, start, length, page, order),
-        Call::IdentRegion { name } => regions_read::ident_region(mem, d, name),
-        Call::DeleteRegion { id } => regions_read::delete_region(mem, d, id),
+        Call::IdentRegion { name } => regions::ident_region(mem, d, name),
+        Call::DeleteRegion { id } => regions::delete_region(mem, d, id),
         Call::GetSegment {
             id,
             size,
@@ -25,17 +25,17 @@ pub fn perform(mem: &mut [u32], d: Manager, call: Call) -> Answer
             task,
             priority,
             ticks,
-        } => regions::get_segment(mem, d, id, size, wait, task, priority, ticks),
-        Call::ReturnSegment { id, address } => regions::return_segment(mem, d, id, address),
-        Call::SegmentSize { id, address } => regions_read::segment_size(mem, d, id, address),
-        Call::ResizeSegment { id, address, size } => regions::resize_segment(
+        } => segments::get_segment(mem, d, id, size, wait, task, priority, ticks),
+        Call::ReturnSegment { id, address } => segments::return_segment(mem, d, id, address),
+        Call::SegmentSize { id, address } => segments::segment_size(mem, d, id, address),
+        Call::ResizeSegment { id, address, size } => segments::resize_segment(
             mem,
             d,
             id,
             address,
             size,
         ),
-        Call::RegionInformation { id } => regions_read::region_information(mem, d, id),
+        Call::RegionInformation { id } => regions::region_information(mem, d, id),
         Call::CreatePartition {
             name,
             start,
@@ -46,6 +46,6 @@ pub fn perform(mem: &mut [u32], d: Manager, call: Call) -> Answer
         Call::DeletePartition { id } => partitions::delete_partition(mem, d, id),
         Call::GetBuffer { id } => partitions::get_buffer(mem, d, id),
         Call::ReturnBuffer { id, address } => partitions::return_buffer(mem, d, id, address),
-        Call::Tick => regions_read::tick(mem, d),
+        Call::Tick => clock::tick(mem, d),
     }
 }

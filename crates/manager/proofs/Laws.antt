@@ -6,5 +6,6 @@ pub mod Result
 pub mod Map
 pub mod Paged
 pub mod Sound
+pub mod Region
 pub mod Partition
 pub mod Queue

@@ -1,13 +1,17 @@
--- The part of the memory that is a region's map, and the held segment at an address. Assumes nothing.
+-- The part of the memory that is a region's map, the page at an address, and the held segment there. Assumes nothing.
 use Prim.Native.Nat.{ℕ, zero, _+_, _-_, _*_, _/_, _%_, _≤_, _<_}
 use mathlib.Core.Path.{_≡_, refl, sym, ap, _∙_}
 use mathlib.Core.Bool.{Bool, true, false, cond}
 use mathlib.Core.List.{List, []}
 use native.Mathlib.Omega.{arith}
+use native.Mathlib.Nat.{div-zero, zero-div, div-le-self}
+use borrow.Author.Needs.{fits-under}
 use borrow.Author.Tests.{eq-eqb, ne-eqb, eqb-true, eqb-false, le-leb, lt-leb}
 use lib.Dec.{eqb}
 use lib.ListN.{length, take, drop, getD, length-drop, drop-of-length-le, List·getD-eq-default}
 use lib.Seq.{take-all, take-nil}
+use mir.Syntax.{w32}
+use mir.Val.{Fits}
 use Rattle.arith.specs.Layout.{firstPage}
 use Rattle.arith.proofs.Laws.Layout.{count-zero}
 use Rattle.manager.specs.Lists.{some}
@@ -38,6 +42,21 @@ module _ (m : List ℕ) (r : Region) (b n : ℕ) (eb : b ≡ mapAt r) (en : n �
 pub any-in : (m : List ℕ) (r : Region) (ws : List ℕ) (v : Bool) → ws ≡ mapWords m r → v ≡ some isHeldSegment (decode ws)
     → v ≡ anyHeld m r
 any-in m r ws v ew ev = ev ∙ ap (λ (l : List ℕ). some isHeldSegment (decode l)) ew
+
+-- the page at an address
+pub page-none : (r : Region) (a : ℕ) → r .page ≡ 0 → 0 ≡ pageAt r a
+page-none r a e = rw (e, div-zero)
+
+pub page-below : (r : Region) (a b : ℕ) → b ≡ baseOf r → a < b → 0 ≡ pageAt r a
+page-below r a b e l = let z : a - b ≡ 0 = omega arith in rw (← e, z) (sym (zero-div (r .page)))
+
+pub page-above : (r : Region) (a b : ℕ) → b ≡ baseOf r → (a - b) / r .page ≡ pageAt r a
+page-above r a b e = rw e
+
+pub page-fits : (a b page : ℕ) → a < 4294967296 → Fits w32 ((a - b) / page)
+page-fits a b page h = fits-under w32 ((a - b) / page) 4294967296 (omega (arith, div-le-self (a - b) page)) tt
+
+pub ruleset paging = (page-none, page-below, page-above, page-fits)
 
 no-word : (p : ℕ) → heldWord [] p ≡ 0
 no-word p = rw (List·getD-eq-default {A = ℕ} [] 0 {n = p} (omega arith))

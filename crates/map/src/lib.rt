@@ -3,7 +3,7 @@ use manager::Region;
 ghost use mathlib.Core.Path.{_≡_};
 ghost use Rattle.manager.specs.Lists.{some};
 ghost use Rattle.manager.specs.Map.{decode, soundMap, isHeldSegment};
-ghost use Rattle.manager.specs.Region.{pagesOf, baseOf, mapAt, mapWords, anyHeld, pagesAsked};
+ghost use Rattle.manager.specs.Region.{pagesOf, baseOf, pageAt, mapAt, mapWords, anyHeld, pagesAsked};
 ghost use Rattle.map.specs.Word.{heldWord, heldWordAt, oneFree};
 
 // How many pages the region has.
@@ -110,6 +110,21 @@ pub fn held_word(map: &[u32], p: u32) -> u32
         return first / 2;
     }
     0
+}
+
+// The page that starts at an address.
+pub fn page_at(r: Region, address: u32) -> u32
+    ensures { λ p. ⌜ p ≡ pageAt r address ⌝ }
+{
+    let page = r.page;
+    if page == 0 {
+        return 0;
+    }
+    let base = base_of(r);
+    if (address as u64) < base {
+        return 0;
+    }
+    ((address as u64 - base) / page as u64) as u32
 }
 
 // The pages of the region's held segment that starts at an address, as the word of that page says it; 0 where none does.

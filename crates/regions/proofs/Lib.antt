@@ -1,8 +1,4 @@
-pub mod Walk
-pub mod Words
-pub mod Take
-pub mod Change
-pub mod Lend
-pub mod Serving
-pub mod Verdicts
-pub mod Answers
+pub mod Clear
+pub mod Count
+pub mod Making
+pub mod Reading

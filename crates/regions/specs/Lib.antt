@@ -1,4 +1,2 @@
-pub mod Leaf
-pub mod Pages
-pub mod Serving
-pub mod Verdicts
+pub mod Count
+pub mod Entered

@@ -1,19 +1,18 @@
-// The directives on regions that draw a region's map. Each answers 25 first, where the records are not sound.
-mod acts;
-mod checks;
-mod leaf;
-mod pages;
-mod serve;
+// The directives on whole regions: document 01, "Regions". Each answers 25 first, where the records are not sound. Every function
+// here is total: any record, memory and numbers have their answer.
+mod create;
+mod tally;
 
 use manager::Answer;
 use manager::Manager;
 use manager::Order;
+use manager::Region;
 use manager::Status;
-use manager::Wait;
 ghost use mathlib.Core.Path.{_≡_};
 ghost use Rattle.manager.specs.Result.{Performs};
-ghost use Rattle.manager.specs.Regions.{createRegion, getSegment, returnSegment, resizeSegment};
+ghost use Rattle.manager.specs.Regions.{createRegion, identRegion, deleteRegion, regionInformation};
 
+// Makes a region of the area, all its pages free; the value is its id.
 pub fn create_region(
     mem: &mut [u32],
     d: Manager,
@@ -28,41 +27,70 @@ pub fn create_region(
     if !invariant::is_sound(mem, d) {
         return reply::reply(d, Status::InternalError, 0);
     }
-    acts::create(mem, d, name, start, length, page, order)
+    create::create(mem, d, name, start, length, page, order)
 }
 
-pub fn get_segment(
-    mem: &mut [u32],
-    d: Manager,
-    id: u32,
-    size: u32,
-    wait: Wait,
-    task: u32,
-    priority: u32,
-    ticks: u32,
-) -> Answer
-    ensures { λ a. ⌜ Performs (getSegment (now (mem .entry)) d id size wait task priority ticks) (now (mem .exit)) a ⌝ }
+// The id of the lowest region of a name. Ident: 3.
+pub fn ident_region(mem: &[u32], d: Manager, name: u32) -> Answer
+    ensures { λ a. ⌜ Performs (identRegion (now (mem .entry)) d name) (now (mem .entry)) a ⌝ }
 {
     if !invariant::is_sound(mem, d) {
         return reply::reply(d, Status::InternalError, 0);
     }
-    acts::get(mem, d, id, size, wait, task, priority, ticks)
+    if name == 0 {
+        return reply::reply(d, Status::InvalidName, 0);
+    }
+    let slot = objects::region_named(d, name);
+    if Manager::SLOTS <= slot {
+        return reply::reply(d, Status::InvalidName, 0);
+    }
+    reply::reply(d, Status::Successful, slot as u32 + 1)
 }
 
-pub fn return_segment(mem: &mut [u32], d: Manager, id: u32, address: u32) -> Answer
-    ensures { λ a. ⌜ Performs (returnSegment (now (mem .entry)) d id address) (now (mem .exit)) a ⌝ }
+// Deletes a region of which nothing is held; no word of the memory changes. Delete: 4, 12.
+pub fn delete_region(mem: &[u32], d: Manager, id: u32) -> Answer
+    ensures { λ a. ⌜ Performs (deleteRegion (now (mem .entry)) d id) (now (mem .entry)) a ⌝ }
 {
     if !invariant::is_sound(mem, d) {
         return reply::reply(d, Status::InternalError, 0);
     }
-    acts::give_back(mem, d, id, address)
+    let r = objects::region_of(d, id);
+    if r.name == 0 {
+        return reply::reply(d, Status::InvalidId, 0);
+    }
+    if !map::one_free(mem, r) {
+        return reply::reply(d, Status::ResourceInUse, 0);
+    }
+    let none = Region {
+        name: 0,
+        start: 0,
+        length: 0,
+        page: 0,
+        order: Order::Fifo,
+    };
+    let e = objects::with_region(d, objects::slot_of(id), none);
+    reply::reply(e, Status::Successful, 0)
 }
 
-pub fn resize_segment(mem: &mut [u32], d: Manager, id: u32, address: u32, size: u32) -> Answer
-    ensures { λ a. ⌜ Performs (resizeSegment (now (mem .entry)) d id address size) (now (mem .exit)) a ⌝ }
+// Count, largest and total bytes of the free segments and of the held ones. Information: 4.
+pub fn region_information(mem: &[u32], d: Manager, id: u32) -> Answer
+    ensures { λ a. ⌜ Performs (regionInformation (now (mem .entry)) d id) (now (mem .entry)) a ⌝ }
 {
     if !invariant::is_sound(mem, d) {
         return reply::reply(d, Status::InternalError, 0);
     }
-    acts::resize(mem, d, id, address, size)
+    let r = objects::region_of(d, id);
+    if r.name == 0 {
+        return reply::reply(d, Status::InvalidId, 0);
+    }
+    let map = map::map_words(mem, r);
+    let information = tally::tally(map, r.page);
+    let notices = reply::no_notices();
+    Answer {
+        status: Status::Successful,
+        value: 0,
+        information,
+        notices,
+        manager: d,
+    }
 }

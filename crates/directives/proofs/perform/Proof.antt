@@ -1,26 +1,9 @@
 -- Each arm answers as its directive does, and so does the call.
-use native.Mathlib.Omega.{arith}
 use borrow.Author.Needs.{needs}
 use Rattle.manager.specs.Perform.{perform}
 use Rattle.directives.proofs.Laws.{by-case}
 use Rattle.directives.proofs.perform.Statement.{statement}
 use Rattle.directives.proofs.perform.Tie as tie
-use Rattle.directives.proofs.perform.Reads as reads
-use Rattle.directives.proofs.perform.Lts as lts
-use Rattle.partitions.proofs.create_partition.Reads as create-partition-reads
-use Rattle.partitions.proofs.delete_partition.Reads as delete-partition-reads
-use Rattle.partitions.proofs.get_buffer.Reads as get-buffer-reads
-use Rattle.partitions.proofs.ident_partition.Reads as ident-partition-reads
-use Rattle.partitions.proofs.return_buffer.Reads as return-buffer-reads
-use Rattle.regions.proofs.create_region.Reads as create-region-reads
-use Rattle.regions.proofs.get_segment.Reads as get-segment-reads
-use Rattle.regions.proofs.resize_segment.Reads as resize-segment-reads
-use Rattle.regions.proofs.return_segment.Reads as return-segment-reads
-use Rattle.regions_read.proofs.delete_region.Reads as delete-region-reads
-use Rattle.regions_read.proofs.ident_region.Reads as ident-region-reads
-use Rattle.regions_read.proofs.region_information.Reads as region-information-reads
-use Rattle.regions_read.proofs.segment_size.Reads as segment-size-reads
-use Rattle.regions_read.proofs.tick.Reads as tick-reads
 
 enum-known-call : tie.Need-enum-known-call
 enum-known-call c = search needs

@@ -290,6 +290,17 @@ module _ (p k : ℕ) where
   change-at before at (held m ∷ pre) n post w e =
       rw (later at (held m) pre (w .0) e) (ap (λ (u : List Segment). held m ∷ u) (change-at true (at + m) pre n post (w .2) (omega arith)))
 
+-- no held segment is larger than the map
+pub held-within : (p at : ℕ) (s : List Segment) → heldFrom p at s ≤ total s
+unfolding heldFrom total
+held-within p at [] = omega arith
+held-within p at (free n ∷ s) = omega (arith, held-within p (at + n) s)
+held-within p at (held n ∷ s) = go (eqb at p) (held-within p (at + n) s)
+  where
+    go : (b : Bool) → heldFrom p (at + n) s ≤ total s → cond b n (heldFrom p (at + n) s) ≤ n + total s
+    go true h = omega arith
+    go false h = omega arith
+
 -- ---- of whole maps
 
 -- a get keeps a sound map sound and its length

@@ -44,6 +44,9 @@ module _ (m : List ℕ) (a : Answer) where
   pub performs-reply : (m₀ : List ℕ) (d : Manager) (s : Status) (v : ℕ) → m ≡ m₀ → a ≡ answerOf (replied [] d s v) → Performs (replied m₀ d s v) m a
   performs-reply m₀ d s v e f = record { memory = e; answer = f }
 
+  pub performs-replied : (t : Result) (d : Manager) (s : Status) (v : ℕ) → a ≡ answerOf (replied [] d s v) → t ≡ replied m d s v → Performs t m a
+  performs-replied t d s v f e = performs-by t (replied m d s v) e (performs-reply m d s v refl f)
+
 -- the outcome of a test that is the opposite of another
 pub not-fails : (b : Bool) → b ≡ false → not b ≡ true
 not-fails b e = rw e

@@ -9,7 +9,7 @@ use native.Mathlib.Nat.{mul-le-mul-right, add-mul}
 use lib.ListN.{length, take, drop, length-drop, take-append-drop, List·getD-eq-default}
 use lib.Seq.{drop-drop, length-sets, sets-eq, take-at, drop-at, length-take-le}
 use lib.Dec.{eqb, leb, ltb}
-use borrow.Author.Tests.{leb-true, ltb-true, ltb-false}
+use borrow.Author.Tests.{ne-eqb, leb-true, ltb-true, ltb-false}
 use Rattle.arith.proofs.Laws.Layout.{count-map, count-end}
 use Rattle.manager.specs.Record.{mostWords, noRegion, regionOf, slotOf}
 use Rattle.manager.specs.Lists.{every}
@@ -74,6 +74,9 @@ sited m d id ok f = go (ltb (slotOf id) (length (d .regions))) refl
         sited-of m (regionOf d id) (sound-words m d ok) (live-of m (regionOf d id) h f)
     go false e =
         absurd (empty-dead (regionOf d id) (List·getD-eq-default (d .regions) noRegion (ltb-false (slotOf id) (length (d .regions)) e)) f)
+
+pub live-sited : (m : List ℕ) (d : Manager) → sound m d ≡ true → (id : ℕ) (r : Region) → r ≡ regionOf d id → (r .name ≡ 0 → ⊥) → Sited m r
+live-sited m d ok id r e l = rw e (sited m d id ok (ne-eqb _ _ (λ z. l (ap (λ (x : Region). x .name) e ∙ z))))
 
 module _ (m : List ℕ) (r : Region) (s : Laid m r) where
   -- its map lies within the memory

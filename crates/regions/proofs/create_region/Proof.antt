@@ -1,5 +1,5 @@
 -- `create_region` meets its contract: 25 where the records are not sound, and else what the directive does. Assumes nothing.
-use Rattle.regions.proofs.Answers.{entering}
+use Rattle.regions.proofs.Making.{entering}
 use borrow.Author.Needs.{needs}
 use Rattle.regions.proofs.create_region.Statement.{statement}
 use Rattle.regions.proofs.create_region.Tie as tie

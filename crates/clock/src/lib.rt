@@ -1,0 +1,28 @@
+// The clock tick: document 01, "Regions", Tick. It answers 25 first, where the records are not sound. The function is total: any
+// record and memory have their answer.
+use manager::Answer;
+use manager::Manager;
+use manager::Status;
+ghost use mathlib.Core.Path.{_≡_};
+ghost use Rattle.manager.specs.Result.{Performs};
+ghost use Rattle.manager.specs.Regions.{tick};
+
+// Each waiter with ticks left loses one; at 0 it leaves with status 6. No check of its own; no word of the memory changes.
+pub fn tick(mem: &[u32], d: Manager) -> Answer
+    ensures { λ a. ⌜ Performs (tick (now (mem .entry)) d) (now (mem .entry)) a ⌝ }
+{
+    if !invariant::is_sound(mem, d) {
+        return reply::reply(d, Status::InternalError, 0);
+    }
+    let t = queue::after_tick(d);
+    let manager = t.manager;
+    let notices = t.notices;
+    let information = reply::no_information();
+    Answer {
+        status: Status::Successful,
+        value: 0,
+        information,
+        notices,
+        manager,
+    }
+}

@@ -1,0 +1,104 @@
+-- Ident, delete and information, exit by exit: the tests that led there, in their order, give the definition's result. Assumes nothing.
+use Prim.Native.Nat.{ℕ, _+_, _≤_, _<_}
+use mathlib.Core.Path.{_≡_, refl, sym, _∙_}
+use mathlib.Core.Bool.{Bool, true, false, not}
+use mathlib.Core.List.{List}
+use native.Mathlib.Omega.{arith}
+use native.Mathlib.Numerals.{add-one}
+use lib.ListN.{length, replicate}
+use borrow.Author.Tests.{eq-eqb, ne-eqb, le-leb, lt-leb, not-true, not-false}
+use Rattle.manager.specs.Record.{tasks, noRegion, noNotice, regionOf, slotOf, withRegion}
+use Rattle.manager.specs.Result.{Result, Performs, checked, refused, done}
+use Rattle.manager.proofs.Laws.Result.{performs-replied}
+use Rattle.manager.specs.Map.{decode, soundMap, freeSizes, heldSizes}
+use Rattle.manager.specs.Region.{mapWords, anyHeld}
+use Rattle.map.specs.Word.{oneFree}
+use Rattle.map.proofs.Word.{free-told}
+use Rattle.manager.specs.Regions.{regionNamed, identRegion, deleteRegion, regionInformation, informationOf}
+use Rattle.manager.specs.Sound.{sound, Sited}
+use Rattle.manager.proofs.Laws.Sound.{live-sited, map-long, pages-few}
+use Rattle.manager.specs.declared.Manager.{Manager}
+use Rattle.manager.specs.declared.Region.{Region}
+use Rattle.manager.specs.declared.Information.{Information}
+use Rattle.manager.specs.declared.Notice.{Notice}
+use Rattle.manager.specs.declared.Status.the-variants.{Successful, InvalidName, InvalidId, ResourceInUse, InternalError}
+
+module _ (m : List ℕ) (d : Manager) (b : Bool) (eb : b ≡ sound m d) where
+  -- ident
+  module _ (name : ℕ) where
+    pub ident-unsound : b ≡ false → identRegion m d name ≡ refused m d InternalError
+    unfolding identRegion checked
+    ident-unsound h = rw (← eb, h)
+
+    module _ (s : b ≡ true) where
+      pub ident-nameless : name ≡ 0 → identRegion m d name ≡ refused m d InvalidName
+      unfolding identRegion checked
+      ident-nameless e = rw (← eb, s, eq-eqb _ _ e)
+
+      module _ (n : name ≡ 0 → ⊥) (slot : ℕ) (es : slot ≡ regionNamed d name) where
+        pub ident-none : 8 ≤ slot → identRegion m d name ≡ refused m d InvalidName
+        unfolding identRegion checked
+        ident-none l = rw (← eb, s, ne-eqb _ _ n, ← es, le-leb _ _ l)
+
+        pub ident-found : slot < 8 → identRegion m d name ≡ done m d (slot + 1)
+        unfolding identRegion checked
+        ident-found l = rw (← eb, s, ne-eqb _ _ n, ← es, lt-leb _ _ l, add-one slot)
+
+  -- the region that an id names
+  module _ (id : ℕ) where
+    pub delete-unsound : b ≡ false → deleteRegion m d id ≡ refused m d InternalError
+    unfolding deleteRegion checked
+    delete-unsound h = rw (← eb, h)
+
+    pub information-unsound : b ≡ false → regionInformation m d id ≡ refused m d InternalError
+    unfolding regionInformation checked
+    information-unsound h = rw (← eb, h)
+
+    module _ (s : b ≡ true) (r : Region) (er : r ≡ regionOf d id) where
+      pub delete-dead : r .name ≡ 0 → deleteRegion m d id ≡ refused m d InvalidId
+      unfolding deleteRegion checked
+      delete-dead e = rw (← eb, s, ← er, eq-eqb _ _ e)
+
+      pub information-dead : r .name ≡ 0 → regionInformation m d id ≡ refused m d InvalidId
+      unfolding regionInformation checked
+      information-dead e = rw (← eb, s, ← er, eq-eqb _ _ e)
+
+      module _ (l : r .name ≡ 0 → ⊥) where
+        -- delete
+        module _ (c : Bool) (oc : c ≡ oneFree m r) where
+          ec : not c ≡ anyHeld m r
+          ec = free-told m d id (sym eb ∙ s) r er l c oc
+
+          pub delete-held : not c ≡ true → deleteRegion m d id ≡ refused m d ResourceInUse
+          unfolding deleteRegion checked
+          delete-held e = rw (← eb, s, ← er, ne-eqb _ _ l, ← ec, e)
+
+          pub delete-done : not c ≡ false → (i : ℕ) → i ≡ slotOf id → (e : Manager) → e ≡ withRegion d i noRegion → deleteRegion m d id ≡ done m e 0
+          unfolding deleteRegion checked
+          delete-done g i ei e x = rw (← eb, s, ← er, ne-eqb _ _ l, ← ec, g, x, ei)
+
+        -- information: the map of a live region is sound, and short
+        live : Sited m r
+        live = live-sited m d (sym eb ∙ s) id r er l
+
+        pub page-small : r .page ≤ 4096
+        page-small = live .laid .page-high
+
+        module _ (ws : List ℕ) (ew : ws ≡ mapWords m r) where
+          pub map-sound : soundMap ws ≡ true
+          map-sound = rw ew (live .sound)
+
+          pub map-short : length ws ≤ 16384
+          map-short = rw ew (omega (arith, map-long m r (live .laid), pages-few m r (live .laid)))
+
+          pub information-done : (i : Information) → i ≡ informationOf (r .page) (freeSizes (decode ws)) (heldSizes (decode ws))
+              → (ns : List Notice) → ns ≡ replicate tasks noNotice
+              → Performs (regionInformation m d id) m (record { status = Successful; value = 0; information = i; notices = ns; manager = d })
+          unfolding regionInformation checked
+          information-done i ei ns f = rw (← eb, s, ← er, ne-eqb _ _ l, ei, f, ew) (record { memory = refl; answer = refl })
+
+pub ruleset naming = (performs-replied, ident-unsound, ident-nameless, ident-none, ident-found, not-true, not-false)
+
+pub ruleset deleting = (performs-replied, delete-unsound, delete-dead, delete-held, delete-done, not-true, not-false)
+
+pub ruleset informing = (performs-replied, information-unsound, information-dead, page-small, map-sound, map-short, information-done, not-true, not-false)

@@ -1,9 +1,0 @@
--- `add_free` meets its contract: sums of small numbers, and the larger of two. Assumes nothing.
-use borrow.Author.Needs.{needs}
-use Rattle.regions_read.proofs.tally.add_free.Statement.{statement}
-use Rattle.regions_read.proofs.tally.add_free.Tie as tie
-
-pub add-free-spec : {M : Type 1} → statement M
-add-free-spec =
-    tie.close
-    (tie.spec (λ c κs. search needs) (λ c. search needs) (λ c. search needs) (λ c. rw (c .before .before .larger .ensures)))

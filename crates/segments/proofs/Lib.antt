@@ -1,0 +1,14 @@
+pub mod Walk
+pub mod Words
+pub mod Take
+pub mod Stands
+pub mod Extend
+pub mod Release
+pub mod Lend
+pub mod Serve
+pub mod Verdicts
+pub mod Address
+pub mod Get
+pub mod Return
+pub mod Size
+pub mod Resize

@@ -1,0 +1,74 @@
+-- Resize, exit by exit: the tests that led there, in their order, give the definition's result; then the segment has so many pages, where it
+-- can have them. Assumes nothing.
+use Prim.Native.Nat.{ℕ, _*_, _≤_, _<_}
+use mathlib.Core.Path.{_≡_, sym, _∙_}
+use mathlib.Core.Bool.{Bool, true, false, cond}
+use mathlib.Core.List.{List, []}
+use native.Mathlib.Omega.{arith}
+use lib.Dec.{leb}
+use borrow.Author.Tests.{eq-eqb, ne-eqb, le-leb, lt-leb, not-true, not-false}
+use Rattle.manager.specs.Record.{regionOf}
+use Rattle.manager.specs.Result.{Result, Performs, checked, answerOf, replied, refused, done}
+use Rattle.manager.proofs.Laws.Result.{performs-by, performs-replied}
+use Rattle.manager.specs.Paged.{reachFrom, changeFrom}
+use Rattle.manager.specs.Region.{pageAt, segments, withSegments, heldAt, pagesAsked}
+use Rattle.manager.specs.Regions.{resizeSegment}
+use Rattle.manager.specs.Sound.{sound}
+use Rattle.manager.specs.declared.Manager.{Manager}
+use Rattle.manager.specs.declared.Region.{Region}
+use Rattle.manager.specs.declared.Answer.{Answer}
+use Rattle.manager.specs.declared.Status.the-variants.{Successful, InvalidId, InvalidSize, InvalidAddress, Unsatisfied, InternalError}
+use Rattle.segments.specs.Lending.{Draws}
+use Rattle.map.specs.Word.{heldWordAt}
+use Rattle.map.proofs.Word.{held-told}
+use Rattle.segments.proofs.Address.{live, some-asked, held-some, length-fits}
+
+-- what is done once the checks have passed
+abbrev Fitted : List ℕ → Manager → Region → ℕ → ℕ → ℕ → Result
+Fitted m d r p k old = cond (leb k (reachFrom p 0 (segments m r))) (done (withSegments m r (changeFrom p k 0 (segments m r))) d old) (replied m d Unsatisfied old)
+
+module _ (m : List ℕ) (d : Manager) (r : Region) (p k old : ℕ) (g : ℕ) (eg : g ≡ reachFrom p 0 (segments m r)) where
+  pub fitted-no : (a : Answer) → g < k → a ≡ answerOf (replied [] d Unsatisfied old) → Performs (Fitted m d r p k old) m a
+  fitted-no a h f = performs-replied m a _ d Unsatisfied old f (rw (← eg, lt-leb _ _ h))
+
+  pub fitted-yes : (a : Answer) → k ≤ g → (out : List ℕ) → Draws r m out (changeFrom p k 0 (segments m r)) → a ≡ answerOf (replied [] d Successful old)
+      → Performs (Fitted m d r p k old) out a
+  fitted-yes a h out x f = performs-replied out a _ d Successful old f (rw (← eg, le-leb _ _ h, x .memory))
+
+  pub fitted-room : k ≤ g → k ≤ reachFrom p 0 (segments m r)
+  fitted-room h = omega arith
+
+pub ruleset fitting = (fitted-no, fitted-yes, fitted-room)
+
+-- the checks ahead of it
+module _ (m : List ℕ) (d : Manager) (id address size : ℕ) (b : Bool) (eb : b ≡ sound m d) where
+  abbrev Resizes : Result
+  Resizes = resizeSegment m d id address size
+
+  pub resize-unsound : b ≡ false → Resizes ≡ refused m d InternalError
+  unfolding resizeSegment checked
+  resize-unsound h = rw (← eb, h)
+
+  module _ (s : b ≡ true) where
+    pub resize-zero : size ≡ 0 → Resizes ≡ refused m d InvalidSize
+    unfolding resizeSegment checked
+    resize-zero e = rw (← eb, s, eq-eqb _ _ e)
+
+    module _ (y : size ≡ 0 → ⊥) (r : Region) (er : r ≡ regionOf d id) where
+      pub resize-dead : r .name ≡ 0 → Resizes ≡ refused m d InvalidId
+      unfolding resizeSegment checked
+      resize-dead e = rw (← eb, s, ne-eqb _ _ y, ← er, eq-eqb _ _ e)
+
+      module _ (l : r .name ≡ 0 → ⊥) (n : ℕ) (wn : n ≡ heldWordAt m r address) where
+        en : n ≡ heldAt m r address
+        en = held-told m d id (sym eb ∙ s) r er l address n wn
+
+        pub resize-none : n ≡ 0 → Resizes ≡ refused m d InvalidAddress
+        unfolding resizeSegment checked
+        resize-none e = rw (← eb, s, ne-eqb _ _ y, ← er, ne-eqb _ _ l, ← en, eq-eqb _ _ e)
+
+        pub resize-fitted : (n ≡ 0 → ⊥) → (k : ℕ) → k ≡ pagesAsked r size → (p : ℕ) → p ≡ pageAt r address → Resizes ≡ Fitted m d r p k (n * r .page)
+        unfolding resizeSegment checked
+        resize-fitted z k ek p ep = rw (← eb, s, ne-eqb _ _ y, ← er, ne-eqb _ _ l, ← en, ne-eqb _ _ z, ← ek, ← ep)
+
+pub ruleset resizing = (performs-replied, performs-by, live, some-asked, held-some, length-fits, resize-unsound, resize-zero, resize-dead, resize-none, resize-fitted, not-true, not-false)

@@ -1,0 +1,45 @@
+-- Size, exit by exit: the tests that led there, in their order, give the definition's result. Assumes nothing.
+use Prim.Native.Nat.{ℕ, _*_}
+use mathlib.Core.Path.{_≡_, sym, _∙_}
+use mathlib.Core.Bool.{Bool, true, false}
+use mathlib.Core.List.{List}
+use borrow.Author.Tests.{eq-eqb, ne-eqb, not-true, not-false}
+use Rattle.manager.specs.Record.{regionOf}
+use Rattle.manager.specs.Result.{Result, checked, refused, done}
+use Rattle.manager.proofs.Laws.Result.{performs-replied}
+use Rattle.manager.specs.Region.{heldAt}
+use Rattle.manager.specs.Regions.{segmentSize}
+use Rattle.manager.specs.Sound.{sound}
+use Rattle.manager.specs.declared.Manager.{Manager}
+use Rattle.manager.specs.declared.Region.{Region}
+use Rattle.manager.specs.declared.Status.the-variants.{InvalidId, InvalidAddress, InternalError}
+use Rattle.map.specs.Word.{heldWordAt}
+use Rattle.map.proofs.Word.{held-told}
+use Rattle.segments.proofs.Address.{length-fits}
+
+module _ (m : List ℕ) (d : Manager) (id address : ℕ) (b : Bool) (eb : b ≡ sound m d) where
+  abbrev Sizes : Result
+  Sizes = segmentSize m d id address
+
+  pub size-unsound : b ≡ false → Sizes ≡ refused m d InternalError
+  unfolding segmentSize checked
+  size-unsound h = rw (← eb, h)
+
+  module _ (s : b ≡ true) (r : Region) (er : r ≡ regionOf d id) where
+    pub size-dead : r .name ≡ 0 → Sizes ≡ refused m d InvalidId
+    unfolding segmentSize checked
+    size-dead e = rw (← eb, s, ← er, eq-eqb _ _ e)
+
+    module _ (l : r .name ≡ 0 → ⊥) (n : ℕ) (wn : n ≡ heldWordAt m r address) where
+      en : n ≡ heldAt m r address
+      en = held-told m d id (sym eb ∙ s) r er l address n wn
+
+      pub size-none : n ≡ 0 → Sizes ≡ refused m d InvalidAddress
+      unfolding segmentSize checked
+      size-none e = rw (← eb, s, ← er, ne-eqb _ _ l, ← en, eq-eqb _ _ e)
+
+      pub size-held : (n ≡ 0 → ⊥) → Sizes ≡ done m d (n * r .page)
+      unfolding segmentSize checked
+      size-held e = rw (← eb, s, ← er, ne-eqb _ _ l, ← en, ne-eqb _ _ e)
+
+pub ruleset sizing = (performs-replied, length-fits, size-unsound, size-dead, size-none, size-held, not-true, not-false)

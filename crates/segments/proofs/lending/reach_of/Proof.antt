@@ -1,0 +1,13 @@
+-- `reach_of` meets its contract: the reach in the words of the map. Assumes nothing.
+use Rattle.segments.proofs.Lend.{reaching-words}
+use borrow.Author.Needs.{needs}
+use Rattle.segments.proofs.lending.reach_of.Statement.{statement}
+use Rattle.segments.proofs.lending.reach_of.Tie as tie
+
+pub reach-of-spec : {M : Type 1} → statement M
+reach-of-spec =
+    tie.close
+    (tie.spec
+    (λ c κs. search (needs, reaching-words))
+    (λ c κs. search (needs, reaching-words))
+    (λ c. search (needs, reaching-words)))

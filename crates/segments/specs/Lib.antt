@@ -1,0 +1,4 @@
+pub mod MapWords
+pub mod Lending
+pub mod Serving
+pub mod Verdicts

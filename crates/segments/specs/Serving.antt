@@ -1,0 +1,54 @@
+-- What serving a region's queue needs and leaves. Assumes nothing.
+use Prim.Native.Nat.{ℕ}
+use mathlib.Core.Path.{_≡_}
+use mathlib.Core.Bool.{Bool, true, cond, _||_}
+use mathlib.Core.List.{List}
+use lib.Dec.{eqb, leb, ltb}
+use lib.ListN.{getD}
+use Rattle.manager.specs.Record.{tasks, noWaiter, noNotice, regionOf}
+use Rattle.manager.specs.Result.{pad}
+use Rattle.manager.specs.Lists.{every}
+use Rattle.manager.specs.Region.{addressOf, pagesAsked, placed, taken}
+use Rattle.manager.specs.Queue.{firstOf}
+use Rattle.manager.specs.Serve.{onPlace, granted, Served}
+use Rattle.manager.specs.Sound.{Sited}
+use Rattle.manager.specs.declared.Manager.{Manager}
+use Rattle.manager.specs.declared.Waiter.{Waiter}
+use Rattle.manager.specs.declared.Notice.{Notice}
+use Rattle.segments.specs.declared.serving.Turn.{Turn}
+use Rattle.segments.specs.declared.serving.Turn.the-variants.{Stop, Serve}
+use Rattle.segments.specs.declared.serving.Granted.{Granted}
+
+-- a waiter asks for something
+abbrev pub asks : Waiter → Bool
+asks w = eqb (w .task) 0 || leb 1 (w .size)
+
+abbrev pub Asking : Manager → Type 0
+Asking d = every asks (d .waiters) ≡ true
+
+-- by what a turn comes to
+abbrev pub onTurn : {A : Type 0} → Turn → (ℕ → Notice → A) → A → A
+onTurn Stop f z = z
+onTurn (Serve i n) f z = f i n
+
+-- the turn of the first waiter of a region, and the memory after it
+abbrev pub pagesFirst : Manager → ℕ → ℕ
+pagesFirst d id = pagesAsked (regionOf d id) (getD (d .waiters) (firstOf id (d .waiters)) noWaiter .size)
+
+unfoldable pub turnOf : List ℕ → Manager → ℕ → Turn
+turnOf m d id =
+    let i = firstOf id (d .waiters) in
+    cond (ltb i tasks)
+    (onPlace (placed m (regionOf d id) (pagesFirst d id)) (λ p. Serve i (granted (getD (d .waiters) i noWaiter) (addressOf (regionOf d id) p))) Stop)
+    Stop
+
+pub record Turns (m : List ℕ) (d : Manager) (id : ℕ) (out : List ℕ) (t : Turn) : Type 0 where
+  pub turn : t ≡ turnOf m d id
+  pub memory : out ≡ onTurn t (λ i n. taken m (regionOf d id) (pagesFirst d id)) m
+  pub sited : Sited out (regionOf d id)
+
+-- the memory, the record and the notices are those of the definition
+pub record Serves (s : Served) (m : List ℕ) (g : Granted) : Type 0 where
+  pub memory : m ≡ s .memory
+  pub manager : g .manager ≡ s .manager
+  pub notices : g .notices ≡ pad tasks noNotice (s .notices)

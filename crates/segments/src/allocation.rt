@@ -1,0 +1,86 @@
+// What the directives do once their checks have passed, over a live region of sound records: pages are taken, freed or changed.
+use crate::lending;
+use crate::serving;
+use manager::Answer;
+use manager::Manager;
+use manager::Place;
+use manager::Region;
+use manager::Status;
+use manager::Wait;
+use manager::Waiter;
+ghost use mathlib.Core.Path.{_≡_};
+ghost use mathlib.Core.Bool.{cond};
+ghost use Prim.Native.Nat.{ℕ, _≤_};
+ghost use lib.Dec.{leb};
+ghost use Rattle.manager.specs.Record.{regionOf};
+ghost use Rattle.manager.specs.Result.{Performs, done, replied};
+ghost use Rattle.manager.specs.Paged.{heldFrom, reachFrom, changeFrom};
+ghost use Rattle.manager.specs.Region.{addressOf, segments, withSegments, placed, taken};
+ghost use Rattle.manager.specs.Serve.{onPlace, serve, fromServed};
+ghost use Rattle.manager.specs.Regions.{unplaced};
+ghost use Rattle.manager.specs.Sound.{Sited};
+ghost use Rattle.manager.specs.declared.Status.the-variants.{Unsatisfied};
+ghost use Rattle.segments.specs.Serving.{Asking};
+
+// Where there is room the pages are taken; else the answer is 13, or the task waits.
+pub(crate) fn take_or_wait(
+    mem: &mut [u32],
+    d: Manager,
+    r: Region,
+    k: u32,
+    wait: Wait,
+    w: Waiter,
+) -> Answer
+    requires { ⌜ Sited (now mem) r ⌝ }
+    requires { ⌜ 1 ≤ k ⌝ }
+    ensures { λ a. ⌜ Performs (onPlace (placed (now (mem .entry)) r k) (λ p. done (taken (now (mem .entry)) r k) d (addressOf r p)) (unplaced (now (mem .entry)) d wait w)) (now (mem .exit)) a ⌝ }
+{
+    if let Place::At(p) = lending::take_pages(mem, r, k) {
+        return reply::reply(d, Status::Successful, serving::address_of(r, p));
+    }
+    match wait {
+        Wait::No => reply::reply(d, Status::Unsatisfied, 0),
+        Wait::Yes => {
+            let e = queue::enqueue(d, w);
+            reply::reply(e, Status::Waiting, 0)
+        }
+    }
+}
+
+// The held segment at page p joins its free neighbours, and the queue is served.
+pub(crate) fn release_and_serve(mem: &mut [u32], d: Manager, id: u32, r: Region, p: u32) -> Answer
+    requires { ⌜ (Sited (now mem) r) × (r ≡ regionOf d id) × (Asking d) × (1 ≤ heldFrom p 0 (segments (now mem) r)) ⌝ }
+    ensures { λ a. ⌜ Performs (fromServed (serve (withSegments (now (mem .entry)) r (changeFrom p 0 0 (segments (now (mem .entry)) r))) d id)) (now (mem .exit)) a ⌝ }
+{
+    lending::release_pages(mem, r, p as usize);
+    let g = serving::serve(mem, d, id);
+    let manager = g.manager;
+    let notices = g.notices;
+    let information = reply::no_information();
+    Answer {
+        status: Status::Successful,
+        value: 0,
+        information,
+        notices,
+        manager,
+    }
+}
+
+// The held segment at page p has k pages from now on, where it can have so many.
+pub(crate) fn resize_within(
+    mem: &mut [u32],
+    d: Manager,
+    r: Region,
+    p: u32,
+    k: u32,
+    old: u32,
+) -> Answer
+    requires { ⌜ (Sited (now mem) r) × (1 ≤ heldFrom p 0 (segments (now mem) r)) × (1 ≤ k) ⌝ }
+    ensures { λ a. ⌜ Performs (cond (leb k (reachFrom p 0 (segments (now (mem .entry)) r))) (done (withSegments (now (mem .entry)) r (changeFrom p k 0 (segments (now (mem .entry)) r))) d old) (replied (now (mem .entry)) d Unsatisfied old)) (now (mem .exit)) a ⌝ }
+{
+    if lending::reach_of(mem, r, p as usize) < k {
+        return reply::reply(d, Status::Unsatisfied, old);
+    }
+    lending::resize_pages(mem, r, p as usize, k);
+    reply::reply(d, Status::Successful, old)
+}
