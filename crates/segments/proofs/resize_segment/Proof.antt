@@ -2,7 +2,7 @@
 use borrow.Author.Needs.{needs}
 use borrow.Author.Tests.{not-false}
 use Rattle.manager.proofs.Laws.Result.{performs-by}
-use Rattle.segments.proofs.Address.{held-some}
+use Rattle.segments.proofs.Address.{live, held-some}
 use Rattle.segments.proofs.Resize.{resizing, resize-fitted}
 use Rattle.segments.proofs.resize_segment.Statement.{statement}
 use Rattle.segments.proofs.resize_segment.Tie as tie
@@ -40,8 +40,8 @@ same-length-3 c = search (needs, resizing)
 returns-3 : tie.Need-returns-3
 returns-3 c = search (needs, resizing)
 
-held-at-requires : tie.Need-held-at-requires
-held-at-requires c κs = search (needs, resizing)
+held-word-at-requires : tie.Need-held-word-at-requires
+held-word-at-requires c κs = search (needs, resizing)
 
 reply-requires-4 : tie.Need-reply-requires-4
 reply-requires-4 c κs = search (needs, resizing)
@@ -64,9 +64,12 @@ page-at-requires c κs = search (needs, resizing)
 resize-within-requires : tie.Need-resize-within-requires
 resize-within-requires c κs =
     let held = c .before .before .before .before in
-    let found = held .before .before .before .before .before in (
+    let named = held .before .before .before in
+    let found = named .before .before in
+    let sound = found .before .before in
+    let sited = live _ _ _ (sound .before .is-sound .ensures) (not-false _ (sound .if1 .left)) (sound .before .before .before .before .args .id) (found .region-of .result) (found .region-of .ensures) (named .if3 .left) in (
       search (needs, resizing),
-      held-some _ (found .region-of .result) _ _ (held .before .held-at .ensures) (held .if4 .left) _ (c .before .page-at .ensures),
+      held-some _ _ _ sited _ (held .before .held-word-at .ensures) (held .if4 .left) _ (c .before .page-at .ensures),
       search (needs, resizing),
     )
 
@@ -83,7 +86,7 @@ returns-5 c =
     let sound = found .before .before in
     performs-by _ _ _ _
     (resize-fitted _ _ _ _ _ _ (sound .before .is-sound .ensures) (not-false _ (sound .if1 .left)) (found .before .if2 .left) _ (found .region-of .ensures)
-    (live .if3 .left) _ (held .before .held-at .ensures) (held .if4 .left) _ (asked .before .pages-asked .ensures) _ (asked .page-at .ensures))
+    (live .if3 .left) _ (held .before .held-word-at .ensures) (held .if4 .left) _ (asked .before .pages-asked .ensures) _ (asked .page-at .ensures))
     (fitted .resize-within .ensures)
 
 pub resize-segment-spec : {M : Type 1} → statement M
@@ -101,7 +104,7 @@ resize-segment-spec =
     reply-requires-3
     same-length-3
     returns-3
-    held-at-requires
+    held-word-at-requires
     reply-requires-4
     same-length-4
     returns-4
