@@ -60,7 +60,7 @@ pub(crate) const LINE_FROM: [usize; 15] = [
     219,
 ];
 
-pub(crate) const SIX_VALUES: [bool; 14] = [
+pub(crate) const SIX_VALUES: [bool; CALLS] = [
     false,
     false,
     false,
