@@ -5,18 +5,17 @@ use manager::Order;
 use manager::Partition;
 use manager::Region;
 ghost use mathlib.Core.Path.{_≡_};
-ghost use mathlib.Core.Bool.{not};
-ghost use Prim.Native.Nat.{_+_, _*_};
+ghost use mathlib.Core.Bool.{not, cond};
+ghost use Prim.Native.Nat.{_+_, _*_, _<_, _≤_};
 ghost use lib.Dec.{ltb};
-ghost use lib.ListN.{drop};
+ghost use lib.ListN.{drop, take};
 ghost use Rattle.manager.specs.Record.{slots, slotOf, regionOf, partitionOf, withRegion, withPartition};
-ghost use Rattle.manager.specs.Result.{pad};
 ghost use Rattle.manager.specs.Lists.{every};
 ghost use Rattle.manager.specs.Region.{regionAreas, areas, overlap};
 ghost use Rattle.manager.specs.Regions.{overlaps, regionNamed};
 ghost use Rattle.manager.specs.Partitions.{partitionNamed};
 ghost use Rattle.manager.specs.Sound.{soundAreas};
-ghost use Rattle.objects.specs.Areas.{noArea};
+ghost use Rattle.objects.specs.Areas.{nowhere, Gathers};
 
 // The place of an id in its array; past the end for id 0.
 pub fn slot_of(id: u32) -> usize
@@ -135,15 +134,36 @@ pub fn overlap(a: Area, b: Area) -> bool
     (b.start as u64) < a.start as u64 + a.length as u64
 }
 
-// The areas of the regions, one a slot, and room for as many more.
-fn region_areas(d: Manager) -> [Area; 16]
-    ensures { λ r. ⌜ r ≡ pad 16 noArea (regionAreas (d .regions)) ⌝ }
+// The areas of the objects, in front of places that count for nothing. Those of empty slots are left out: they meet none.
+struct Gathered {
+    all: [Area; 16],
+    count: usize,
+}
+
+// How many areas there are with one more, which does not count where it has no start and no byte.
+fn counted(n: usize, a: Area) -> usize
+    requires { ⌜ n < 16 ⌝ }
+    ensures { λ r. ⌜ r ≡ cond (nowhere a) n (n + 1) ⌝ }
+{
+    if a.start != 0 {
+        return n + 1;
+    }
+    if a.length != 0 {
+        return n + 1;
+    }
+    n
+}
+
+// The areas of the regions.
+fn region_areas(d: Manager) -> Gathered
+    ensures { λ r. ⌜ Gathers (regionAreas (d .regions)) 8 r ⌝ }
 {
     let none = Area {
         start: 0,
         length: 0,
     };
     let mut all = [none; 16];
+    let mut count: usize = 0;
     let mut i: usize = 0;
     while i < Manager::SLOTS {
         let x = d.regions[i];
@@ -151,17 +171,20 @@ fn region_areas(d: Manager) -> [Area; 16]
             start: x.start,
             length: x.length,
         };
-        all[i] = area;
+        all[count] = area;
+        count = counted(count, area);
         i = i + 1;
     }
-    all
+    Gathered { all, count }
 }
 
-// The areas of all objects: those of the regions, then those of the partitions. An empty slot's has no byte.
-pub fn areas(d: Manager) -> [Area; 16]
-    ensures { λ r. ⌜ r ≡ areas d ⌝ }
+// The areas of all objects: those of the regions, then those of the partitions.
+fn object_areas(d: Manager) -> Gathered
+    ensures { λ r. ⌜ Gathers (areas d) 16 r ⌝ }
 {
-    let mut all = region_areas(d);
+    let regions = region_areas(d);
+    let mut all = regions.all;
+    let mut count = regions.count;
     let mut k: usize = 0;
     while k < Manager::SLOTS {
         let x = d.partitions[k];
@@ -169,34 +192,20 @@ pub fn areas(d: Manager) -> [Area; 16]
             start: x.start,
             length: x.length,
         };
-        all[Manager::SLOTS + k] = area;
+        all[count] = area;
+        count = counted(count, area);
         k = k + 1;
     }
-    all
+    Gathered { all, count }
 }
 
-// Whether an area meets that of an object.
-pub fn overlaps(d: Manager, a: Area) -> bool
-    ensures { λ r. ⌜ r ≡ overlaps d a ⌝ }
-{
-    let all = areas(d);
-    let mut i: usize = 0;
-    while i < 16 {
-        let x = all[i];
-        i = i + 1;
-        if overlap(a, x) {
-            return true;
-        }
-    }
-    false
-}
-
-// Whether an area meets none of those from a place on.
-fn meets_none(a: Area, all: [Area; 16], from: usize) -> bool
-    ensures { λ r. ⌜ r ≡ every (λ b. not (overlap a b)) (drop from all) ⌝ }
+// Whether an area meets none of the areas from a place on, of which there are so many.
+fn meets_none(a: Area, all: [Area; 16], from: usize, count: usize) -> bool
+    requires { ⌜ count ≤ 16 ⌝ }
+    ensures { λ r. ⌜ r ≡ every (λ b. not (overlap a b)) (drop from (take count all)) ⌝ }
 {
     let mut i = from;
-    while i < 16 {
+    while i < count {
         let x = all[i];
         i = i + 1;
         if overlap(a, x) {
@@ -206,16 +215,27 @@ fn meets_none(a: Area, all: [Area; 16], from: usize) -> bool
     true
 }
 
+// Whether an area meets that of an object.
+pub fn overlaps(d: Manager, a: Area) -> bool
+    ensures { λ r. ⌜ r ≡ overlaps d a ⌝ }
+{
+    let g = object_areas(d);
+    let all = g.all;
+    !meets_none(a, all, 0, g.count)
+}
+
 // Whether no two areas of objects have a byte in common.
 pub fn apart(d: Manager) -> bool
     ensures { λ r. ⌜ r ≡ soundAreas d ⌝ }
 {
-    let all = areas(d);
+    let g = object_areas(d);
+    let all = g.all;
+    let count = g.count;
     let mut i: usize = 0;
-    while i < 16 {
+    while i < count {
         let x = all[i];
         i = i + 1;
-        if !meets_none(x, all, i) {
+        if !meets_none(x, all, i, count) {
             return false;
         }
     }
