@@ -1,30 +1,68 @@
 -- The walk over a partition's chain, with the count falling: what is left of the chain answers as the whole. Assumes nothing.
-use Prim.Native.Nat.{ℕ, zero, suc, _+_, _-_, _/_, _%_, _≤_, _<_}
+use Prim.Native.Nat.{ℕ, zero, suc, _+_, _-_, _*_, _/_, _%_, _≤_, _<_}
 use mathlib.Core.Path.{_≡_, refl, sym, ap, _∙_}
-use mathlib.Core.Bool.{Bool, true, false, not, _&&_, and-false}
+use mathlib.Core.Bool.{Bool, true, false, not, _&&_, and-false, and-true}
 use mathlib.Core.List.{List}
-use native.Mathlib.Nat.{div-zero}
+use native.Mathlib.Nat.{div-add-mod', div-lt-iff-lt-mul, le-div-iff-mul-le}
 use native.Mathlib.Numerals.{sub-one}
 use native.Mathlib.Omega.{arith}
-use borrow.Author.Tests.{eq-eqb, ne-eqb, le-ltb, not-true, not-false}
+use borrow.Author.Tests.{eq-eqb, ne-eqb, eqb-true, eqb-false, le-leb, lt-leb, leb-true, lt-ltb, le-ltb, not-true, not-false}
 use lib.Dec.{eqb, leb, ltb}
-use lib.ListN.{length, getD, List·getD-eq-default}
+use lib.ListN.{length, getD}
 use Rattle.manager.specs.Partition.{isBuffer, buffers, linked, soundChain}
+use Rattle.manager.specs.Partition.Laws.{Laid, buffer-of, placed}
+use Rattle.manager.specs.Lists.Laws.{and-first, and-second}
+use Rattle.manager.specs.Sound.{inside, soundSize}
 use Rattle.manager.specs.declared.Partition.{Partition}
-
--- a word past the memory's end is read as 0
-pub word-past : (m : List ℕ) (i : ℕ) → length m ≤ i → 0 ≡ getD m i 0
-word-past m i h = sym (List·getD-eq-default m 0 h)
 
 last-no : (a b c : Bool) → c ≡ false → false ≡ (a && (b && c))
 last-no a b c e = rw (e, and-false b, and-false a)
 
--- there is no buffer of size 0
-pub no-buffer : (p : Partition) (a : ℕ) → p .size ≡ 0 → false ≡ isBuffer p a
-no-buffer p a e =
-    let n : buffers p ≡ 0 = ap (λ (k : ℕ). p .length / k) e ∙ div-zero (p .length) in
-    last-no (leb (p .start) a) (eqb ((a - p .start) % p .size) 0) (ltb ((a - p .start) / p .size) (buffers p))
-    (le-ltb ((a - p .start) / p .size) (buffers p) (omega arith))
+-- THE BYTES OF ALL BUFFERS, so that one division tells a buffer's start
+pub rest-within : (p : Partition) → p .length % p .size ≤ p .length
+rest-within p = omega (arith, div-add-mod' (p .length) (p .size))
+
+pub all-bytes : (p : Partition) → p .length - p .length % p .size ≡ buffers p * p .size
+all-bytes p = omega (arith, div-add-mod' (p .length) (p .size))
+
+module _ (p : Partition) (a : ℕ) where
+  pub before-first : a < p .start → false ≡ isBuffer p a
+  before-first h = rw (lt-leb (p .start) a h)
+
+  module _ (bytes : ℕ) (some : 0 < p .size) (e : bytes ≡ buffers p * p .size) (h : p .start ≤ a) where
+    pub behind-last : bytes ≤ a - p .start → false ≡ isBuffer p a
+    behind-last g =
+        last-no (leb (p .start) a) (eqb ((a - p .start) % p .size) 0) (ltb ((a - p .start) / p .size) (buffers p))
+        (le-ltb ((a - p .start) / p .size) (buffers p) (le-div-iff-mul-le some .1 (omega arith)))
+
+    pub one-of-all : a - p .start < bytes → eqb ((a - p .start) % p .size) 0 ≡ isBuffer p a
+    one-of-all g =
+        let l : ltb ((a - p .start) / p .size) (buffers p) ≡ true = lt-ltb _ _ (div-lt-iff-lt-mul some .1 (omega arith)) in
+        rw (le-leb (p .start) a h, l, and-true (eqb ((a - p .start) % p .size) 0))
+
+pub ruleset buffer = (before-first, behind-last, one-of-all)
+
+-- A PARTITION WITHIN THE MEMORY, and the links of its buffers
+pub laid-told : (m : List ℕ) (p : Partition) (u v : Bool) → u ≡ inside m (p .start) (p .length) → not u ≡ false → p .start % 4 ≡ 0
+    → v ≡ soundSize (p .length) (p .size) → not v ≡ false → Laid m p
+laid-told m p u v eu gu h ev gv =
+    let i : inside m (p .start) (p .length) ≡ true = sym eu ∙ not-false u gu in
+    let s : soundSize (p .length) (p .size) ≡ true = sym ev ∙ not-false v gv in
+    let t : (eqb (p .size % 4) 0 && leb 8 (p .size)) ≡ true = and-second (leb (p .size) (p .length)) _ s in
+    record {
+      shaped =
+          record {
+            start-in = omega (arith, eqb-false (p .start) 0 (not-true (eqb (p .start) 0) (and-first (not (eqb (p .start) 0)) _ i)));
+            aligned = h;
+            whole = eqb-true (p .size % 4) 0 (and-first (eqb (p .size % 4) 0) _ t);
+            big = leb-true 8 (p .size) (and-second (eqb (p .size % 4) 0) _ t);
+          };
+      inside = leb-true (p .start + p .length) (4 * length m) (and-second (not (eqb (p .start) 0)) _ i);
+    }
+
+module _ (m : List ℕ) (p : Partition) (a : ℕ) (l : Laid m p) (b : Bool) (e : b ≡ isBuffer p a) (g : not b ≡ false) where
+  pub links-inside : a / 4 + 1 < length m
+  links-inside = omega (arith, placed p (l .shaped) a (buffer-of p (l .shaped) a (sym e ∙ not-false b g)) .high, l .inside, l .shaped .big)
 
 -- HOW FAR THE WALK HAS COME: to address a, behind `before`, with `left` buffers to come
 pub record Walking (m : List ℕ) (p : Partition) (r : Bool) (left before a : ℕ) : Type 0 where
@@ -52,17 +90,20 @@ module _ (m : List ℕ) (p : Partition) (r : Bool) where
       not-buffer zero v h e = absurd (omega arith)
       not-buffer (suc left) v h e = rw (sym eb ∙ not-true b e) at (v .rest)
 
-      module _ (e : not b ≡ false) (w : ℕ) (ew : w ≡ getD m (a / 4 + 1) 0) where
-        pub wrong-link : (left : ℕ) → Walking m p r left before a → 0 < left → (w ≡ before → ⊥) → false ≡ r
+      module _ (e : not b ≡ false) where
+        pub wrong-link : (left : ℕ) → Walking m p r left before a → 0 < left → (getD m (a / 4 + 1) 0 ≡ before → ⊥) → false ≡ r
         unfolding linked
         wrong-link zero v h k = absurd (omega arith)
-        wrong-link (suc left) v h k = rw (sym eb ∙ not-false b e, ← ew, ne-eqb w before k) at (v .rest)
+        wrong-link (suc left) v h k = rw (sym eb ∙ not-false b e, ne-eqb (getD m (a / 4 + 1) 0) before k) at (v .rest)
 
-        pub walk-next : (left : ℕ) → Walking m p r left before a → 0 < left → w ≡ before → (n : ℕ) → n < 4294967296
-            → n ≡ getD m (a / 4) 0 → Walking m p r (left - 1) a n
+        pub walk-next : (left : ℕ) → Walking m p r left before a → 0 < left → getD m (a / 4 + 1) 0 ≡ before
+            → getD m (a / 4) 0 < 4294967296 → Walking m p r (left - 1) a (getD m (a / 4) 0)
         unfolding linked
-        walk-next zero v h k n f en = absurd (omega arith)
-        walk-next (suc left) v h k n f en =
-            record { small = f; rest = rw (sub-one (suc left), en) (rw (sym eb ∙ not-false b e, ← ew, eq-eqb w before k) at (v .rest)) }
+        walk-next zero v h k f = absurd (omega arith)
+        walk-next (suc left) v h k f =
+            record {
+              small = f;
+              rest = rw (sub-one (suc left)) (rw (sym eb ∙ not-false b e, eq-eqb (getD m (a / 4 + 1) 0) before k) at (v .rest));
+            }
 
-pub ruleset walking = (word-past, no-buffer, walk-start, end-wrong, end-rear, not-buffer, wrong-link, walk-next)
+pub ruleset walking = (rest-within, all-bytes, links-inside, walk-start, end-wrong, end-rear, not-buffer, wrong-link, walk-next)

@@ -1,3 +1,4 @@
 pub mod Tests
 pub mod Chain
 pub mod Clauses
+pub mod Queue

@@ -5,7 +5,7 @@ use mathlib.Core.Path.{_≡_, refl, sym, ap, _∙_}
 use mathlib.Core.Bool.{Bool, true, false, cond, not, _&&_, _||_}
 use borrow.Author.Tests.{eq-eqb, ne-eqb, le-leb, lt-leb, lt-ltb, le-ltb, leb-true, leb-false, not-true, not-false}
 use lib.Dec.{leb, ltb}
-use Rattle.manager.specs.Lists.Laws.{every-start, every-from, every-passed, every-failed, every-end, pairwise-start, pairwise-next, pairwise-fail, pairwise-end, adjacent-start, adjacent-passed, adjacent-failed, adjacent-end}
+use Rattle.manager.specs.Lists.Laws.{every-start, every-from, every-passed, every-failed, every-end}
 use Rattle.objects.proofs.Laws.{unmapped}
 
 module _ (a b : Bool) where
@@ -73,7 +73,3 @@ pub ruleset numbers = (leb-told-yes, leb-told-no, least-told-yes, least-told-no,
 
 -- loops over an array, where each test is a call
 pub ruleset each = (unmapped, not-true, not-false, every-start, every-from, every-passed, every-failed, every-end)
-
-pub ruleset pairs = (unmapped, not-true, not-false, pairwise-start, pairwise-next, pairwise-fail, pairwise-end)
-
-pub ruleset neighbours = (unmapped, not-true, not-false, adjacent-start, adjacent-passed, adjacent-failed, adjacent-end)

@@ -25,14 +25,17 @@ pub fn is_sound(mem: &[u32], d: Manager) -> bool
     if !sound_length(mem) {
         return false;
     }
-    if !slots::sound_regions(mem, d) {
+    let regions = d.regions;
+    let partitions = d.partitions;
+    let waiters = d.waiters;
+    if !slots::sound_regions(mem, regions) {
         return false;
     }
-    if !slots::sound_partitions(mem, d) {
+    if !slots::sound_partitions(mem, partitions) {
         return false;
     }
     if !objects::apart(d) {
         return false;
     }
-    places::sound_queue(mem, d)
+    places::sound_queue(mem, regions, waiters)
 }

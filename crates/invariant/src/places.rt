@@ -1,15 +1,18 @@
 // The wait queue: each place holds a sound waiter or is unused and all zeros, no task waits twice, and the waiters stand in the order in
-// which they are served.
+// which they are served. One walk makes all three checks, and only over the used places: behind an unused place all are unused.
 use manager::Manager;
+use manager::Order;
 use manager::Region;
 use manager::Waiter;
 ghost use mathlib.Core.Path.{_≡_};
-ghost use Prim.Native.Nat.{_+_, _<_};
-ghost use lib.ListN.{drop, getD};
-ghost use Rattle.manager.specs.Lists.{every, pairwise, adjacent};
-ghost use Rattle.manager.specs.Record.{noWaiter};
-ghost use Rattle.manager.specs.Sound.{emptyWaiter, soundWaiter, soundPlace, otherTask, inOrder, soundQueue};
-ghost use Rattle.invariant.specs.Waiters.{soundRequest, soundIn};
+ghost use mathlib.Core.Bool.{cond, not, _&&_};
+ghost use Prim.Native.Nat.{_≤_};
+ghost use lib.Dec.{eqb};
+ghost use lib.ListN.{drop};
+ghost use Rattle.manager.specs.Lists.{every};
+ghost use Rattle.manager.specs.Region.{dead, anyHeld};
+ghost use Rattle.manager.specs.Sound.{emptyWaiter, soundQueue};
+ghost use Rattle.invariant.specs.Waiters.{factsOf, noFacts, frontWaiter, soundRequest, soundIn, queueOf};
 
 // Whether an unused place is all zeros.
 fn empty_waiter(w: Waiter) -> bool
@@ -30,14 +33,51 @@ fn empty_waiter(w: Waiter) -> bool
     w.ticks == 0
 }
 
-// Whether a waiter asks for a size from 1 that the region can hold, with a priority from 1 to 255.
-fn sound_request(r: Region, w: Waiter) -> bool
-    ensures { λ b. ⌜ b ≡ soundRequest r w ⌝ }
+// What the check of a waiter asks of its region, worked out once for the waiters that stand together: how many pages it has, and whether
+// it is live with something held.
+struct Facts {
+    id: u32,
+    region: Region,
+    pages: u32,
+    held: bool,
+}
+
+// Whether a region is live with something held.
+fn live_and_held(mem: &[u32], r: Region) -> bool
+    ensures { λ b. ⌜ b ≡ (not (dead r) && anyHeld (now (mem .entry)) r) ⌝ }
+{
+    if r.name == 0 {
+        return false;
+    }
+    map::any_held_in(mem, r)
+}
+
+// The facts of a region; those kept where they are of the same one.
+fn facts_of(mem: &[u32], kept: Facts, id: u32, r: Region) -> Facts
+    ensures { λ f. ⌜ f ≡ cond (eqb (kept .id) id) kept (factsOf (now (mem .entry)) id r) ⌝ }
+{
+    if kept.id == id {
+        return kept;
+    }
+    let pages = map::pages_of(r);
+    let held = live_and_held(mem, r);
+    Facts {
+        id,
+        region: r,
+        pages,
+        held,
+    }
+}
+
+// Whether a waiter asks for a size from 1 that its region can hold, with a priority from 1 to 255.
+fn sound_request(f: Facts, w: Waiter) -> bool
+    ensures { λ b. ⌜ b ≡ soundRequest f w ⌝ }
 {
     if w.size < 1 {
         return false;
     }
-    if map::pages_of(r) < map::pages_asked(r, w.size) {
+    let r = f.region;
+    if f.pages < map::pages_asked(r, w.size) {
         return false;
     }
     if w.priority < 1 {
@@ -47,132 +87,98 @@ fn sound_request(r: Region, w: Waiter) -> bool
 }
 
 // Whether a waiter of the region is sound: a task of 1 to 16, and the region is live with something held.
-fn sound_in(mem: &[u32], r: Region, w: Waiter) -> bool
-    ensures { λ b. ⌜ b ≡ soundIn (now (mem .entry)) r w ⌝ }
+fn sound_in(f: Facts, w: Waiter) -> bool
+    ensures { λ b. ⌜ b ≡ soundIn f w ⌝ }
 {
     if 16 < w.task {
         return false;
     }
-    if r.name == 0 {
+    if !f.held {
         return false;
     }
-    if !map::any_held_in(mem, r) {
-        return false;
-    }
-    sound_request(r, w)
+    sound_request(f, w)
 }
 
-// Whether a waiter is sound.
-fn sound_waiter(mem: &[u32], d: Manager, w: Waiter) -> bool
-    ensures { λ b. ⌜ b ≡ soundWaiter (now (mem .entry)) d w ⌝ }
+// The facts of no region, which id 0 names.
+fn no_facts() -> Facts
+    ensures { λ f. ⌜ f ≡ noFacts ⌝ }
 {
-    let r = objects::region_of(d, w.region);
-    sound_in(mem, r, w)
-}
-
-// Whether a place of the queue is sound.
-fn sound_place(mem: &[u32], d: Manager, w: Waiter) -> bool
-    ensures { λ b. ⌜ b ≡ soundPlace (now (mem .entry)) d w ⌝ }
-{
-    if w.task == 0 {
-        return empty_waiter(w);
+    Facts {
+        id: 0,
+        region: Region {
+            name: 0,
+            start: 0,
+            length: 0,
+            page: 0,
+            order: Order::Fifo,
+        },
+        pages: 0,
+        held: false,
     }
-    sound_waiter(mem, d, w)
 }
 
-// Whether every place of the queue is sound.
-fn sound_places(mem: &[u32], d: Manager) -> bool
-    ensures { λ b. ⌜ b ≡ every (soundPlace (now (mem .entry)) d) (d .waiters) ⌝ }
+// A waiter in front of every other: of the region before the first.
+fn in_front() -> Waiter
+    ensures { λ w. ⌜ w ≡ frontWaiter ⌝ }
 {
-    let mut i: usize = 0;
-    while i < Manager::TASKS {
-        let w = d.waiters[i];
-        i = i + 1;
-        if !sound_place(mem, d, w) {
-            return false;
-        }
+    Waiter {
+        task: 1,
+        region: 0,
+        size: 0,
+        priority: 0,
+        ticks: 0,
     }
-    true
 }
 
-// Whether two places do not hold the same task.
-fn other_task(w: Waiter, x: Waiter) -> bool
-    ensures { λ b. ⌜ b ≡ otherTask w x ⌝ }
-{
-    if w.task == 0 {
-        return true;
-    }
-    w.task != x.task
-}
-
-// Whether no place from an index on holds the task of w.
-fn waits_once(d: Manager, w: Waiter, from: usize) -> bool
-    requires { ⌜ from < 17 ⌝ }
-    ensures { λ b. ⌜ b ≡ every (otherTask w) (drop from (d .waiters)) ⌝ }
+// Whether every place from an index on is unused.
+fn unused_from(ws: [Waiter; 16], from: usize) -> bool
+    requires { ⌜ from ≤ 16 ⌝ }
+    ensures { λ b. ⌜ b ≡ every emptyWaiter (drop from ws) ⌝ }
 {
     let mut i = from;
     while i < Manager::TASKS {
-        let x = d.waiters[i];
+        let w = ws[i];
         i = i + 1;
-        if !other_task(w, x) {
+        if !empty_waiter(w) {
             return false;
         }
     }
     true
 }
 
-// Whether no task waits twice.
-fn all_once(d: Manager) -> bool
-    ensures { λ b. ⌜ b ≡ pairwise otherTask (d .waiters) ⌝ }
+// Whether the queue is sound. `seen` has the tasks met so far; the waiter before the first one stands in front of every other.
+pub fn sound_queue(mem: &[u32], regions: [Region; 8], ws: [Waiter; 16]) -> bool
+    ensures { λ b. ⌜ b ≡ soundQueue (now (mem .entry)) (queueOf regions ws) ⌝ }
 {
+    let mut facts = no_facts();
+    let mut before = in_front();
+    let mut seen = [false; 17];
     let mut i: usize = 0;
     while i < Manager::TASKS {
-        let w = d.waiters[i];
+        let w = ws[i];
+        if w.task == 0 {
+            return unused_from(ws, i);
+        }
         i = i + 1;
-        if !waits_once(d, w, i) {
+        let slot = objects::slot_of(w.region);
+        if Manager::SLOTS <= slot {
             return false;
         }
-    }
-    true
-}
-
-// Whether the waiter x does not go before w, which stands before it.
-fn in_order(d: Manager, w: Waiter, x: Waiter) -> bool
-    ensures { λ b. ⌜ b ≡ inOrder d w x ⌝ }
-{
-    if x.task == 0 {
-        return true;
-    }
-    let r = objects::region_of(d, x.region);
-    let order = r.order;
-    !queue::goes_before(order, x, w)
-}
-
-// Whether no waiter goes before the one directly in front of it.
-fn all_in_order(d: Manager) -> bool
-    ensures { λ b. ⌜ b ≡ adjacent (inOrder d) (d .waiters) ⌝ }
-{
-    let mut i: usize = 0;
-    while i + 1 < Manager::TASKS {
-        let w = d.waiters[i];
-        let x = d.waiters[i + 1];
-        i = i + 1;
-        if !in_order(d, w, x) {
+        let r = regions[slot];
+        facts = facts_of(mem, facts, w.region, r);
+        if !sound_in(facts, w) {
             return false;
         }
+        let task = w.task as usize;
+        if seen[task] {
+            return false;
+        }
+        seen[task] = true;
+        let order = r.order;
+        if queue::goes_before(order, w, before) {
+            return false;
+        }
+        before = w;
     }
     true
-}
-
-// Whether the queue is sound.
-pub fn sound_queue(mem: &[u32], d: Manager) -> bool
-    ensures { λ b. ⌜ b ≡ soundQueue (now (mem .entry)) d ⌝ }
-{
-    if !sound_places(mem, d) {
-        return false;
-    }
-    if !all_once(d) {
-        return false;
-    }
-    all_in_order(d)
 }

@@ -126,12 +126,12 @@ fn sound_partition(mem: &[u32], p: Partition) -> bool
 }
 
 // Whether every region slot is sound.
-pub fn sound_regions(mem: &[u32], d: Manager) -> bool
-    ensures { λ b. ⌜ b ≡ every (soundRegion (now (mem .entry))) (d .regions) ⌝ }
+pub fn sound_regions(mem: &[u32], regions: [Region; 8]) -> bool
+    ensures { λ b. ⌜ b ≡ every (soundRegion (now (mem .entry))) regions ⌝ }
 {
     let mut i: usize = 0;
     while i < Manager::SLOTS {
-        let r = d.regions[i];
+        let r = regions[i];
         i = i + 1;
         if !sound_region(mem, r) {
             return false;
@@ -141,12 +141,12 @@ pub fn sound_regions(mem: &[u32], d: Manager) -> bool
 }
 
 // Whether every partition slot is sound.
-pub fn sound_partitions(mem: &[u32], d: Manager) -> bool
-    ensures { λ b. ⌜ b ≡ every (soundPartition (now (mem .entry))) (d .partitions) ⌝ }
+pub fn sound_partitions(mem: &[u32], partitions: [Partition; 8]) -> bool
+    ensures { λ b. ⌜ b ≡ every (soundPartition (now (mem .entry))) partitions ⌝ }
 {
     let mut i: usize = 0;
     while i < Manager::SLOTS {
-        let p = d.partitions[i];
+        let p = partitions[i];
         i = i + 1;
         if !sound_partition(mem, p) {
             return false;

@@ -1,5 +1,6 @@
 -- `is_sound` meets its contract: the tests in a row are the definition's. Assumes nothing.
 use Rattle.manager.specs.Sound.{sound}
+use Rattle.invariant.proofs.Queue.{queue-told}
 use Rattle.invariant.proofs.Tests.{tests}
 use borrow.Author.Needs.{needs}
 use Rattle.invariant.proofs.is_sound.Statement.{statement}
@@ -19,4 +20,4 @@ is-sound-spec =
     (λ c κs. search needs)
     (λ c. search (needs, tests))
     (λ c κs. search needs)
-    (λ c. search (needs, tests)))
+    (λ c. search (needs, tests, queue-told)))

@@ -10,7 +10,5 @@ sound-in-spec =
     (tie.spec
     (λ c. search (needs, tests))
     (λ c. search (needs, tests))
-    (λ c κs. search needs)
-    (λ c. search (needs, tests))
-    (λ c κs. search needs)
+    (λ c κs. search (needs, tests))
     (λ c. search (needs, tests)))

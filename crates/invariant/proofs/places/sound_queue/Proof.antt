@@ -1,18 +1,45 @@
--- `sound_queue` meets its contract: the tests in a row are the definition's. Assumes nothing.
+-- `sound_queue` meets its contract: what is left of the queue answers as the whole. Assumes nothing.
+use Prim.Native.Nat.{_-_}
 use Rattle.manager.specs.Sound.{soundQueue}
-use Rattle.invariant.proofs.Tests.{tests}
+use Rattle.invariant.specs.Waiters.{queueOf}
+use Rattle.invariant.proofs.Queue.{Walk, walking-queue}
 use borrow.Author.Needs.{needs}
 use Rattle.invariant.proofs.places.sound_queue.Statement.{statement}
 use Rattle.invariant.proofs.places.sound_queue.Tie as tie
 
+abbrev Inv-loop : tie.InvT-loop
+Inv-loop mem regions ws facts₀ before₀ seen₀ i₀ facts before seen i = Walk mem regions ws facts before seen (soundQueue mem (queueOf regions ws)) i
+
+abbrev μ-loop : tie.MeasureT-loop
+μ-loop mem regions ws facts₀ before₀ seen₀ i₀ facts before seen i = 16 - i
+
 pub sound-queue-spec : {M : Type 1} → statement M
-unfolding soundQueue
 sound-queue-spec =
     tie.close
     (tie.spec
-    (λ c κs. search needs)
-    (λ c. search (needs, tests))
-    (λ c κs. search needs)
-    (λ c. search (needs, tests))
-    (λ c κs. search needs)
-    (λ c. search (needs, tests)))
+    Inv-loop
+    μ-loop
+    (λ c κs. search (needs, walking-queue))
+    (λ c κs. search (needs, walking-queue))
+    (λ c. search (needs, walking-queue))
+    (λ c. search (needs, walking-queue))
+    (λ c. search (needs, walking-queue))
+    (λ c κs. search (needs, walking-queue))
+    (λ c. search (needs, walking-queue))
+    (λ c. search (needs, walking-queue))
+    (λ c κs. search (needs, walking-queue))
+    (λ c. search (needs, walking-queue))
+    (λ c. search (needs, walking-queue))
+    (λ c. search (needs, walking-queue))
+    (λ c κs. search (needs, walking-queue))
+    (λ c κs. search (needs, walking-queue))
+    (λ c. search (needs, walking-queue))
+    (λ c. search (needs, walking-queue))
+    (λ c. search (needs, walking-queue))
+    (λ c. search (needs, walking-queue))
+    (λ c. search (needs, walking-queue))
+    (λ c κs. search (needs, walking-queue))
+    (λ c. search (needs, walking-queue))
+    (λ c. search (needs, walking-queue))
+    (λ c. search (needs, walking-queue))
+    (λ c. search (needs, walking-queue)))

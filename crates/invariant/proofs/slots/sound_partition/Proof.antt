@@ -1,5 +1,6 @@
 -- `sound_partition` meets its contract: the tests in a row are the definition's. Assumes nothing.
 use Rattle.manager.specs.Sound.{soundPartition, livePartition}
+use Rattle.invariant.proofs.Chain.{laid-told}
 use Rattle.invariant.proofs.Tests.{choices, tests}
 use borrow.Author.Needs.{needs}
 use Rattle.invariant.proofs.slots.sound_partition.Statement.{statement}
@@ -17,5 +18,6 @@ sound-partition-spec =
     (λ c. search (needs, choices, tests))
     (λ c κs. search needs)
     (λ c. search (needs, choices, tests))
-    (λ c κs. search needs)
+    (λ c κs. laid-told _ _ _ _ (c .before .before .before .before .before .is-inside .ensures) (c .before .before .before .before .if2 .left) (c .before .before .if3 .left)
+    (c .before .sound-size .ensures) (c .if4 .left))
     (λ c. search (needs, choices, tests)))

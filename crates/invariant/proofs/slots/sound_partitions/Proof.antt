@@ -9,10 +9,10 @@ use Rattle.invariant.proofs.slots.sound_partitions.Statement.{statement
 use Rattle.invariant.proofs.slots.sound_partitions.Tie as tie
 
 abbrev Inv-loop : tie.InvT-loop
-Inv-loop mem d i₀ i = Passing (soundPartition mem) (d .partitions) 8 (every (soundPartition mem) (d .partitions)) i
+Inv-loop mem partitions i₀ i = Passing (soundPartition mem) partitions 8 (every (soundPartition mem) partitions) i
 
 abbrev μ-loop : tie.MeasureT-loop
-μ-loop mem d i₀ i = 8 - i
+μ-loop mem partitions i₀ i = 8 - i
 
 pub sound-partitions-spec : {M : Type 1} → statement M
 sound-partitions-spec =

@@ -9,10 +9,10 @@ use Rattle.invariant.proofs.slots.sound_regions.Statement.{statement}
 use Rattle.invariant.proofs.slots.sound_regions.Tie as tie
 
 abbrev Inv-loop : tie.InvT-loop
-Inv-loop mem d i₀ i = Passing (soundRegion mem) (d .regions) 8 (every (soundRegion mem) (d .regions)) i
+Inv-loop mem regions i₀ i = Passing (soundRegion mem) regions 8 (every (soundRegion mem) regions) i
 
 abbrev μ-loop : tie.MeasureT-loop
-μ-loop mem d i₀ i = 8 - i
+μ-loop mem regions i₀ i = 8 - i
 
 pub sound-regions-spec : {M : Type 1} → statement M
 sound-regions-spec =
