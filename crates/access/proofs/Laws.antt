@@ -20,6 +20,8 @@ use Rattle.manager.specs.Map.Laws.{Well, total-append, total-cons}
 use Rattle.manager.specs.Paged.{heldFrom}
 use Rattle.manager.specs.Paged.Laws.{Spot, spot, held-at}
 use Rattle.manager.specs.Record.{regionOf}
+use Rattle.map.specs.Word.{heldWordAt}
+use Rattle.map.proofs.Word.{held-told}
 use Rattle.manager.specs.Region.{baseOf, heldAt, pageAt, pagesOf, segments, startsPage}
 use Rattle.manager.specs.Result.{Result, Performs, answerOf, checked, refused, replied, done}
 use Rattle.manager.specs.Result.Laws.{performs-by, performs-reply}
@@ -143,7 +145,10 @@ module _ (m : List ℕ) (d : Manager) (b : Bool) (q : b ≡ sound m d) (id addre
     unfolding writeSegment checked
     write-dead first ws e = rw (← q, s, ← o, eq-eqb _ _ e)
 
-    module _ (l : r .name ≡ 0 → ⊥) (k : ℕ) (x : k ≡ heldAt m r address) where
+    module _ (l : r .name ≡ 0 → ⊥) (k : ℕ) (wx : k ≡ heldWordAt m r address) where
+      x : k ≡ heldAt m r address
+      x = held-told m d id (sym q ∙ s) r o l address k wx
+
       -- no held segment starts at the address
       pub read-none : k ≡ 0 → [] ≡ readSegment m d id address
       unfolding readSegment

@@ -1,3 +1,4 @@
 pub mod Scan
 pub mod Check
 pub mod Part
+pub mod Word

@@ -1,18 +1,19 @@
 -- The part of the memory that is a region's map, and the held segment at an address. Assumes nothing.
-use Prim.Native.Nat.{ℕ, _+_, _-_, _/_, _%_, _≤_, _<_}
+use Prim.Native.Nat.{ℕ, zero, _+_, _-_, _*_, _/_, _%_, _≤_, _<_}
 use mathlib.Core.Path.{_≡_, refl, sym, ap, _∙_}
 use mathlib.Core.Bool.{Bool, true, false, cond}
 use mathlib.Core.List.{List, []}
 use native.Mathlib.Omega.{arith}
-use borrow.Author.Tests.{eq-eqb, ne-eqb, le-leb, lt-leb}
-use lib.ListN.{length, take, drop, length-drop, drop-of-length-le}
+use borrow.Author.Tests.{eq-eqb, ne-eqb, eqb-true, eqb-false, le-leb, lt-leb}
+use lib.Dec.{eqb}
+use lib.ListN.{length, take, drop, getD, length-drop, drop-of-length-le, List·getD-eq-default}
 use lib.Seq.{take-all, take-nil}
 use Rattle.arith.specs.Layout.{firstPage}
 use Rattle.arith.specs.Layout.Laws.{count-zero}
 use Rattle.manager.specs.Lists.{some}
 use Rattle.manager.specs.Map.{decode, isHeldSegment}
-use Rattle.manager.specs.Paged.{heldFrom}
-use Rattle.manager.specs.Region.{pagesOf, baseOf, mapAt, mapWords, heldAt, anyHeld, startsPage, pageAt}
+use Rattle.manager.specs.Region.{pagesOf, baseOf, mapAt, mapWords, anyHeld, startsPage, pageAt}
+use Rattle.map.specs.Word.{heldWord, heldWordAt, oneFree}
 use Rattle.manager.specs.declared.Region.{Region}
 
 pub base-is : (r : Region) (n f : ℕ) → n ≡ pagesOf r → f ≡ firstPage (r .start) (r .page) n → f ≡ baseOf r
@@ -38,30 +39,55 @@ pub any-in : (m : List ℕ) (r : Region) (ws : List ℕ) (v : Bool) → ws ≡ m
     → v ≡ anyHeld m r
 any-in m r ws v ew ev = ev ∙ ap (λ (l : List ℕ). some isHeldSegment (decode l)) ew
 
+no-word : (p : ℕ) → heldWord [] p ≡ 0
+no-word p = rw (List·getD-eq-default {A = ℕ} [] 0 {n = p} (omega arith))
+
+-- the word of a page: past the map's end there is none
+module _ (ws : List ℕ) (p : ℕ) where
+  pub word-out : length ws ≤ p → 0 ≡ heldWord ws p
+  word-out h = rw (List·getD-eq-default ws 0 {n = p} h)
+
+  pub word-odd : getD ws p 0 % 2 ≡ 1 → getD ws p 0 / 2 ≡ heldWord ws p
+  word-odd e = rw (eq-eqb (getD ws p 0 % 2) 1 e)
+
+  pub word-even : (getD ws p 0 % 2 ≡ 1 → ⊥) → 0 ≡ heldWord ws p
+  word-even e = rw (ne-eqb (getD ws p 0 % 2) 1 e)
+
+-- the first word
+module _ (m : List ℕ) (r : Region) (ws : List ℕ) (ew : ws ≡ mapWords m r) (n : ℕ) (en : n ≡ pagesOf r) where
+  first-zero : (b : Bool) → eqb n 0 ≡ b → eqb 0 (2 * n) ≡ b
+  first-zero true e = eq-eqb 0 (2 * n) (omega (arith, eqb-true n 0 e))
+  first-zero false e = ne-eqb 0 (2 * n) (λ h. eqb-false n 0 e (omega arith))
+
+  pub first-none : length ws ≡ 0 → eqb n 0 ≡ oneFree m r
+  first-none e = rw (← ew, ← en, List·getD-eq-default ws 0 {n = 0} (omega arith)) (sym (first-zero (eqb n 0) refl))
+
+  pub first-some : eqb (getD ws 0 0) (2 * n) ≡ oneFree m r
+  first-some = rw (ew, en)
+
 either : (b : Bool) (n : ℕ) → n ≡ 0 → cond b n 0 ≡ 0
 either true n e = e
 either false n e = refl
 
 module _ (m : List ℕ) (r : Region) (a : ℕ) where
   -- a region with no page size has no pages
-  pub held-none : r .page ≡ 0 → 0 ≡ heldAt m r a
-  unfolding decode heldFrom
+  pub held-none : r .page ≡ 0 → 0 ≡ heldWordAt m r a
   held-none e =
       let z = count-zero (r .start) (r .length) (r .page) e in
       let w : mapWords m r ≡ [] = ap (λ (k : ℕ). take k (drop (mapAt r) m)) z in
-      sym (either (startsPage r a) (heldFrom (pageAt r a) 0 (decode (mapWords m r))) (ap (λ (l : List ℕ). heldFrom (pageAt r a) 0 (decode l)) w))
+      sym (either (startsPage r a) (heldWord (mapWords m r) (pageAt r a)) (ap (λ (l : List ℕ). heldWord l (pageAt r a)) w ∙ no-word (pageAt r a)))
 
   module _ (b : ℕ) (eb : b ≡ baseOf r) where
-    pub held-below : a < b → 0 ≡ heldAt m r a
+    pub held-below : a < b → 0 ≡ heldWordAt m r a
     held-below h = rw (← eb, lt-leb b a h)
 
     module _ (h : b ≤ a) where
-      pub held-between : ((a - b) % r .page ≡ 0 → ⊥) → 0 ≡ heldAt m r a
+      pub held-between : ((a - b) % r .page ≡ 0 → ⊥) → 0 ≡ heldWordAt m r a
       held-between k = rw (← eb, le-leb b a h, ne-eqb ((a - b) % r .page) 0 k)
 
       pub held-there : (a - b) % r .page ≡ 0 → (ws : List ℕ) (n : ℕ) → ws ≡ mapWords m r
-          → n ≡ heldFrom ((a - b) / r .page) 0 (decode ws) → n ≡ heldAt m r a
+          → n ≡ heldWord ws ((a - b) / r .page) → n ≡ heldWordAt m r a
       held-there k ws n ew en =
-          rw (← eb, le-leb b a h, eq-eqb ((a - b) % r .page) 0 k) (en ∙ ap (λ (l : List ℕ). heldFrom ((a - b) / r .page) 0 (decode l)) ew)
+          rw (← eb, le-leb b a h, eq-eqb ((a - b) % r .page) 0 k) (en ∙ ap (λ (l : List ℕ). heldWord l ((a - b) / r .page)) ew)
 
-pub ruleset parts = (base-is, words-out, words-short, words-whole, any-in, held-none, held-below, held-between, held-there)
+pub ruleset parts = (first-none, first-some, word-out, word-odd, word-even, base-is, words-out, words-short, words-whole, any-in, held-none, held-below, held-between, held-there)

@@ -1,12 +1,10 @@
 // Where a region's map lies in the memory, and what its words say. Every function is total: any words are read, sound or not.
 use manager::Region;
 ghost use mathlib.Core.Path.{_≡_};
-ghost use Prim.Native.Nat.{ℕ, _<_};
-ghost use lib.ListN.{drop};
 ghost use Rattle.manager.specs.Lists.{some};
 ghost use Rattle.manager.specs.Map.{decode, soundMap, isHeldSegment};
-ghost use Rattle.manager.specs.Paged.{heldFrom, reachFrom, lead};
-ghost use Rattle.manager.specs.Region.{pagesOf, baseOf, mapAt, mapWords, heldAt, anyHeld, pagesAsked};
+ghost use Rattle.manager.specs.Region.{pagesOf, baseOf, mapAt, mapWords, anyHeld, pagesAsked};
+ghost use Rattle.map.specs.Word.{heldWord, heldWordAt, oneFree};
 
 // How many pages the region has.
 pub fn pages_of(r: Region) -> u32
@@ -98,71 +96,25 @@ pub fn any_held(map: &[u32]) -> bool
     false
 }
 
-// The pages of the held segment that starts at page p; 0 where none does. No segment behind page p starts there.
-pub fn held_pages(map: &[u32], p: u32) -> u32
-    ensures { λ r. ⌜ r ≡ heldFrom p 0 (decode (now (map .entry))) ⌝ }
+// The pages that the word of page p says, where it is marked as held; else 0. In a sound map that is the held segment which starts at
+// page p, and no other word has to be read.
+pub fn held_word(map: &[u32], p: u32) -> u32
+    ensures { λ r. ⌜ r ≡ heldWord (now (map .entry)) p ⌝ }
 {
-    let mut i = 0;
-    let mut at: u64 = 0;
-    while i < map.len() {
-        let w = map[i];
-        i += 1;
-        if w % 2 == 1 {
-            if at == p as u64 {
-                return w / 2;
-            }
-        }
-        at += (w / 2) as u64;
-        if (p as u64) < at {
-            return 0;
-        }
+    let at = p as usize;
+    if map.len() <= at {
+        return 0;
+    }
+    let first = map[at];
+    if first % 2 == 1 {
+        return first / 2;
     }
     0
 }
 
-// The pages of the free segment that the words from an index on start with; 0 where they start with none.
-fn lead_from(map: &[u32], from: usize) -> u32
-    ensures { λ r. ⌜ (r ≡ lead (decode (drop from (now (map .entry))))) × (r < 2147483648) ⌝ }
-{
-    let mut i = from;
-    while i < map.len() {
-        let next = map[i];
-        i += 1;
-        if next % 2 == 1 {
-            return 0;
-        }
-        if next != 0 {
-            return next / 2;
-        }
-    }
-    0
-}
-
-// The most pages that the held segment at page p can have: its own and those of a free follower; 0 where none starts there.
-pub fn reach(map: &[u32], p: u32) -> u32
-    ensures { λ r. ⌜ r ≡ reachFrom p 0 (decode (now (map .entry))) ⌝ }
-{
-    let mut i = 0;
-    let mut page: u64 = 0;
-    while i < map.len() {
-        let w = map[i];
-        i += 1;
-        if w % 2 == 1 {
-            if page == p as u64 {
-                return w / 2 + lead_from(map, i);
-            }
-        }
-        page += (w / 2) as u64;
-        if (p as u64) < page {
-            return 0;
-        }
-    }
-    0
-}
-
-// The pages of the region's held segment that starts at an address; 0 where none does.
-pub fn held_at(mem: &[u32], r: Region, address: u32) -> u32
-    ensures { λ n. ⌜ n ≡ heldAt (now (mem .entry)) r address ⌝ }
+// The pages of the region's held segment that starts at an address, as the word of that page says it; 0 where none does.
+pub fn held_word_at(mem: &[u32], r: Region, address: u32) -> u32
+    ensures { λ n. ⌜ n ≡ heldWordAt (now (mem .entry)) r address ⌝ }
 {
     let page = r.page;
     if page == 0 {
@@ -177,7 +129,21 @@ pub fn held_at(mem: &[u32], r: Region, address: u32) -> u32
         return 0;
     }
     let map = map_words(mem, r);
-    held_pages(map, (past / page as u64) as u32)
+    held_word(map, (past / page as u64) as u32)
+}
+
+// Whether the first word says one free segment of all pages. In a sound map that is so where nothing is held, and no other word has to be
+// read.
+pub fn one_free(mem: &[u32], r: Region) -> bool
+    ensures { λ b. ⌜ b ≡ oneFree (now (mem .entry)) r ⌝ }
+{
+    let map = map_words(mem, r);
+    let n = pages_of(r);
+    if map.len() == 0 {
+        return n == 0;
+    }
+    let first = map[0];
+    first as u64 == 2 * n as u64
 }
 
 // Whether something of the region is held.

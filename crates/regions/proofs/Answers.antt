@@ -20,6 +20,8 @@ use Rattle.manager.specs.Result.{Result, Performs, Check, check, checked, answe
 use Rattle.manager.specs.Result.Laws.{performs-by, performs-reply, checked-passes}
 use Rattle.manager.specs.Map.{Segment, free, held, total}
 use Rattle.manager.specs.Paged.{free+, heldFrom, reachFrom, changeFrom}
+use Rattle.map.specs.Word.{heldWordAt}
+use Rattle.map.proofs.Word.{held-of, held-told}
 use Rattle.manager.specs.Region.{dead, pagesOf, baseOf, pageAt, startsPage, segments, withSegments, heldAt, addressOf, pagesAsked}
 use Rattle.manager.specs.Queue.{enqueue}
 use Rattle.manager.specs.Serve.{onPlace, placed, taken, serve, Served, fromServed}
@@ -163,7 +165,10 @@ pub ruleset getting = (live, some-asked, get-zero, get-dead, get-large, get-refu
 
 -- ---- the held segment at an address
 
-module _ (m : List ℕ) (r : Region) (address : ℕ) (n : ℕ) (en : n ≡ heldAt m r address) (z : n ≡ 0 → ⊥) (p : ℕ) (ep : p ≡ pageAt r address) where
+module _ (m : List ℕ) (r : Region) (address : ℕ) (sr : Sited m r) (n : ℕ) (wn : n ≡ heldWordAt m r address) (z : n ≡ 0 → ⊥) (p : ℕ) (ep : p ≡ pageAt r address) where
+  en : n ≡ heldAt m r address
+  en = held-of m r sr address n wn
+
   starts : startsPage r address ≡ true
   starts = go (startsPage r address) refl
     where
@@ -198,8 +203,9 @@ held-few m r address s = go (startsPage r address)
     go true = omega (arith, held-within (pageAt r address) 0 (segments m r), total-segments m r s)
     go false = omega arith
 
-pub length-fits : (m : List ℕ) (r : Region) (address : ℕ) → Sited m r → (n : ℕ) → n ≡ heldAt m r address → Fits w32 (n * r .page)
-length-fits m r address s n en =
+pub length-fits : (m : List ℕ) (r : Region) (address : ℕ) → Sited m r → (n : ℕ) → n ≡ heldWordAt m r address → Fits w32 (n * r .page)
+length-fits m r address s n wn =
+    let en : n ≡ heldAt m r address = held-of m r s address n wn in
     fits-under w32 (n * r .page) 65537
     (omega (arith, mul-le-mul-right (r .page) (held-few m r address s), ap (λ (k : ℕ). k * r .page) en, pages-end m r (s .laid))) tt
 
@@ -228,15 +234,18 @@ module _ (m : List ℕ) (d : Manager) (s : sound m d ≡ true) (id address : ℕ
   unfolding returnSegment checked
   return-dead a e f = said m a Returns d InvalidId 0 f (rw (s, ← er, eq-eqb _ _ e))
 
-  module _ (l : r .name ≡ 0 → ⊥) (n : ℕ) (en : n ≡ heldAt m r address) where
+  module _ (l : r .name ≡ 0 → ⊥) (n : ℕ) (wn : n ≡ heldWordAt m r address) where
+    return-held : n ≡ heldAt m r address
+    return-held = held-told m d id s r er l address n wn
+
     pub return-none : (a : Answer) → n ≡ 0 → Said a d InvalidAddress 0 → Performs Returns m a
     unfolding returnSegment checked
-    return-none a e f = said m a Returns d InvalidAddress 0 f (rw (s, ← er, ne-eqb _ _ l, ← en, eq-eqb _ _ e))
+    return-none a e f = said m a Returns d InvalidAddress 0 f (rw (s, ← er, ne-eqb _ _ l, ← return-held, eq-eqb _ _ e))
 
     pub return-freed : (a : Answer) → (n ≡ 0 → ⊥) → (p : ℕ) → p ≡ pageAt r address → (out : List ℕ)
         → Performs (fromServed (serve (withSegments m r (changeFrom p 0 0 (segments m r))) d id)) out a → Performs Returns out a
     unfolding returnSegment checked
-    return-freed a z p ep out x = performs-by out a Returns _ (rw (s, ← er, ne-eqb _ _ l, ← en, ne-eqb _ _ z, ← ep)) x
+    return-freed a z p ep out x = performs-by out a Returns _ (rw (s, ← er, ne-eqb _ _ l, ← return-held, ne-eqb _ _ z, ← ep)) x
 
 pub return-asking : (m : List ℕ) (d : Manager) → sound m d ≡ true → Asking d
 return-asking m d s = sound-asking m d s
@@ -270,16 +279,19 @@ module _ (m : List ℕ) (d : Manager) (s : sound m d ≡ true) (id address size 
     unfolding resizeSegment checked
     resize-dead a e f = said m a Resizes d InvalidId 0 f (rw (s, ne-eqb _ _ y, ← er, eq-eqb _ _ e))
 
-    module _ (l : r .name ≡ 0 → ⊥) (n : ℕ) (en : n ≡ heldAt m r address) where
+    module _ (l : r .name ≡ 0 → ⊥) (n : ℕ) (wn : n ≡ heldWordAt m r address) where
+      resize-held : n ≡ heldAt m r address
+      resize-held = held-told m d id s r er l address n wn
+
       pub resize-none : (a : Answer) → n ≡ 0 → Said a d InvalidAddress 0 → Performs Resizes m a
       unfolding resizeSegment checked
-      resize-none a e f = said m a Resizes d InvalidAddress 0 f (rw (s, ne-eqb _ _ y, ← er, ne-eqb _ _ l, ← en, eq-eqb _ _ e))
+      resize-none a e f = said m a Resizes d InvalidAddress 0 f (rw (s, ne-eqb _ _ y, ← er, ne-eqb _ _ l, ← resize-held, eq-eqb _ _ e))
 
       pub resize-fitted : (a : Answer) → (n ≡ 0 → ⊥) → (k : ℕ) → k ≡ pagesAsked r size → (p : ℕ) → p ≡ pageAt r address → (out : List ℕ)
           → Performs (cond (leb k (reachFrom p 0 (segments m r))) (done (withSegments m r (changeFrom p k 0 (segments m r))) d (n * r .page)) (replied m d Unsatisfied (n * r .page))) out a
           → Performs Resizes out a
       unfolding resizeSegment checked
-      resize-fitted a z k ek p ep out x = performs-by out a Resizes _ (rw (s, ne-eqb _ _ y, ← er, ne-eqb _ _ l, ← en, ne-eqb _ _ z, ← ek, ← ep)) x
+      resize-fitted a z k ek p ep out x = performs-by out a Resizes _ (rw (s, ne-eqb _ _ y, ← er, ne-eqb _ _ l, ← resize-held, ne-eqb _ _ z, ← ek, ← ep)) x
 
 pub ruleset resizing = (live, some-asked, held-some, length-fits, resize-zero, resize-dead, resize-none, resize-fitted)
 

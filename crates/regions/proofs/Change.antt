@@ -194,6 +194,21 @@ module _ (p : ℕ) (ws : List ℕ) (ok : soundMap ws ≡ true) (l : 1 ≤ heldFr
       → Extends p ws (getD ws p 0 / 2 + getD ws (p + getD ws p 0 / 2) 0 / 2) (set (set ws p ((getD ws p 0 / 2 + getD ws (p + getD ws p 0 / 2) 0 / 2) * 2 + 1)) (p + getD ws p 0 / 2) 0)
   extend-free h m = rw pages-is (at-free (behind p ws here) (omega (arith, pages-is)) (rw pages-is at m) .1)
 
+-- how many pages it could have
+module _ (p : ℕ) (ws : List ℕ) (ok : soundMap ws ≡ true) (l : 1 ≤ heldFrom p 0 (decode ws)) where
+  pub reach-end : length ws ≤ p + getD ws p 0 / 2 → getD ws p 0 / 2 ≡ reachFrom p 0 (decode ws)
+  reach-end h = extend-end p ws ok l h .pages
+
+  module _ (h : p + getD ws p 0 / 2 < length ws) where
+    pub reach-held : (getD ws (p + getD ws p 0 / 2) 0 % 2 ≡ 0 → ⊥) → getD ws p 0 / 2 ≡ reachFrom p 0 (decode ws)
+    reach-held ne = extend-held p ws ok l h ne .pages
+
+    pub reach-free : getD ws (p + getD ws p 0 / 2) 0 % 2 ≡ 0
+        → getD ws p 0 / 2 + getD ws (p + getD ws p 0 / 2) 0 / 2 ≡ reachFrom p 0 (decode ws)
+    reach-free m = extend-free p ws ok l h m .pages
+
+pub ruleset reaching = (reach-end, reach-held, reach-free)
+
 pub ruleset extending = (extend-end, extend-held, extend-free)
 
 -- ---- after `extend`

@@ -92,9 +92,21 @@ module _ (r : Region) (at n : ℕ) (ea : at ≡ mapAt r) (en : n ≡ pagesOf r) 
       draws l (free+ (pagesOf r) []) (total-free (pagesOf r) [] ∙ add-zero (pagesOf r)) (well-free (pagesOf r) [] tt) ws
       (ew ∙ ap (λ (k : ℕ). draw (free+ k [])) (part-long l))
 
--- the reach, in the words of the map
+-- the reach, in the words of the map, which are sound and few
+module _ (m : List ℕ) (r : Region) (ws : List ℕ) (ew : ws ≡ mapWords m r) (s : Sited m r) where
+  pub words-sound : soundMap ws ≡ true
+  words-sound = rw ew (s .sound)
+
+  pub words-few : length ws ≤ 16384
+  words-few = rw ew (omega (arith, map-long m r (s .laid), pages-few m r (s .laid)))
+
+  pub words-held : (p : ℕ) → 1 ≤ heldFrom p 0 (segments m r) → 1 ≤ heldFrom p 0 (decode ws)
+  words-held p h = rw ew h
+
 pub reach-words : (m : List ℕ) (r : Region) (ws : List ℕ) (p n : ℕ) → ws ≡ mapWords m r → n ≡ reachFrom p 0 (decode ws) → n ≡ reachFrom p 0 (segments m r)
 reach-words m r ws p n ew en = en ∙ ap (λ (w : List ℕ). reachFrom p 0 (decode w)) ew
+
+pub ruleset reaching-words = (words-sound, words-few, words-held, reach-words)
 
 pub ruleset lending = (part-in, part-few, part-some, part-sound, part-held, part-reach, takes, changes, releases, clears)
 

@@ -186,7 +186,7 @@ pub fn give_back(mem: &mut [u32], d: Manager, id: u32, address: u32) -> Answer
     if r.name == 0 {
         return reply::reply(d, Status::InvalidId, 0);
     }
-    let pages = map::held_at(mem, r, address);
+    let pages = map::held_word_at(mem, r, address);
     if pages == 0 {
         return reply::reply(d, Status::InvalidAddress, 0);
     }
@@ -218,7 +218,7 @@ pub fn resize(mem: &mut [u32], d: Manager, id: u32, address: u32, size: u32) -> 
     if r.name == 0 {
         return reply::reply(d, Status::InvalidId, 0);
     }
-    let pages = map::held_at(mem, r, address);
+    let pages = map::held_word_at(mem, r, address);
     if pages == 0 {
         return reply::reply(d, Status::InvalidAddress, 0);
     }

@@ -88,6 +88,24 @@ fn extend(map: &mut [u32], p: usize) -> u32
     all
 }
 
+// The most pages that the held segment at page p can have: its own and those of a free follower.
+pub fn reach_at(map: &[u32], p: usize) -> u32
+    requires { ⌜ (soundMap (now map) ≡ true) × (length (now map) ≤ 16384) ⌝ }
+    requires { ⌜ 1 ≤ heldFrom p 0 (decode (now map)) ⌝ }
+    ensures { λ r. ⌜ r ≡ reachFrom p 0 (decode (now (map .entry))) ⌝ }
+{
+    let pages = map[p] / 2;
+    let next = p + pages as usize;
+    if map.len() <= next {
+        return pages;
+    }
+    let follower = map[next];
+    if follower % 2 != 0 {
+        return pages;
+    }
+    pages + follower / 2
+}
+
 // The page of the segment before the one at page p; p where that is the first.
 fn previous(map: &[u32], p: usize) -> usize
     requires { ⌜ soundMap (now map) ≡ true ⌝ }

@@ -60,8 +60,10 @@ pub fn clear_pages(mem: &mut [u32], r: Region)
 
 // The most that the held segment at page p of the region can have.
 pub fn reach_of(mem: &[u32], r: Region, p: u32) -> u32
+    requires { ⌜ Sited (now mem) r ⌝ }
+    requires { ⌜ 1 ≤ heldFrom p 0 (segments (now mem) r) ⌝ }
     ensures { λ n. ⌜ n ≡ reachFrom p 0 (segments (now (mem .entry)) r) ⌝ }
 {
     let words = map::map_words(mem, r);
-    map::reach(words, p)
+    leaf::reach_at(words, p as usize)
 }

@@ -17,6 +17,8 @@ use Rattle.manager.specs.Result.{Result, Performs, answerOf, replied, refused, 
 use Rattle.manager.specs.Result.Laws.{performs-by, performs-reply}
 use Rattle.manager.specs.Map.{Segment, free, held, decode, soundMap, total, freeSizes, heldSizes}
 use Rattle.manager.specs.Paged.{heldFrom}
+use Rattle.map.specs.Word.{heldWordAt, oneFree}
+use Rattle.map.proofs.Word.{held-of, held-told, free-told}
 use Rattle.manager.specs.Region.{dead, pagesOf, pageAt, startsPage, segments, mapWords, heldAt, anyHeld}
 use Rattle.manager.specs.Queue.{leaving, afterTick}
 use Rattle.manager.specs.Regions.{regionNamed, identRegion, deleteRegion, segmentSize, regionInformation, informationOf, tick}
@@ -99,17 +101,23 @@ module _ (m : List ℕ) (d : Manager) (a : Answer) where
 
       module _ (l : r .name ≡ 0 → ⊥) where
         -- delete
-        module _ (c : Bool) (ec : c ≡ anyHeld m r) where
-          pub delete-held : c ≡ true → Said a d ResourceInUse 0 → Performs (deleteRegion m d id) m a
+        module _ (c : Bool) (oc : c ≡ oneFree m r) where
+          ec : not c ≡ anyHeld m r
+          ec = free-told m d id books r er l c oc
+
+          pub delete-held : not c ≡ true → Said a d ResourceInUse 0 → Performs (deleteRegion m d id) m a
           unfolding deleteRegion checked
           delete-held e f = said (deleteRegion m d id) d ResourceInUse 0 f (rw (books, ← er, ne-eqb _ _ l, ← ec, e))
 
-          pub delete-done : c ≡ false → (i : ℕ) → i ≡ slotOf id → (e : Manager) → e ≡ withRegion d i noRegion → Said a e Successful 0 → Performs (deleteRegion m d id) m a
+          pub delete-done : not c ≡ false → (i : ℕ) → i ≡ slotOf id → (e : Manager) → e ≡ withRegion d i noRegion → Said a e Successful 0 → Performs (deleteRegion m d id) m a
           unfolding deleteRegion checked
           delete-done g i ei e x f = said (deleteRegion m d id) e Successful 0 f (rw (books, ← er, ne-eqb _ _ l, ← ec, g, x, ei))
 
         -- size
-        module _ (address n : ℕ) (en : n ≡ heldAt m r address) where
+        module _ (address n : ℕ) (wn : n ≡ heldWordAt m r address) where
+          en : n ≡ heldAt m r address
+          en = held-told m d id books r er l address n wn
+
           pub size-none : n ≡ 0 → Said a d InvalidAddress 0 → Performs (segmentSize m d id address) m a
           unfolding segmentSize checked
           size-none e f = said (segmentSize m d id address) d InvalidAddress 0 f (rw (books, ← er, ne-eqb _ _ l, ← en, eq-eqb _ _ e))
@@ -143,8 +151,9 @@ module _ (m : List ℕ) (d : Manager) (b : Bool) (eb : b ≡ sound m d) (h : b �
   live = rw er (sited m d id (sym eb ∙ h) (ne-eqb _ _ (λ e. l (ap (λ (x : Region). x .name) er ∙ e))))
 
   -- size: the product fits
-  pub size-fits : (address n : ℕ) → n ≡ heldAt m r address → Fits w32 (n * r .page)
-  size-fits address n en =
+  pub size-fits : (address n : ℕ) → n ≡ heldWordAt m r address → Fits w32 (n * r .page)
+  size-fits address n wn =
+      let en : n ≡ heldAt m r address = held-of m r live address n wn in
       fits-under w32 (n * r .page) 65537
       (omega (arith, mul-le-mul-right (r .page) (held-few m r address live), ap (λ (k : ℕ). k * r .page) en, pages-end m r (live .laid))) tt
 

@@ -39,7 +39,7 @@ pub fn delete_region(mem: &[u32], d: Manager, id: u32) -> Answer
     if r.name == 0 {
         return reply::reply(d, Status::InvalidId, 0);
     }
-    if map::any_held_in(mem, r) {
+    if !map::one_free(mem, r) {
         return reply::reply(d, Status::ResourceInUse, 0);
     }
     let none = Region {
@@ -64,7 +64,7 @@ pub fn segment_size(mem: &[u32], d: Manager, id: u32, address: u32) -> Answer
     if r.name == 0 {
         return reply::reply(d, Status::InvalidId, 0);
     }
-    let pages = map::held_at(mem, r, address);
+    let pages = map::held_word_at(mem, r, address);
     if pages == 0 {
         return reply::reply(d, Status::InvalidAddress, 0);
     }

@@ -37,8 +37,8 @@ part-result-end-2 c = search needs
 returns-2 : tie.Need-returns-2
 returns-2 c = search (needs, reading)
 
-held-at-requires : tie.Need-held-at-requires
-held-at-requires c κs = search needs
+held-word-at-requires : tie.Need-held-word-at-requires
+held-word-at-requires c κs = search needs
 
 sub-result-3 : tie.Need-sub-result-3
 sub-result-3 c = search needs
@@ -67,7 +67,7 @@ add-e c =
     omega (
       arith,
       words-in _ _ _ (s .is-sound .ensures) (s .before .before .args .id) _ (not-false _ (r .before .if1 .left)) _ (r .region-of .ensures)
-          (h .before .if2 .left) _ (h .held-at .ensures) (c .before .if3 .left) _ (c .words-of .ensures),
+          (h .before .if2 .left) _ (h .held-word-at .ensures) (c .before .if3 .left) _ (c .words-of .ensures),
     )
 
 mul-result : tie.Need-mul-result
@@ -99,7 +99,7 @@ read-segment-spec =
     part-result-start-2
     part-result-end-2
     returns-2
-    held-at-requires
+    held-word-at-requires
     sub-result-3
     part-result-start-3
     part-result-end-3

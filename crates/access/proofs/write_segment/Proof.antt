@@ -14,7 +14,7 @@ use Rattle.access.proofs.write_segment.Lts as lts
 use Rattle.access.proofs.copier.copy.Reads as copy-reads
 use Rattle.access.proofs.words_of.Reads as words-of-reads
 use Rattle.invariant.proofs.is_sound.Reads as is-sound-reads
-use Rattle.map.proofs.held_at.Reads as held-at-reads
+use Rattle.map.proofs.held_word_at.Reads as held-word-at-reads
 use Rattle.objects.proofs.region_of.Reads as region-of-reads
 use Rattle.reply.proofs.reply.Reads as reply-reads
 
@@ -42,8 +42,8 @@ same-length-2 c = search needs
 returns-2 : tie.Need-returns-2
 returns-2 c = search (needs, writing)
 
-held-at-requires : tie.Need-held-at-requires
-held-at-requires c κs = search needs
+held-word-at-requires : tie.Need-held-word-at-requires
+held-word-at-requires c κs = search needs
 
 reply-requires-3 : tie.Need-reply-requires-3
 reply-requires-3 c κs = search needs
@@ -62,7 +62,7 @@ add-end c = search needs
 
 -- the segment lies in the memory
 ends : (w : lts.After-words-of
-    (is-sound-reads.Asked, is-sound-reads.Learnt, reply-reads.Asked, reply-reads.Learnt, region-of-reads.Asked, region-of-reads.Learnt, held-at-reads.Asked, held-at-reads.Learnt, words-of-reads.Asked, words-of-reads.Learnt, copy-reads.Asked, copy-reads.Learnt)
+    (is-sound-reads.Asked, is-sound-reads.Learnt, reply-reads.Asked, reply-reads.Learnt, region-of-reads.Asked, region-of-reads.Learnt, held-word-at-reads.Asked, held-word-at-reads.Learnt, words-of-reads.Asked, words-of-reads.Learnt, copy-reads.Asked, copy-reads.Learnt)
     reads.Pre reads.Post)
     → w .before .before .before .before .before .before .before .before .before .before .before .before .args .address / 4 + w .words-of .result
     ≤ length (now (w .before .before .before .before .before .before .before .before .before .before .before .before .args .mem))
@@ -71,7 +71,7 @@ ends w =
     let r = h .before .before .before .before in
     let s = r .before .before in
     words-in _ _ _ (s .is-sound .ensures) (s .before .before .before .before .args .id) _ (not-false _ (r .before .if1 .left)) _ (r .region-of .ensures)
-    (h .before .before .if2 .left) _ (h .held-at .ensures) (w .before .if3 .left) _ (w .words-of .ensures)
+    (h .before .before .if2 .left) _ (h .held-word-at .ensures) (w .before .if3 .left) _ (w .words-of .ensures)
 
 reply-requires-4 : tie.Need-reply-requires-4
 reply-requires-4 c κs = search needs
@@ -128,7 +128,7 @@ write-segment-spec =
     reply-requires-2
     same-length-2
     returns-2
-    held-at-requires
+    held-word-at-requires
     reply-requires-3
     same-length-3
     returns-3

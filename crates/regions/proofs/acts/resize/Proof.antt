@@ -20,6 +20,6 @@ resize-spec =
     (λ c. search (needs, resizing))
     (λ c κs. search (needs, resizing))
     (λ c κs. search (needs, resizing))
-    (λ c κs. search (needs, resizing))
+    (λ c κs. (search (needs, resizing), search (needs, resizing), search (needs, resizing)))
     (λ c. search (needs, resizing))
     (λ c. search (needs, resizing)))
