@@ -154,17 +154,54 @@ module _ {A : Type 0} (f : A → List ℕ) (size n base : ℕ) (l : List A) (ws�
     unfolding allWords
     put-end h = let past : length l ≤ k = omega (arith, v .some) in rw (drop-of-length-le l {i = k} past) at (v .rest)
 
+-- the words of one element, stored one by one
+module _ (ws : List ℕ) (at a b c d e : ℕ) where
+  store-five : set (set (set (set (set ws at a) (at + 1) b) (at + 2) c) (at + 3) d) (at + 4) e ≡ sets ws at (a ∷ b ∷ c ∷ d ∷ e ∷ [])
+  store-five =
+      let i₁ : at + 1 ≡ suc at = omega arith in
+      let i₂ : at + 2 ≡ suc (suc at) = omega arith in
+      let i₃ : at + 3 ≡ suc (suc (suc at)) = omega arith in
+      let i₄ : at + 4 ≡ suc (suc (suc (suc at))) = omega arith in
+      rw (i₁, i₂, i₃, i₄)
+
+  store-seven : (f g : ℕ)
+      → set (set (set (set (set (set (set ws at a) (at + 1) b) (at + 2) c) (at + 3) d) (at + 4) e) (at + 5) f) (at + 6) g
+      ≡ sets ws at (a ∷ b ∷ c ∷ d ∷ e ∷ f ∷ g ∷ [])
+  store-seven f g =
+      let i₁ : at + 1 ≡ suc at = omega arith in
+      let i₂ : at + 2 ≡ suc (suc at) = omega arith in
+      let i₃ : at + 3 ≡ suc (suc (suc at)) = omega arith in
+      let i₄ : at + 4 ≡ suc (suc (suc (suc at))) = omega arith in
+      let i₅ : at + 5 ≡ suc (suc (suc (suc (suc at)))) = omega arith in
+      let i₆ : at + 6 ≡ suc (suc (suc (suc (suc (suc at))))) = omega arith in
+      rw (i₁, i₂, i₃, i₄, i₅, i₆)
+
 -- a region put, its choice by itself
-pub region-put : (ws ws′ : List ℕ) (at : ℕ) (r : Region) (w : ℕ) → w ≡ orderWord (r .order)
-    → ws′ ≡ sets ws at (r .name ∷ r .start ∷ r .length ∷ r .page ∷ w ∷ []) → ws′ ≡ sets ws at (regionWords r)
+pub region-put : (ws : List ℕ) (at : ℕ) (r : Region) (w : ℕ) → w ≡ orderWord (r .order)
+    → set (set (set (set (set ws at (r .name)) (at + 1) (r .start)) (at + 2) (r .length)) (at + 3) (r .page)) (at + 4) w ≡ sets ws at (regionWords r)
 unfolding regionWords
-region-put ws ws′ at r w e h = rw e at h
+region-put ws at r w e = rw (← e) (store-five ws at (r .name) (r .start) (r .length) (r .page) w)
+
+pub partition-put : (ws : List ℕ) (at : ℕ) (p : Partition)
+    → set (set (set (set (set (set (set ws at (p .name)) (at + 1) (p .start)) (at + 2) (p .length)) (at + 3) (p .size)) (at + 4) (p .front)) (at + 5) (p .rear)) (at + 6) (p .free)
+    ≡ sets ws at (partitionWords p)
+partition-put ws at p = store-seven ws at (p .name) (p .start) (p .length) (p .size) (p .front) (p .rear) (p .free)
+
+pub waiter-put : (ws : List ℕ) (at : ℕ) (w : Waiter)
+    → set (set (set (set (set ws at (w .task)) (at + 1) (w .region)) (at + 2) (w .size)) (at + 3) (w .priority)) (at + 4) (w .ticks) ≡ sets ws at (waiterWords w)
+waiter-put ws at w = store-five ws at (w .task) (w .region) (w .size) (w .priority) (w .ticks)
+
+-- words put leave as many
+pub as-many : (ws ws′ vs : List ℕ) (i n : ℕ) → ws′ ≡ sets ws i vs → length ws ≡ n → length ws′ ≡ n
+as-many ws ws′ vs i n e h = ap length e ∙ length-sets ws i vs ∙ h
 
 pub five-words : (r : Region) → length (regionWords r) ≡ 5
 unfolding regionWords
 five-words r = refl
 
-pub ruleset packing = (unmapped, at-first, choose-start, choose-next, choose-none, choose-end, copy-start, copy-next, copy-end, copy-full, put-start, put-next, put-end, region-put, five-words)
+pub ruleset one-by-one = (region-put, partition-put, waiter-put)
+
+pub ruleset packing = (unmapped, at-first, choose-start, choose-next, choose-none, choose-end, copy-start, copy-next, copy-end, copy-full, put-start, put-next, put-end, five-words)
 
 -- an array that starts as the fresh record's
 module _ (ws : List ℕ) (d : Manager) (e : d ≡ fresh) where
@@ -228,4 +265,4 @@ module _ (d : Manager) (ws : List ℕ) where
       let j₂ : sets ws₁ 40 (ps ++ qs) ≡ sets ws₂ 96 qs = rw e₂ (rw l₂ at (sets-append ps qs ws₁ 40)) in
       rw (eq-eqb (length ws) recordWords h) (e₃ ∙ sym j₂ ∙ sym j₁ ∙ whole)
 
-pub ruleset storing = (unmapped, put-none, put-all)
+pub ruleset storing = (unmapped, as-many, put-none, put-all)

@@ -1,12 +1,13 @@
 // Writing the parts of a record into its words.
-use crate::copy;
 use manager::Order;
 use manager::Partition;
 use manager::Region;
 use manager::Waiter;
 ghost use mathlib.Core.Path.{_≡_};
+ghost use Prim.Native.Nat.{_+_, _≤_};
+ghost use lib.ListN.{length};
 ghost use lib.Seq.{sets};
-ghost use Rattle.packing.specs.Packing.{partitionsAt, waitersAt, allWords, regionWords, partitionWords, waiterWords, orderWord};
+ghost use Rattle.packing.specs.Packing.{recordWords, partitionsAt, waitersAt, allWords, regionWords, partitionWords, waiterWords, orderWord};
 
 fn order(o: Order) -> u32
     ensures { λ r. ⌜ r ≡ orderWord o ⌝ }
@@ -19,31 +20,46 @@ fn order(o: Order) -> u32
 
 // The words of a region from a place on.
 fn region(words: &mut [u32], at: usize, r: Region)
+    requires { ⌜ at + 5 ≤ length (now words) ⌝ }
     ensures { λ _. ⌜ now (words .exit) ≡ sets (now (words .entry)) at (regionWords r) ⌝ }
 {
     let o = r.order;
     let choice = order(o);
-    let from = [r.name, r.start, r.length, r.page, choice];
-    copy(words, at, &from);
+    words[at] = r.name;
+    words[at + 1] = r.start;
+    words[at + 2] = r.length;
+    words[at + 3] = r.page;
+    words[at + 4] = choice;
 }
 
 // The words of a partition from a place on.
 fn partition(words: &mut [u32], at: usize, p: Partition)
+    requires { ⌜ at + 7 ≤ length (now words) ⌝ }
     ensures { λ _. ⌜ now (words .exit) ≡ sets (now (words .entry)) at (partitionWords p) ⌝ }
 {
-    let from = [p.name, p.start, p.length, p.size, p.front, p.rear, p.free];
-    copy(words, at, &from);
+    words[at] = p.name;
+    words[at + 1] = p.start;
+    words[at + 2] = p.length;
+    words[at + 3] = p.size;
+    words[at + 4] = p.front;
+    words[at + 5] = p.rear;
+    words[at + 6] = p.free;
 }
 
 // The words of a waiter from a place on.
 fn waiter(words: &mut [u32], at: usize, w: Waiter)
+    requires { ⌜ at + 5 ≤ length (now words) ⌝ }
     ensures { λ _. ⌜ now (words .exit) ≡ sets (now (words .entry)) at (waiterWords w) ⌝ }
 {
-    let from = [w.task, w.region, w.size, w.priority, w.ticks];
-    copy(words, at, &from);
+    words[at] = w.task;
+    words[at + 1] = w.region;
+    words[at + 2] = w.size;
+    words[at + 3] = w.priority;
+    words[at + 4] = w.ticks;
 }
 
 pub fn regions(words: &mut [u32], all: [Region; 8])
+    requires { ⌜ length (now words) ≡ recordWords ⌝ }
     ensures { λ _. ⌜ now (words .exit) ≡ sets (now (words .entry)) 0 (allWords regionWords all) ⌝ }
 {
     let mut k: usize = 0;
@@ -56,6 +72,7 @@ pub fn regions(words: &mut [u32], all: [Region; 8])
 }
 
 pub fn partitions(words: &mut [u32], all: [Partition; 8])
+    requires { ⌜ length (now words) ≡ recordWords ⌝ }
     ensures { λ _. ⌜ now (words .exit) ≡ sets (now (words .entry)) partitionsAt (allWords partitionWords all) ⌝ }
 {
     let mut k: usize = 0;
@@ -68,6 +85,7 @@ pub fn partitions(words: &mut [u32], all: [Partition; 8])
 }
 
 pub fn waiters(words: &mut [u32], all: [Waiter; 16])
+    requires { ⌜ length (now words) ≡ recordWords ⌝ }
     ensures { λ _. ⌜ now (words .exit) ≡ sets (now (words .entry)) waitersAt (allWords waiterWords all) ⌝ }
 {
     let mut k: usize = 0;

@@ -1,8 +1,8 @@
 -- The partitions before k are put, and those from k on give the whole. Assumes nothing.
 use Prim.Native.Nat.{_-_}
-use borrow.Author.Needs.{needs}
 use Rattle.packing.specs.Packing.{partitionWords, partitionsAt}
 use Rattle.packing.proofs.Laws.{packing, Putting}
+use borrow.Author.Needs.{needs}
 use Rattle.packing.proofs.put.partitions.Statement.{statement}
 use Rattle.packing.proofs.put.partitions.Tie as tie
 

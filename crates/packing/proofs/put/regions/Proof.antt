@@ -1,10 +1,10 @@
 -- The regions before k are put, and those from k on give the whole. Assumes nothing.
 use Prim.Native.Nat.{_-_}
-use borrow.Author.Needs.{needs}
-use Rattle.packing.proofs.Laws.{packing, Putting}
 use Rattle.packing.specs.Packing.{regionWords}
-use Rattle.packing.proofs.put.regions.Tie as tie
+use Rattle.packing.proofs.Laws.{packing, Putting}
+use borrow.Author.Needs.{needs}
 use Rattle.packing.proofs.put.regions.Statement.{statement}
+use Rattle.packing.proofs.put.regions.Tie as tie
 
 abbrev Inv-loop : tie.InvT-loop
 Inv-loop words₀ all k₀ words k = Putting regionWords 5 8 0 all words₀ words k

@@ -1,8 +1,8 @@
 -- The waiters before k are put, and those from k on give the whole. Assumes nothing.
 use Prim.Native.Nat.{_-_}
-use borrow.Author.Needs.{needs}
-use Rattle.packing.proofs.Laws.{packing, Putting}
 use Rattle.packing.specs.Packing.{waiterWords, waitersAt}
+use Rattle.packing.proofs.Laws.{packing, Putting}
+use borrow.Author.Needs.{needs}
 use Rattle.packing.proofs.put.waiters.Statement.{statement}
 use Rattle.packing.proofs.put.waiters.Tie as tie
 
