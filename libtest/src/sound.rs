@@ -326,6 +326,9 @@ fn check_chain(slot: &[u32], memory: &[u32]) -> Result<(), Clause> {
     let (start, length, size) = (slot[1], slot[2], slot[3]);
     let (front, rear, free) = (slot[4], slot[5], slot[6]);
     let buffers = length / size;
+    // One division tells a buffer: the offset is in the buffers' bytes, and a
+    // multiple of their size.
+    let bytes = buffers * size;
     if free == 0 {
         return ask(front == 0 && rear == 0, Clause::EndsOfEmptyChain);
     }
@@ -334,7 +337,7 @@ fn check_chain(slot: &[u32], memory: &[u32]) -> Result<(), Clause> {
     for _ in 0..free {
         ask(address != 0, Clause::ChainTooShort)?;
         let offset = address.wrapping_sub(start);
-        let is_buffer = address >= start && offset % size == 0 && offset / size < buffers;
+        let is_buffer = address >= start && offset < bytes && offset % size == 0;
         ask(is_buffer, Clause::NotABuffer)?;
         let word = address as usize / 4;
         ask(memory[word + 1] == before, Clause::BackLink)?;
