@@ -7,8 +7,8 @@ use Prim.Native.Nat.{ℕ, zero, suc, _+_, _-_, _*_, _≤_, _<_}
 use native.Mathlib.Omega.{arith}
 use borrow.Author.Tests.{le-leb, lt-leb, eq-eqb, ne-eqb, eqb-true, not-true, not-false}
 use lib.Dec.{eqb, leb}
-use lib.ListN.{length, replicate}
-use lib.Seq.{sets}
+use lib.ListN.{length, set, replicate, length-set}
+use lib.Seq.{sets, length-sets}
 use Rattle.manager.specs.Lists.Laws.{and-first}
 use Rattle.manager.specs.Record.{fresh, slots, tasks, noNotice}
 use Rattle.manager.specs.Result.{Result, Performs, pad}
@@ -35,31 +35,48 @@ module _ (w : ℕ) where
 pub ruleset waiting = (no-wait, with-wait)
 
 -- AN ANSWER IN WORDS
-pub notice-put : (ws ws′ : List ℕ) (at : ℕ) (n : Notice) (w : ℕ) → w ≡ numberOf (n .status) → ws′ ≡ sets ws at (n .task ∷ w ∷ n .address ∷ [])
-    → ws′ ≡ sets ws at (noticeWords n)
+pub notice-put : (ws : List ℕ) (at : ℕ) (n : Notice) (w : ℕ) → w ≡ numberOf (n .status)
+    → set (set (set ws at (n .task)) (at + 1) w) (at + 2) (n .address) ≡ sets ws at (noticeWords n)
 unfolding noticeWords
-notice-put ws ws′ at n w e h = rw e at h
+notice-put ws at n w e =
+    let i₁ : at + 1 ≡ suc at = omega arith in
+    let i₂ : at + 2 ≡ suc (suc at) = omega arith in
+    rw (← e, i₁, i₂)
 
 pub three-words : (n : Notice) → length (noticeWords n) ≡ 3
 unfolding noticeWords
 three-words n = refl
 
-pub answer-put : (ws ws₁ ws₂ : List ℕ) (a : Answer)
-    → ws₁
-    ≡ sets ws 0
-    (a .value
-    ∷ a .information .«free_count»
-    ∷ a .information .«free_largest»
-    ∷ a .information .«free_total»
-    ∷ a .information .«held_count»
-    ∷ a .information .«held_largest»
-    ∷ a .information .«held_total»
-    ∷ [])
-    → ws₂ ≡ sets ws₁ noticesAt (allWords noticeWords (a .notices)) → ws₂ ≡ sets ws 0 (answerWords a)
+pub answer-put : (ws ws′ : List ℕ) (a : Answer)
+    → ws′
+    ≡ sets
+    (set
+    (set
+    (set
+    (set
+    (set (set (set ws 0 (a .value)) 1 (a .information .«free_count»)) 2 (a .information .«free_largest»))
+    3
+    (a .information .«free_total»))
+    4
+    (a .information .«held_count»))
+    5
+    (a .information .«held_largest»))
+    6
+    (a .information .«held_total»))
+    noticesAt
+    (allWords noticeWords (a .notices))
+    → ws′ ≡ sets ws 0 (answerWords a)
 unfolding answerWords
-answer-put ws ws₁ ws₂ a e g = rw e at g
+answer-put ws ws′ a e = e
 
-pub ruleset answering = (notice-put, three-words, put-start, put-next, put-end, answer-put)
+-- as many words as before
+pub answer-same : (ws ws′ vs : List ℕ) (a b c d e f g : ℕ)
+    → ws′ ≡ sets (set (set (set (set (set (set (set ws 0 a) 1 b) 2 c) 3 d) 4 e) 5 f) 6 g) noticesAt vs → length ws′ ≡ length ws
+answer-same ws ws′ vs a b c d e f g h =
+    let put = set (set (set (set (set (set (set ws 0 a) 1 b) 2 c) 3 d) 4 e) 5 f) 6 g in
+    ap length h ∙ length-sets put noticesAt vs ∙ simp length-set
+
+pub ruleset answering = (notice-put, three-words, put-start, put-next, put-end, answer-put, answer-same)
 
 -- WORDS THAT SAY A RECORD, AND OTHERS
 module _ (b : Bool) (good : Manager) where

@@ -1,11 +1,11 @@
 -- The notices before k are put, and those from k on give the whole. Assumes nothing.
 use Prim.Native.Nat.{_-_}
-use borrow.Author.Needs.{needs}
 use Rattle.packing.proofs.Laws.{Putting}
 use Rattle.firmware.proofs.Laws.{answering}
 use Rattle.firmware.specs.Exported.{noticeWords, noticesAt}
-use Rattle.firmware.proofs.answer.notices.Tie as tie
+use borrow.Author.Needs.{needs}
 use Rattle.firmware.proofs.answer.notices.Statement.{statement}
+use Rattle.firmware.proofs.answer.notices.Tie as tie
 
 abbrev Inv-loop : tie.InvT-loop
 Inv-loop words₀ all k₀ words k = Putting noticeWords 3 16 noticesAt all words₀ words k
