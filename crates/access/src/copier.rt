@@ -5,7 +5,7 @@ ghost use lib.ListN.{length};
 ghost use lib.Seq.{sets};
 
 // Copies all of src to the start of dst.
-pub fn copy(dst: &mut [u32], src: &[u32])
+pub(crate) fn copy(dst: &mut [u32], src: &[u32])
     requires { ⌜ length (now src) ≤ length (now dst) ⌝ }
     ensures { λ _. ⌜ now (dst .exit) ≡ sets (now (dst .entry)) 0 (now (src .entry)) ⌝ }
 {

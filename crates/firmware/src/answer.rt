@@ -1,5 +1,6 @@
 // An answer as words.
 use manager::Answer;
+use manager::Manager;
 use manager::Notice;
 ghost use mathlib.Core.Path.{_≡_};
 ghost use Prim.Native.Nat.{_+_, _≤_};
@@ -20,12 +21,12 @@ fn notice(words: &mut [u32], at: usize, n: Notice)
     words[at + 2] = n.address;
 }
 
-fn notices(words: &mut [u32], all: [Notice; 16])
+fn notices(words: &mut [u32], all: [Notice; Manager::TASKS])
     requires { ⌜ answerSize ≤ length (now words) ⌝ }
     ensures { λ _. ⌜ now (words .exit) ≡ sets (now (words .entry)) noticesAt (allWords noticeWords all) ⌝ }
 {
     let mut k: usize = 0;
-    while k < 16 {
+    while k < Manager::TASKS {
         let x = all[k];
         let at = 7 + 3 * k;
         notice(words, at, x);
@@ -34,7 +35,7 @@ fn notices(words: &mut [u32], all: [Notice; 16])
 }
 
 // The words of an answer.
-pub fn put(words: &mut [u32], a: Answer)
+pub(crate) fn put(words: &mut [u32], a: Answer)
     requires { ⌜ answerSize ≤ length (now words) ⌝ }
     ensures { λ _. ⌜ now (words .exit) ≡ sets (now (words .entry)) 0 (answerWords a) ⌝ }
 {

@@ -11,7 +11,7 @@ pub const ANSWER_WORDS: usize = 55;
 pub const INTERNAL_ERROR: u32 = 25;
 
 // The choice that a word says: 0 is the first.
-pub fn wait_at(word: u32) -> Wait
+pub(crate) fn wait_at(word: u32) -> Wait
     ensures { λ r. ⌜ r ≡ waitAt word ⌝ }
 {
     if word == 0 {
@@ -21,7 +21,7 @@ pub fn wait_at(word: u32) -> Wait
 }
 
 // A call on the record's words: unpacks, performs, packs.
-pub fn run_call(state: &mut [u32], memory: &mut [u32], answer: &mut [u32], call: Call) -> u32
+pub(crate) fn run_call(state: &mut [u32], memory: &mut [u32], answer: &mut [u32], call: Call) -> u32
     ensures { λ r. ⌜ Leaves (called (now (state .entry)) (now (memory .entry)) (now (answer .entry)) call)
         (now (state .exit)) (now (memory .exit)) (now (answer .exit)) r ⌝ }
 {

@@ -176,18 +176,18 @@ module _ (m : List ℕ) (d : Manager) where
   front-first [] = refl
   front-first (x ∷ l) = rw (front-order x)
 
-  none-first : (l : List Waiter) → every (notMet (replicate 17 false)) l ≡ true
-  none-first l = every-true (notMet (replicate 17 false)) (λ x. rw (none-met 17 (x .task)) (or-true (unused x))) l
+  none-first : (l : List Waiter) → every (notMet (replicate (tasks + 1) false)) l ≡ true
+  none-first l = every-true (notMet (replicate (tasks + 1) false)) (λ x. rw (none-met (tasks + 1) (x .task)) (or-true (unused x))) l
 
-  left-start : left m d (replicate 17 false) frontWaiter (d .waiters) ≡ soundQueue m d
+  left-start : left m d (replicate (tasks + 1) false) frontWaiter (d .waiters) ≡ soundQueue m d
   unfolding left soundQueue
   left-start = rw (none-first (d .waiters), front-first (d .waiters))
 
 -- HOW FAR THE WALK HAS COME: to place i, behind `before`, with the facts of one region kept
 pub record Walk (m : List ℕ) (rs : List Region) (ws : List Waiter) (f : Facts) (before : Waiter) (seen : List Bool) (w : Bool) (i : ℕ) : Type 0 where
-  pub places : length ws ≡ 16
-  pub slots-in : length rs ≡ 8
-  pub seats : length seen ≡ 17
+  pub places : length ws ≡ tasks
+  pub slots-in : length rs ≡ slots
+  pub seats : length seen ≡ (tasks + 1)
   pub kept : f ≡ factsOf m (f .id) (regionOf (queueOf rs ws) (f .id))
   pub rest : left m (queueOf rs ws) seen before (drop i ws) ≡ w
 
@@ -214,12 +214,12 @@ getD-any [] i x y h = absurd (omega arith)
 getD-any (a ∷ l) zero x y h = refl
 getD-any (a ∷ l) (suc i) x y h = getD-any l i x y (omega arith)
 
-no-region : (rs : List Region) (id : ℕ) → length rs ≡ 8 → 8 ≤ slotOf id → getD rs (slotOf id) noRegion ≡ noRegion
+no-region : (rs : List Region) (id : ℕ) → length rs ≡ slots → 8 ≤ slotOf id → getD rs (slotOf id) noRegion ≡ noRegion
 no-region rs id h g = List·getD-eq-default rs noRegion (omega arith)
 
 module _ (m : List ℕ) (rs : List Region) (ws : List Waiter) where
-  pub walk-start : (f : Facts) (before : Waiter) → length ws ≡ 16 → length rs ≡ 8 → f ≡ noFacts → before ≡ frontWaiter
-      → Walk m rs ws f before (replicate 17 false) (soundQueue m (queueOf rs ws)) 0
+  pub walk-start : (f : Facts) (before : Waiter) → length ws ≡ tasks → length rs ≡ slots → f ≡ noFacts → before ≡ frontWaiter
+      → Walk m rs ws f before (replicate (tasks + 1) false) (soundQueue m (queueOf rs ws)) 0
   walk-start f before h g ef eb =
       rw (ef, eb)
       (record {
@@ -230,7 +230,7 @@ module _ (m : List ℕ) (rs : List Region) (ws : List Waiter) where
         rest = left-start m (queueOf rs ws);
       })
 
-  module _ (f : Facts) (before : Waiter) (seen : List Bool) (w : Bool) (i : ℕ) (v : Walk m rs ws f before seen w i) (h : i < 16) (z : Waiter) where
+  module _ (f : Facts) (before : Waiter) (seen : List Bool) (w : Bool) (i : ℕ) (v : Walk m rs ws f before seen w i) (h : i < tasks) (z : Waiter) where
     here : left m (queueOf rs ws) seen before (getD ws i z ∷ drop (i + 1) ws) ≡ w
     here = rw (← rest-cons ws i z (omega (arith, v .places))) (v .rest)
 
@@ -279,7 +279,7 @@ module _ (m : List ℕ) (rs : List Region) (ws : List Waiter) where
               sym (left-unsound m (queueOf rs ws) seen before (getD ws i z) (drop (i + 1) ws) (waiter-told false (not-true b g))) ∙ here
 
           module _ (g : not b ≡ false) where
-            pub walk-seat : getD ws i z .task < 17
+            pub walk-seat : getD ws i z .task < (tasks + 1)
             walk-seat = omega (arith, leb-true (getD ws i z .task) tasks (and-first (leb (getD ws i z .task) tasks) _ (sym eb ∙ not-false b g)))
 
             pub walk-met : getD seen (getD ws i z .task) false ≡ true → false ≡ w
@@ -311,7 +311,7 @@ module _ (m : List ℕ) (rs : List Region) (ws : List Waiter) where
                         ∙ here;
                   }
 
-  pub walk-end : (f : Facts) (before : Waiter) (seen : List Bool) (w : Bool) (i : ℕ) → Walk m rs ws f before seen w i → 16 ≤ i → true ≡ w
+  pub walk-end : (f : Facts) (before : Waiter) (seen : List Bool) (w : Bool) (i : ℕ) → Walk m rs ws f before seen w i → tasks ≤ i → true ≡ w
   walk-end f before seen w i v h =
       sym (left-none m (queueOf rs ws) seen before) ∙ rw (drop-of-length-le ws {i = i} (omega (arith, v .places))) at (v .rest)
 

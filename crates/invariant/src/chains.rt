@@ -23,7 +23,7 @@ fn is_buffer(p: Partition, bytes: u32, a: u32) -> bool
 
 // Whether the chain runs from the front to the rear in exactly the kept count, its links agreeing both ways. A chain that comes back to
 // a buffer fails there: the link back to the buffer before it is another. Each buffer has both its links in the memory.
-pub fn sound_chain(mem: &[u32], p: Partition) -> bool
+pub(crate) fn sound_chain(mem: &[u32], p: Partition) -> bool
     requires { ⌜ Laid (now mem) p ⌝ }
     ensures { λ r. ⌜ r ≡ soundChain (now (mem .entry)) p ⌝ }
 {

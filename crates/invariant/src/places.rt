@@ -10,6 +10,7 @@ ghost use Prim.Native.Nat.{_≤_};
 ghost use lib.Dec.{eqb};
 ghost use lib.ListN.{drop};
 ghost use Rattle.manager.specs.Lists.{every};
+ghost use Rattle.manager.specs.Record.{tasks};
 ghost use Rattle.manager.specs.Region.{dead, anyHeld};
 ghost use Rattle.manager.specs.Sound.{emptyWaiter, soundQueue};
 ghost use Rattle.invariant.specs.Waiters.{factsOf, noFacts, frontWaiter, soundRequest, soundIn, queueOf};
@@ -90,7 +91,7 @@ fn sound_request(f: Facts, w: Waiter) -> bool
 fn sound_in(f: Facts, w: Waiter) -> bool
     ensures { λ b. ⌜ b ≡ soundIn f w ⌝ }
 {
-    if 16 < w.task {
+    if Manager::TASKS < w.task as usize {
         return false;
     }
     if !f.held {
@@ -131,8 +132,8 @@ fn in_front() -> Waiter
 }
 
 // Whether every place from an index on is unused.
-fn unused_from(ws: [Waiter; 16], from: usize) -> bool
-    requires { ⌜ from ≤ 16 ⌝ }
+fn unused_from(ws: [Waiter; Manager::TASKS], from: usize) -> bool
+    requires { ⌜ from ≤ tasks ⌝ }
     ensures { λ b. ⌜ b ≡ every emptyWaiter (drop from ws) ⌝ }
 {
     let mut i = from;
@@ -147,12 +148,12 @@ fn unused_from(ws: [Waiter; 16], from: usize) -> bool
 }
 
 // Whether the queue is sound. `seen` has the tasks met so far; the waiter before the first one stands in front of every other.
-pub fn sound_queue(mem: &[u32], regions: [Region; 8], ws: [Waiter; 16]) -> bool
+pub(crate) fn sound_queue(mem: &[u32], regions: [Region; Manager::SLOTS], ws: [Waiter; Manager::TASKS]) -> bool
     ensures { λ b. ⌜ b ≡ soundQueue (now (mem .entry)) (queueOf regions ws) ⌝ }
 {
     let mut facts = no_facts();
     let mut before = in_front();
-    let mut seen = [false; 17];
+    let mut seen = [false; Manager::TASKS + 1];
     let mut i: usize = 0;
     while i < Manager::TASKS {
         let w = ws[i];

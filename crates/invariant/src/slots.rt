@@ -126,7 +126,7 @@ fn sound_partition(mem: &[u32], p: Partition) -> bool
 }
 
 // Whether every region slot is sound.
-pub fn sound_regions(mem: &[u32], regions: [Region; 8]) -> bool
+pub(crate) fn sound_regions(mem: &[u32], regions: [Region; 8]) -> bool
     ensures { λ b. ⌜ b ≡ every (soundRegion (now (mem .entry))) regions ⌝ }
 {
     let mut i: usize = 0;
@@ -141,7 +141,7 @@ pub fn sound_regions(mem: &[u32], regions: [Region; 8]) -> bool
 }
 
 // Whether every partition slot is sound.
-pub fn sound_partitions(mem: &[u32], partitions: [Partition; 8]) -> bool
+pub(crate) fn sound_partitions(mem: &[u32], partitions: [Partition; 8]) -> bool
     ensures { λ b. ⌜ b ≡ every (soundPartition (now (mem .entry))) partitions ⌝ }
 {
     let mut i: usize = 0;

@@ -19,7 +19,7 @@ use Rattle.manager.specs.Lists.{every, some, pairwise}
 use Rattle.manager.proofs.Laws.Lists.{and-first, and-second, rest-cons, every-cons, every-none, Pairing, pairwise-start, pairwise-next, pairwise-fail, pairwise-end}
 use Rattle.manager.specs.Region.{areasOf, areaOf, regionAreas, partitionAreas, overlap}
 use Rattle.objects.specs.declared.Gathered.{Gathered}
-use Rattle.objects.specs.Areas.{nowhere, somewhere, Gathers}
+use Rattle.objects.specs.Areas.{areaPlaces, nowhere, somewhere, Gathers}
 use Rattle.objects.proofs.Laws.{unmapped}
 
 abbrev clear : Area → Area → Bool
@@ -94,11 +94,11 @@ somewhere-append (x ∷ k) l = append-by x l (nowhere x) k (somewhere-append k l
 
 -- GATHERING. So many areas of `whole` that are somewhere stand in front, and those of `left` are to come
 pub record Gathering (whole left all : List Area) (k : ℕ) : Type 0 where
-  pub size : length all ≡ 16
+  pub size : length all ≡ areaPlaces
   pub done : take k all ++ somewhere left ≡ somewhere whole
 
 module _ (whole left all : List Area) (k : ℕ) (x : Area) where
-  gather-by : (b : Bool) → nowhere x ≡ b → k < 16 → Gathering whole (x ∷ left) all k → Gathering whole left (set all k x) (cond b k (k + 1))
+  gather-by : (b : Bool) → nowhere x ≡ b → k < areaPlaces → Gathering whole (x ∷ left) all k → Gathering whole left (set all k x) (cond b k (k + 1))
   unfolding somewhere
   gather-by true e h v =
       record { size = simp length-set (v .size); done = rw (take-set-le k all k x (omega arith)) (rw e at (v .done)) }
@@ -108,7 +108,7 @@ module _ (whole left all : List Area) (k : ℕ) (x : Area) where
         done = rw (add-one, take-suc-set all k x (omega (arith, v .size)), append-snoc) (rw e at (v .done));
       }
 
-  gather-put : k < 16 → Gathering whole (x ∷ left) all k → Gathering whole left (set all k x) (cond (nowhere x) k (k + 1))
+  gather-put : k < areaPlaces → Gathering whole (x ∷ left) all k → Gathering whole left (set all k x) (cond (nowhere x) k (k + 1))
   gather-put = gather-by (nowhere x) refl
 
 gather-end : (whole all : List Area) (k : ℕ) → Gathering whole [] all k → take k all ≡ somewhere whole
@@ -153,7 +153,7 @@ pub record OfAll (rs : List Region) (ps : List Partition) (all : List Area) (cou
   pub gather : Gathering (regionAreas rs ++ partitionAreas ps) (partitionAreas (drop i ps)) all count
 
 module _ (rs : List Region) where
-  pub regions-start : (all : List Area) → length rs ≡ slots → length all ≡ 16 → OfRegions rs all 0 0
+  pub regions-start : (all : List Area) → length rs ≡ slots → length all ≡ areaPlaces → OfRegions rs all 0 0
   regions-start all h g = record { size = h; few = omega arith; within = omega arith; gather = record { size = g; done = refl } }
 
   module _ (all : List Area) (count i : ℕ) (v : OfRegions rs all count i) where
@@ -178,7 +178,7 @@ module _ (rs : List Region) where
         }
 
 module _ (rs : List Region) (ps : List Partition) where
-  pub all-start : (g : Gathered) → Gathers (regionAreas rs) slots g → length ps ≡ slots → length (g .all) ≡ 16 → OfAll rs ps (g .all) (g .count) 0
+  pub all-start : (g : Gathered) → Gathers (regionAreas rs) slots g → length ps ≡ slots → length (g .all) ≡ areaPlaces → OfAll rs ps (g .all) (g .count) 0
   all-start g v h e =
       record {
         size = h;
@@ -200,7 +200,7 @@ module _ (rs : List Region) (ps : List Partition) where
           gather = gather-put _ _ all count x (omega (arith, v .few)) (rw (partition-rest ps i z (omega (arith, v .size))) at (v .gather));
         })
 
-    pub all-end : slots ≤ i → Gathers (regionAreas rs ++ partitionAreas ps) 16 (record { all = all; count = count })
+    pub all-end : slots ≤ i → Gathers (regionAreas rs ++ partitionAreas ps) areaPlaces (record { all = all; count = count })
     unfolding partitionAreas
     all-end h =
         record {
@@ -212,12 +212,12 @@ pub ruleset gathering = (unmapped, regions-start, regions-next, regions-end, all
 
 -- ONE AREA AND THE OTHERS: no area before place i meets a; w says whether none of the `count` areas does
 pub record Clearing (a : Area) (all : List Area) (count : ℕ) (w : Bool) (i : ℕ) : Type 0 where
-  pub size : length all ≡ 16
-  pub few : count ≤ 16
+  pub size : length all ≡ areaPlaces
+  pub few : count ≤ areaPlaces
   pub rest : every (λ b. not (overlap a b)) (drop i (take count all)) ≡ w
 
 module _ (a : Area) (all : List Area) (count : ℕ) where
-  pub clear-start : (k : ℕ) → length all ≡ 16 → count ≤ 16 → Clearing a all count (every (λ b. not (overlap a b)) (drop k (take count all))) k
+  pub clear-start : (k : ℕ) → length all ≡ areaPlaces → count ≤ areaPlaces → Clearing a all count (every (λ b. not (overlap a b)) (drop k (take count all))) k
   clear-start k h f = record { size = h; few = f; rest = refl }
 
   module _ (w : Bool) (i : ℕ) (v : Clearing a all count w i) where
@@ -241,7 +241,7 @@ pub ruleset clearing = (clear-start, clear-turn, clear-met, clear-end)
 
 -- EACH AREA AND THOSE BEHIND IT
 module _ (all : List Area) (count : ℕ) where
-  pub pairs-start : length all ≡ 16 → count ≤ 16 → Pairing (λ a b. not (overlap a b)) (take count all) count (pairwise (λ a b. not (overlap a b)) (take count all)) 0
+  pub pairs-start : length all ≡ areaPlaces → count ≤ areaPlaces → Pairing (λ a b. not (overlap a b)) (take count all) count (pairwise (λ a b. not (overlap a b)) (take count all)) 0
   pairs-start h f = pairwise-start clear (take count all) count (length-take-le count all (omega arith))
 
   module _ (w : Bool) (i : ℕ) (v : Pairing (λ a b. not (overlap a b)) (take count all) count w i) where
@@ -256,7 +256,7 @@ module _ (all : List Area) (count : ℕ) where
     pairs-end h = pairwise-end clear (take count all) count w i v h
 
 -- the areas gathered stand for all
-module _ (l : List Area) (g : Gathered) (v : Gathers l 16 g) (r : Bool) where
+module _ (l : List Area) (g : Gathered) (v : Gathers l areaPlaces g) (r : Bool) where
   pub some-of : (a : Area) → r ≡ every (λ b. not (overlap a b)) (drop 0 (take (g .count) (g .all))) → not r ≡ some (overlap a) l
   some-of a h = ap not (h ∙ ap (every (clear a)) (v .all) ∙ every-somewhere a l) ∙ some-not a l
 

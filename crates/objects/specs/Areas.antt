@@ -1,12 +1,17 @@
 -- The areas of the objects without those of empty slots, which have no start and no byte and so meet none. Assumes nothing.
-use Prim.Native.Nat.{ℕ, _≤_}
+use Prim.Native.Nat.{ℕ, _*_, _≤_}
 use mathlib.Core.Path.{_≡_}
 use mathlib.Core.Bool.{Bool, cond, _&&_}
 use mathlib.Core.List.{List, [], _∷_}
 use lib.Dec.{eqb}
 use lib.ListN.{take}
+use Rattle.manager.specs.Record.{slots}
 use Rattle.manager.specs.declared.Area.{Area}
 use Rattle.objects.specs.declared.Gathered.{Gathered}
+
+-- how many areas objects can have: one a slot, of both kinds
+abbrev pub areaPlaces : ℕ
+areaPlaces = 2 * slots
 
 abbrev pub nowhere : Area → Bool
 nowhere a = eqb (a .start) 0 && eqb (a .length) 0

@@ -15,7 +15,7 @@ ghost use Rattle.manager.specs.Region.{regionAreas, areas, overlap};
 ghost use Rattle.manager.specs.Regions.{overlaps, regionNamed};
 ghost use Rattle.manager.specs.Partitions.{partitionNamed};
 ghost use Rattle.manager.specs.Sound.{soundAreas};
-ghost use Rattle.objects.specs.Areas.{nowhere, Gathers};
+ghost use Rattle.objects.specs.Areas.{areaPlaces, nowhere, Gathers};
 
 // The place of an id in its array; past the end for id 0.
 pub fn slot_of(id: u32) -> usize
@@ -134,15 +134,18 @@ pub fn overlap(a: Area, b: Area) -> bool
     (b.start as u64) < a.start as u64 + a.length as u64
 }
 
+// How many areas objects can have: one a slot, of both kinds.
+const AREAS: usize = 2 * Manager::SLOTS;
+
 // The areas of the objects, in front of places that count for nothing. Those of empty slots are left out: they meet none.
 struct Gathered {
-    all: [Area; 16],
+    all: [Area; AREAS],
     count: usize,
 }
 
 // How many areas there are with one more, which does not count where it has no start and no byte.
 fn counted(n: usize, a: Area) -> usize
-    requires { ⌜ n < 16 ⌝ }
+    requires { ⌜ n < areaPlaces ⌝ }
     ensures { λ r. ⌜ r ≡ cond (nowhere a) n (n + 1) ⌝ }
 {
     if a.start != 0 {
@@ -156,13 +159,13 @@ fn counted(n: usize, a: Area) -> usize
 
 // The areas of the regions.
 fn region_areas(d: Manager) -> Gathered
-    ensures { λ r. ⌜ Gathers (regionAreas (d .regions)) 8 r ⌝ }
+    ensures { λ r. ⌜ Gathers (regionAreas (d .regions)) slots r ⌝ }
 {
     let none = Area {
         start: 0,
         length: 0,
     };
-    let mut all = [none; 16];
+    let mut all = [none; AREAS];
     let mut count: usize = 0;
     let mut i: usize = 0;
     while i < Manager::SLOTS {
@@ -180,7 +183,7 @@ fn region_areas(d: Manager) -> Gathered
 
 // The areas of all objects: those of the regions, then those of the partitions.
 fn object_areas(d: Manager) -> Gathered
-    ensures { λ r. ⌜ Gathers (areas d) 16 r ⌝ }
+    ensures { λ r. ⌜ Gathers (areas d) areaPlaces r ⌝ }
 {
     let regions = region_areas(d);
     let mut all = regions.all;
@@ -200,8 +203,8 @@ fn object_areas(d: Manager) -> Gathered
 }
 
 // Whether an area meets none of the areas from a place on, of which there are so many.
-fn meets_none(a: Area, all: [Area; 16], from: usize, count: usize) -> bool
-    requires { ⌜ count ≤ 16 ⌝ }
+fn meets_none(a: Area, all: [Area; AREAS], from: usize, count: usize) -> bool
+    requires { ⌜ count ≤ areaPlaces ⌝ }
     ensures { λ r. ⌜ r ≡ every (λ b. not (overlap a b)) (drop from (take count all)) ⌝ }
 {
     let mut i = from;

@@ -96,15 +96,15 @@ module _ (d : Manager) (h₁ : length (d .regions) ≡ slots) (h₂ : length (d 
   qs : List ℕ
   qs = allWords waiterWords (d .waiters)
 
-  so-many-regions : length rs ≡ 40
+  so-many-regions : length rs ≡ partitionsAt
   unfolding rs
   so-many-regions = all-length regionWords 5 slots five-words (d .regions) h₁
 
-  so-many-partitions : length ps ≡ 56
+  so-many-partitions : length ps ≡ (7 * slots)
   unfolding ps
   so-many-partitions = all-length partitionWords 7 slots (λ p. refl) (d .partitions) h₂
 
-  so-many-waiters : length qs ≡ 80
+  so-many-waiters : length qs ≡ (5 * tasks)
   unfolding qs
   so-many-waiters = all-length waiterWords 5 tasks (λ q. refl) (d .waiters) h₃
 
@@ -124,11 +124,11 @@ module _ (d : Manager) (h₁ : length (d .regions) ≡ slots) (h₂ : length (d 
       let e₁ : allAt regionAt 5 slots (rs ++ (ps ++ qs)) 0 ≡ d .regions
       = all-back regionWords regionAt 5 five-words (λ x pre post. region-back pre post x) (d .regions) slots 0 [] (ps ++ qs) h₁ refl in
       let e₂ : allAt partitionAt 7 slots (rs ++ (ps ++ qs)) partitionsAt ≡ d .partitions
-      = all-back partitionWords partitionAt 7 (λ p. refl) (λ x pre post. partition-back pre post x) (d .partitions) slots 40 rs qs h₂ so-many-regions in
+      = all-back partitionWords partitionAt 7 (λ p. refl) (λ x pre post. partition-back pre post x) (d .partitions) slots partitionsAt rs qs h₂ so-many-regions in
       let last : (rs ++ ps) ++ (qs ++ []) ≡ rs ++ (ps ++ qs) = append-assoc rs ps (qs ++ []) ∙ rw (append-nil qs) in
-      let before : length (rs ++ ps) ≡ 96 = omega (arith, length-append rs ps, so-many-regions, so-many-partitions) in
+      let before : length (rs ++ ps) ≡ waitersAt = omega (arith, length-append rs ps, so-many-regions, so-many-partitions) in
       let e₃ : allAt waiterAt 5 tasks (rs ++ (ps ++ qs)) waitersAt ≡ d .waiters
-      = rw (← last) (all-back waiterWords waiterAt 5 (λ p. refl) (λ x pre post. waiter-back pre post x) (d .waiters) tasks 96 (rs ++ ps) [] h₃ before) in
+      = rw (← last) (all-back waiterWords waiterAt 5 (λ p. refl) (λ x pre post. waiter-back pre post x) (d .waiters) tasks waitersAt (rs ++ ps) [] h₃ before) in
       rw (e₁, e₂, e₃)
 
 -- PACKING WHAT WAS READ
@@ -188,18 +188,18 @@ module _ (ws : List ℕ) where
   pub pack-unpack : wellFormed ws ≡ true → pack (unpack ws) ≡ ws
   unfolding pack unpack
   pack-unpack w =
-      let l : length ws ≡ 176 = eqb-true (length ws) recordWords (and-first (eqb (length ws) recordWords) (choices slots ws 0) w) in
+      let l : length ws ≡ recordWords = eqb-true (length ws) recordWords (and-first (eqb (length ws) recordWords) (choices slots ws 0) w) in
       let c : choices slots ws 0 ≡ true = and-second (eqb (length ws) recordWords) (choices slots ws 0) w in
-      let e₁ : allWords regionWords (allAt regionAt 5 slots ws 0) ≡ take 40 ws
+      let e₁ : allWords regionWords (allAt regionAt 5 slots ws 0) ≡ take partitionsAt ws
       = all-again regionWords regionAt 5 slots 0 (λ k h. region-again (0 + 5 * k) (omega arith) (choice-at slots 0 k c h)) in
-      let e₂ : allWords partitionWords (allAt partitionAt 7 slots ws partitionsAt) ≡ take 56 (drop 40 ws)
-      = all-again partitionWords partitionAt 7 slots partitionsAt (λ k h. partition-again (40 + 7 * k) (omega arith)) in
-      let e₃ : allWords waiterWords (allAt waiterAt 5 tasks ws waitersAt) ≡ take 80 (drop 96 ws)
-      = all-again waiterWords waiterAt 5 tasks waitersAt (λ k h. waiter-again (96 + 5 * k) (omega arith)) in
+      let e₂ : allWords partitionWords (allAt partitionAt 7 slots ws partitionsAt) ≡ take (7 * slots) (drop partitionsAt ws)
+      = all-again partitionWords partitionAt 7 slots partitionsAt (λ k h. partition-again (partitionsAt + 7 * k) (omega arith)) in
+      let e₃ : allWords waiterWords (allAt waiterAt 5 tasks ws waitersAt) ≡ take (5 * tasks) (drop waitersAt ws)
+      = all-again waiterWords waiterAt 5 tasks waitersAt (λ k h. waiter-again (waitersAt + 5 * k) (omega arith)) in
       rw (e₁, e₂, e₃) (joined l)
     where
-      joined : length ws ≡ 176 → take 40 ws ++ (take 56 (drop 40 ws) ++ take 80 (drop 96 ws)) ≡ ws
+      joined : length ws ≡ recordWords → take partitionsAt ws ++ (take (7 * slots) (drop partitionsAt ws) ++ take (5 * tasks) (drop waitersAt ws)) ≡ ws
       joined l =
-          let a : take 96 ws ≡ take 40 ws ++ take 56 (drop 40 ws) = take-add 40 56 ws in
-          let b : take 176 ws ≡ take 96 ws ++ take 80 (drop 96 ws) = take-add 96 80 ws in
-          sym (append-assoc (take 40 ws) (take 56 (drop 40 ws)) (take 80 (drop 96 ws))) ∙ rw (← a, ← b) (take-all 176 ws (omega arith))
+          let a : take waitersAt ws ≡ take partitionsAt ws ++ take (7 * slots) (drop partitionsAt ws) = take-add partitionsAt (7 * slots) ws in
+          let b : take recordWords ws ≡ take waitersAt ws ++ take (5 * tasks) (drop waitersAt ws) = take-add waitersAt (5 * tasks) ws in
+          sym (append-assoc (take partitionsAt ws) (take (7 * slots) (drop partitionsAt ws)) (take (5 * tasks) (drop waitersAt ws))) ∙ rw (← a, ← b) (take-all recordWords ws (omega arith))

@@ -256,13 +256,13 @@ module _ (d : Manager) (ws : List ℕ) where
       let rs = allWords regionWords (d .regions) in
       let ps = allWords partitionWords (d .partitions) in
       let qs = allWords waiterWords (d .waiters) in
-      let l₁ : length rs ≡ 40 = all-length regionWords 5 slots five-words (d .regions) h₁ in
-      let l₂ : length ps ≡ 56 = all-length partitionWords 7 slots (λ p. refl) (d .partitions) h₂ in
-      let l₃ : length qs ≡ 80 = all-length waiterWords 5 tasks (λ q. refl) (d .waiters) h₃ in
+      let l₁ : length rs ≡ partitionsAt = all-length regionWords 5 slots five-words (d .regions) h₁ in
+      let l₂ : length ps ≡ (7 * slots) = all-length partitionWords 7 slots (λ p. refl) (d .partitions) h₂ in
+      let l₃ : length qs ≡ (5 * tasks) = all-length waiterWords 5 tasks (λ q. refl) (d .waiters) h₃ in
       let l : length (rs ++ (ps ++ qs)) ≡ length ws = omega (arith, length-append rs (ps ++ qs), length-append ps qs) in
       let whole : sets ws 0 (rs ++ (ps ++ qs)) ≡ rs ++ (ps ++ qs) = whole-set (rs ++ (ps ++ qs)) ws l in
-      let j₁ : sets ws 0 (rs ++ (ps ++ qs)) ≡ sets ws₁ 40 (ps ++ qs) = rw e₁ (rw l₁ at (sets-append rs (ps ++ qs) ws 0)) in
-      let j₂ : sets ws₁ 40 (ps ++ qs) ≡ sets ws₂ 96 qs = rw e₂ (rw l₂ at (sets-append ps qs ws₁ 40)) in
+      let j₁ : sets ws 0 (rs ++ (ps ++ qs)) ≡ sets ws₁ partitionsAt (ps ++ qs) = rw e₁ (rw l₁ at (sets-append rs (ps ++ qs) ws 0)) in
+      let j₂ : sets ws₁ partitionsAt (ps ++ qs) ≡ sets ws₂ waitersAt qs = rw e₂ (rw l₂ at (sets-append ps qs ws₁ partitionsAt)) in
       rw (eq-eqb (length ws) recordWords h) (e₃ ∙ sym j₂ ∙ sym j₁ ∙ whole)
 
 pub ruleset storing = (unmapped, as-many, put-none, put-all)

@@ -1,6 +1,6 @@
--- The manager record as 176 words that a caller keeps: the regions, the partitions and the waiters, slot by slot and field by field.
+-- The manager record as words that a caller keeps: the regions, the partitions and the waiters, slot by slot and field by field.
 -- Assumes nothing.
-use Prim.Native.Nat.{ℕ, zero, suc, _+_}
+use Prim.Native.Nat.{ℕ, zero, suc, _+_, _*_}
 use mathlib.Core.Bool.{Bool, true, false, cond, _&&_}
 use mathlib.Core.List.{List, [], _∷_, _++_}
 use lib.ListN.{length, getD}
@@ -15,14 +15,14 @@ use Rattle.manager.specs.declared.Order.the-variants.{Fifo, Priority}
 use Rattle.packing.specs.declared.Unpacked.{Unpacked}
 
 -- how many words, and where the partitions and the waiters start
-abbrev pub recordWords : ℕ
-recordWords = 176
-
 abbrev pub partitionsAt : ℕ
-partitionsAt = 40
+partitionsAt = 5 * slots
 
 abbrev pub waitersAt : ℕ
-waitersAt = 96
+waitersAt = partitionsAt + 7 * slots
+
+abbrev pub recordWords : ℕ
+recordWords = waitersAt + 5 * tasks
 
 -- a choice as a word, and back; a word above 1 is no choice
 abbrev pub orderWord : Order → ℕ

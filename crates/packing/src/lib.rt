@@ -40,8 +40,12 @@ pub struct Unpacked {
     pub manager: Manager,
 }
 
-// The words of a record.
-pub const RECORD_WORDS: usize = 176;
+// Where the words of the partitions and of the waiters start, and how many words a record has.
+pub(crate) const PARTITIONS_AT: usize = 5 * Manager::SLOTS;
+
+pub(crate) const WAITERS_AT: usize = PARTITIONS_AT + 7 * Manager::SLOTS;
+
+pub const RECORD_WORDS: usize = WAITERS_AT + 5 * Manager::TASKS;
 
 // The record that the words say; not ok where their number is wrong or a choice is none.
 pub fn unpack(words: &[u32]) -> Unpacked

@@ -1,4 +1,7 @@
 // Writing the parts of a record into its words.
+use crate::PARTITIONS_AT;
+use crate::WAITERS_AT;
+use manager::Manager;
 use manager::Order;
 use manager::Partition;
 use manager::Region;
@@ -58,7 +61,7 @@ fn waiter(words: &mut [u32], at: usize, w: Waiter)
     words[at + 4] = w.ticks;
 }
 
-pub fn regions(words: &mut [u32], all: [Region; 8])
+pub(crate) fn regions(words: &mut [u32], all: [Region; 8])
     requires { ⌜ length (now words) ≡ recordWords ⌝ }
     ensures { λ _. ⌜ now (words .exit) ≡ sets (now (words .entry)) 0 (allWords regionWords all) ⌝ }
 {
@@ -71,27 +74,27 @@ pub fn regions(words: &mut [u32], all: [Region; 8])
     }
 }
 
-pub fn partitions(words: &mut [u32], all: [Partition; 8])
+pub(crate) fn partitions(words: &mut [u32], all: [Partition; 8])
     requires { ⌜ length (now words) ≡ recordWords ⌝ }
     ensures { λ _. ⌜ now (words .exit) ≡ sets (now (words .entry)) partitionsAt (allWords partitionWords all) ⌝ }
 {
     let mut k: usize = 0;
     while k < 8 {
         let x = all[k];
-        let at = 40 + 7 * k;
+        let at = PARTITIONS_AT + 7 * k;
         partition(words, at, x);
         k = k + 1;
     }
 }
 
-pub fn waiters(words: &mut [u32], all: [Waiter; 16])
+pub(crate) fn waiters(words: &mut [u32], all: [Waiter; Manager::TASKS])
     requires { ⌜ length (now words) ≡ recordWords ⌝ }
     ensures { λ _. ⌜ now (words .exit) ≡ sets (now (words .entry)) waitersAt (allWords waiterWords all) ⌝ }
 {
     let mut k: usize = 0;
-    while k < 16 {
+    while k < Manager::TASKS {
         let x = all[k];
-        let at = 96 + 5 * k;
+        let at = WAITERS_AT + 5 * k;
         waiter(words, at, x);
         k = k + 1;
     }

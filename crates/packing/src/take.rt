@@ -1,4 +1,6 @@
 // Reading the parts of a record from its words.
+use crate::PARTITIONS_AT;
+use crate::WAITERS_AT;
 use crate::order_at;
 use manager::Manager;
 use manager::Partition;
@@ -11,7 +13,7 @@ ghost use Rattle.manager.specs.Record.{slots, tasks};
 ghost use Rattle.packing.specs.Packing.{recordWords, partitionsAt, waitersAt, choices, allAt, regionAt, partitionAt, waiterAt};
 
 // Whether each region's choice is one.
-pub fn choices(words: &[u32]) -> bool
+pub(crate) fn choices(words: &[u32]) -> bool
     requires { ⌜ length (now words) ≡ recordWords ⌝ }
     ensures { λ r. ⌜ r ≡ choices slots (now (words .entry)) 0 ⌝ }
 {
@@ -71,7 +73,7 @@ fn waiter(words: &[u32], at: usize) -> Waiter
     }
 }
 
-pub fn regions(words: &[u32]) -> [Region; 8]
+pub(crate) fn regions(words: &[u32]) -> [Region; 8]
     requires { ⌜ length (now words) ≡ recordWords ⌝ }
     ensures { λ r. ⌜ r ≡ allAt regionAt 5 slots (now (words .entry)) 0 ⌝ }
 {
@@ -86,7 +88,7 @@ pub fn regions(words: &[u32]) -> [Region; 8]
     all
 }
 
-pub fn partitions(words: &[u32]) -> [Partition; 8]
+pub(crate) fn partitions(words: &[u32]) -> [Partition; 8]
     requires { ⌜ length (now words) ≡ recordWords ⌝ }
     ensures { λ r. ⌜ r ≡ allAt partitionAt 7 slots (now (words .entry)) partitionsAt ⌝ }
 {
@@ -94,22 +96,22 @@ pub fn partitions(words: &[u32]) -> [Partition; 8]
     let mut all = d.partitions;
     let mut k: usize = 0;
     while k < 8 {
-        let x = partition(words, 40 + 7 * k);
+        let x = partition(words, PARTITIONS_AT + 7 * k);
         all[k] = x;
         k = k + 1;
     }
     all
 }
 
-pub fn waiters(words: &[u32]) -> [Waiter; 16]
+pub(crate) fn waiters(words: &[u32]) -> [Waiter; Manager::TASKS]
     requires { ⌜ length (now words) ≡ recordWords ⌝ }
     ensures { λ r. ⌜ r ≡ allAt waiterAt 5 tasks (now (words .entry)) waitersAt ⌝ }
 {
     let d = Manager::new();
     let mut all = d.waiters;
     let mut k: usize = 0;
-    while k < 16 {
-        let x = waiter(words, 96 + 5 * k);
+    while k < Manager::TASKS {
+        let x = waiter(words, WAITERS_AT + 5 * k);
         all[k] = x;
         k = k + 1;
     }

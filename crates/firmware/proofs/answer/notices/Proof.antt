@@ -1,4 +1,5 @@
 -- The notices before k are put, and those from k on give the whole. Assumes nothing.
+use Rattle.manager.specs.Record.{tasks}
 use Prim.Native.Nat.{_-_}
 use Rattle.packing.proofs.Laws.{Putting}
 use Rattle.firmware.proofs.Laws.{answering}
@@ -8,10 +9,10 @@ use Rattle.firmware.proofs.answer.notices.Statement.{statement}
 use Rattle.firmware.proofs.answer.notices.Tie as tie
 
 abbrev Inv-loop : tie.InvT-loop
-Inv-loop words₀ all k₀ words k = Putting noticeWords 3 16 noticesAt all words₀ words k
+Inv-loop words₀ all k₀ words k = Putting noticeWords 3 tasks noticesAt all words₀ words k
 
 abbrev μ-loop : tie.MeasureT-loop
-μ-loop words₀ all k₀ words k = 16 - k
+μ-loop words₀ all k₀ words k = tasks - k
 
 pub notices-spec : {M : Type 1} → statement M
 notices-spec =

@@ -1,4 +1,5 @@
 -- `sound_queue` meets its contract: what is left of the queue answers as the whole. Assumes nothing.
+use Rattle.manager.specs.Record.{tasks}
 use Prim.Native.Nat.{_-_}
 use Rattle.manager.specs.Sound.{soundQueue}
 use Rattle.invariant.specs.Waiters.{queueOf}
@@ -11,7 +12,7 @@ abbrev Inv-loop : tie.InvT-loop
 Inv-loop mem regions ws facts₀ before₀ seen₀ i₀ facts before seen i = Walk mem regions ws facts before seen (soundQueue mem (queueOf regions ws)) i
 
 abbrev μ-loop : tie.MeasureT-loop
-μ-loop mem regions ws facts₀ before₀ seen₀ i₀ facts before seen i = 16 - i
+μ-loop mem regions ws facts₀ before₀ seen₀ i₀ facts before seen i = tasks - i
 
 pub sound-queue-spec : {M : Type 1} → statement M
 sound-queue-spec =

@@ -1,4 +1,5 @@
 -- `unused_from` meets its contract: a loop over the places, by the laws of the test over a list. Assumes nothing.
+use Rattle.manager.specs.Record.{tasks}
 use Prim.Native.Nat.{_-_}
 use lib.ListN.{drop}
 use Rattle.invariant.proofs.Tests.{each}
@@ -10,10 +11,10 @@ use Rattle.invariant.proofs.places.unused_from.Statement.{statement}
 use Rattle.invariant.proofs.places.unused_from.Tie as tie
 
 abbrev Inv-loop : tie.InvT-loop
-Inv-loop from ws i₀ i = Passing emptyWaiter ws 16 (every emptyWaiter (drop from ws)) i
+Inv-loop from ws i₀ i = Passing emptyWaiter ws tasks (every emptyWaiter (drop from ws)) i
 
 abbrev μ-loop : tie.MeasureT-loop
-μ-loop from ws i₀ i = 16 - i
+μ-loop from ws i₀ i = tasks - i
 
 pub unused-from-spec : {M : Type 1} → statement M
 unused-from-spec =

@@ -1,14 +1,14 @@
 -- The partitions before k are taken, and those from k on give the whole. Assumes nothing.
 use Prim.Native.Nat.{_-_}
 use borrow.Author.Needs.{needs}
-use Rattle.manager.specs.Record.{noPartition}
-use Rattle.packing.specs.Packing.{partitionAt}
+use Rattle.manager.specs.Record.{slots, noPartition}
+use Rattle.packing.specs.Packing.{partitionAt, partitionsAt}
 use Rattle.packing.proofs.Laws.{taking, Taking}
 use Rattle.packing.proofs.take.partitions.Statement.{statement}
 use Rattle.packing.proofs.take.partitions.Tie as tie
 
 abbrev Inv-loop : tie.InvT-loop
-Inv-loop words all₀ k₀ all k = Taking partitionAt noPartition 7 8 40 words all k
+Inv-loop words all₀ k₀ all k = Taking partitionAt noPartition 7 slots partitionsAt words all k
 
 abbrev μ-loop : tie.MeasureT-loop
 μ-loop words all₀ k₀ all k = 8 - k

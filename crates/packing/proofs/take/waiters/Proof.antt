@@ -2,16 +2,16 @@
 use Prim.Native.Nat.{_-_}
 use borrow.Author.Needs.{needs}
 use Rattle.packing.proofs.Laws.{taking, Taking}
-use Rattle.packing.specs.Packing.{waiterAt}
-use Rattle.manager.specs.Record.{noWaiter}
+use Rattle.packing.specs.Packing.{waiterAt, waitersAt}
+use Rattle.manager.specs.Record.{tasks, noWaiter}
 use Rattle.packing.proofs.take.waiters.Statement.{statement}
 use Rattle.packing.proofs.take.waiters.Tie as tie
 
 abbrev Inv-loop : tie.InvT-loop
-Inv-loop words all₀ k₀ all k = Taking waiterAt noWaiter 5 16 96 words all k
+Inv-loop words all₀ k₀ all k = Taking waiterAt noWaiter 5 tasks waitersAt words all k
 
 abbrev μ-loop : tie.MeasureT-loop
-μ-loop words all₀ k₀ all k = 16 - k
+μ-loop words all₀ k₀ all k = tasks - k
 
 pub waiters-spec : {M : Type 1} → statement M
 waiters-spec =
