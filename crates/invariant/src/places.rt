@@ -15,6 +15,9 @@ ghost use Rattle.manager.specs.Region.{dead, anyHeld};
 ghost use Rattle.manager.specs.Sound.{emptyWaiter, soundQueue};
 ghost use Rattle.invariant.specs.Waiters.{factsOf, noFacts, frontWaiter, soundRequest, soundIn, queueOf};
 
+// Tasks are numbered from 1 to this.
+const LAST_TASK: u32 = Manager::TASKS as u32;
+
 // Whether an unused place is all zeros.
 fn empty_waiter(w: Waiter) -> bool
     ensures { λ b. ⌜ b ≡ emptyWaiter w ⌝ }
@@ -91,7 +94,7 @@ fn sound_request(f: Facts, w: Waiter) -> bool
 fn sound_in(f: Facts, w: Waiter) -> bool
     ensures { λ b. ⌜ b ≡ soundIn f w ⌝ }
 {
-    if Manager::TASKS < w.task as usize {
+    if LAST_TASK < w.task {
         return false;
     }
     if !f.held {
