@@ -17,16 +17,17 @@ use Rattle.manager.proofs.Laws.Queue.{length-pad}
 use Rattle.manager.specs.declared.Manager.{Manager}
 use Rattle.manager.specs.declared.Call.{Call}
 use Rattle.trace.specs.Receipts.{Receipts, Reply, replyOf, note}
+use Rattle.trace.specs.Queue.{inLine}
 use Rattle.trace.specs.Replies.{byReceipts, writeByReceipts, readByReceipts}
 use Rattle.trace.specs.Claims.{Claims, waitersOf}
 use Rattle.trace.specs.Trace.{State, Ask, ClientsWrite, Runs, start, after}
 use Rattle.trace.specs.Trace as trace
-use Rattle.trace.proofs.Invariant.{Inv, queuesFrom}
+use Rattle.trace.proofs.Invariant.{Inv}
 use Rattle.trace.proofs.Start.{start-inv}
 use Rattle.trace.proofs.Theorem.{runs, theorem}
 use Rattle.trace.proofs.Access.{writes}
-use Rattle.trace.proofs.Regions.Queue.{sound-inv, region-ids}
-use Rattle.trace.proofs.Queue.Shown.{queued, length-waiters, length-queues, few-waits}
+use Rattle.trace.proofs.Regions.Queue.{sound-inv}
+use Rattle.trace.proofs.Queue.Waiters.{line-fits}
 use Rattle.packing.specs.Packing.{pack, unpack, wellFormed, recordWords, regionWords, allWords}
 use Rattle.packing.proofs.Inverse.{pack-formed, unpack-pack}
 use Rattle.firmware.specs.Exported.{Outcome, answerSize, answerWords, called, performed, segmentWords, segmentWritten}
@@ -36,10 +37,7 @@ use Rattle.end_to_end.proofs.Program.{one-more}
 -- the arrays of a record that a list of calls reaches are of the record's lengths, so that it can be packed and unpacked
 module _ (m : List ℕ) (d : Manager) (t : Receipts) (v : Inv m d t) where
   so-many-waiters : length (d .waiters) ≡ tasks
-  so-many-waiters =
-      let a = queued d t (v .waits) (region-ids m d t (v .picture)) in
-      let q = queuesFrom slots 0 t in
-      ap length (v .waits .queue) ∙ length-pad tasks (waitersOf q) (omega (arith, length-waiters q, length-queues slots tasks t a, few-waits slots tasks t a))
+  so-many-waiters = ap length (v .waits .queue) ∙ length-pad tasks (waitersOf (inLine t)) (line-fits d t (v .waits))
 
   formed : wellFormed (pack d) ≡ true
   formed = pack-formed d (v .picture .region-slots) (v .picture .partition-slots) so-many-waiters

@@ -3,14 +3,14 @@
 use mathlib.Core.Path.{_≡_, refl, sym, ap, _∙_, subst}
 use mathlib.Core.Bool.{true}
 use mathlib.Core.List.{List, []}
-use mathlib.Core.Logic.{_⊎_, inl, inr, _↔_, ⊎-elim}
+use mathlib.Core.Logic.{_↔_, ⊎-elim}
 use mathlib.Core.Option.{some}
 use Prim.Native.Nat.{ℕ, zero, suc, _+_, _*_, _/_, _≤_, _<_}
 use native.Mathlib.Nat.{mul-le-mul}
 use native.Mathlib.Omega.{arith}
 use lib.ListN.{length, take, drop, length-take, length-drop}
 use Rattle.arith.proofs.Laws.Round.{pages-some}
-use Rattle.manager.specs.Record.{slots, regionOf, partitionOf}
+use Rattle.manager.specs.Record.{regionOf, partitionOf}
 use Rattle.manager.specs.Region.{segments}
 use Rattle.manager.specs.Partition.{isBuffer, follow, linked, nextOf}
 use Rattle.manager.proofs.Laws.Partition.Chain.{linked-buffer, linked-rest, linked-last}
@@ -23,7 +23,7 @@ use Rattle.manager.specs.declared.Partition.{Partition}
 use Rattle.manager.specs.declared.Status.the-variants.{InternalError}
 use Rattle.trace.specs.Loans.{Lent, loanPages, sum}
 use Rattle.trace.specs.Receipts.{RegionEntry, PartitionEntry, Wait, Reply, replyOf, unit, firstIn, pageIn, pageLoans, buffersIn, buffersFrom, Within}
-use Rattle.trace.specs.Replies.{pagesOver, byReceipts, readByReceipts, queueOf, dueFrom}
+use Rattle.trace.specs.Replies.{pagesOver, byReceipts, readByReceipts}
 use Rattle.trace.specs.Trace.{State, answer}
 use Rattle.trace.specs.Claims.{freePages, Chained, null, link, RegionClaims, PartitionClaims}
 use Rattle.trace.proofs.Invariant.{regionFor, PartitionIs, Inv}
@@ -32,14 +32,14 @@ use Rattle.trace.proofs.Buffers.{buffer-within, within-buffer}
 use Rattle.trace.proofs.Clients.{RegionAt, region-at, partition-at, SegmentLoan, segment-in, segment-some}
 use Rattle.trace.proofs.Held.{Regular, regular, loan-holds}
 use Rattle.trace.proofs.Loans.Addresses.{address-pages}
-use Rattle.trace.proofs.Queue.Line.{In, in-line}
-use Rattle.trace.proofs.Queue.Order.{goes, orders, in-waits, queue-of}
-use Rattle.trace.proofs.Queue.Tasks.{all-in}
+use Rattle.trace.proofs.Queue.Line.{In}
+use Rattle.trace.proofs.Queue.Order.{in-waits, queue-of, in-all-waits}
+use Rattle.trace.proofs.Queue.Waiters.{waiters-for}
 use Rattle.trace.proofs.Regions.Live.{law, map-drawing}
-use Rattle.trace.proofs.Regions.Queue.{queue-inv}
 use Rattle.trace.proofs.Partitions.Slot.{buffers-in, unlent-once}
 use Rattle.trace.proofs.Replies.Consequences.{pages-lent, unsatisfied-by, lowest-by, information-by, size-by, resize-by, return-by, buffer-unsatisfied, buffer-front}
 use Rattle.trace.proofs.Replies.Undamaged.{not-damaged, reply-sound}
+use Rattle.trace.specs.Queue.{queueOf, inLine, dueIn}
 
 -- ---- a chain by word 0
 
@@ -71,7 +71,7 @@ module _ (i : Implementation) (s : State) (v : Inv (s .memory) (s .manager) (s .
   sound-claim c e = not-damaged _ (reply-sound (length (s .memory)) (s .receipts) c) (sym (status-by c) ∙ e)
 
   -- A TICK
-  pub tick-claim : answer i s Tick .notices ≡ dueFrom slots 1 (s .receipts)
+  pub tick-claim : answer i s Tick .notices ≡ dueIn (inLine (s .receipts))
   unfolding byReceipts
   tick-claim = notices-by Tick
 
@@ -88,9 +88,8 @@ module _ (i : Implementation) (s : State) (v : Inv (s .memory) (s .manager) (s .
     unfolding In
     queue-asks w h =
         let t = s .receipts in
-        let y : In w (t .waits) =
-        elim (in-line (goes (orders t)) w [] (t .waits) .0 (in-waits id w _ .0 (rw (queue-of id e t q) at h) .0)) [ inl z ↦ absurd z | inr z ↦ z ] in
-        pages-some (w .size) (unit e) (loans .some-unit) (all-in t (t .waits) (v .waits .all) w y .size-some)
+        let y : In w (t .waits) = in-all-waits t w .0 (in-waits id w (inLine t) .0 (rw (queue-of id e t q) at h) .0) in
+        pages-some (w .size) (unit e) (loans .some-unit) (v .waits .each w y .size-some)
 
     -- a read of a loan has words
     read-some : (a k : ℕ) → Lent (e .loans) a k → ¬ (i .read (s .memory) (s .manager) id a ≡ [])
@@ -124,7 +123,7 @@ module _ (i : Implementation) (s : State) (v : Inv (s .memory) (s .manager) (s .
           information = ap (λ (r : Reply). r .information) (replies (RegionInformation id) ∙ information-by n t id e q loans);
           size = λ a k x. ap (λ (r : Reply). r .value) (replies (SegmentSize id a) ∙ size-by n t id e q loans a k x);
           resize = λ a k size x z. rw (status-by (ResizeSegment id a size), value-by (ResizeSegment id a size)) (resize-by n t id e q loans a k x size z);
-          queue = queue-inv (s .memory) (s .manager) t v id e q;
+          queue = waiters-for (s .manager) t (v .waits) id e q;
           return = λ a k x. rw (status-by (ReturnSegment id a), notices-by (ReturnSegment id a)) (return-by n t id e q loans a k x queue-asks);
         }
 

@@ -2,13 +2,13 @@
 -- (regions, partitions, areas, queue). Everything that the manager keeps is determined by the receipts, but for what clients wrote.
 use mathlib.Core.Path.{_≡_}
 use mathlib.Core.Bool.{true}
-use mathlib.Core.List.{List, [], _∷_, _++_}
+use mathlib.Core.List.{List, [], _∷_}
 use mathlib.Core.Logic.{_⊎_}
 use mathlib.Core.Option.{Option, none, some}
-use Prim.Native.Nat.{ℕ, zero, suc, _+_, _*_, _≤_, _<_}
+use Prim.Native.Nat.{ℕ, _+_, _*_, _≤_, _<_}
 use lib.ListN.{length, getD}
 use Rattle.arith.specs.Round.{pagesFor}
-use Rattle.manager.specs.Record.{slots, tasks, noRegion, noPartition, noWaiter, idOf, regionOf, partitionOf}
+use Rattle.manager.specs.Record.{slots, tasks, noRegion, noPartition, noWaiter, regionOf, partitionOf}
 use Rattle.manager.specs.Result.{pad}
 use Rattle.manager.specs.Map.{draw}
 use Rattle.manager.specs.Region.{mapWords}
@@ -19,9 +19,10 @@ use Rattle.manager.specs.declared.Region.{Region}
 use Rattle.manager.specs.declared.Partition.{Partition}
 use Rattle.trace.specs.Loans.{Loan, Ordered, drawn}
 use Rattle.trace.specs.Receipts.{Receipts, RegionEntry, PartitionEntry, Wait, unit, pagesIn, firstIn, pageLoans, withLoans, Within, Distinct}
-use Rattle.trace.specs.Replies.{queueOf}
 use Rattle.trace.specs.Claims.{waitersOf}
 use Rattle.trace.proofs.Loans.Addresses.{atPages}
+use Rattle.trace.specs.Queue.{inLine}
+use Rattle.trace.proofs.Queue.Line.{In}
 
 -- word w lies wholly in the n bytes from a on
 pub record Inside (a n w : ℕ) : Type 0 where
@@ -83,6 +84,7 @@ pub record WaitIs (t : Receipts) (w : Wait) : Type 0 where
   pub entry : RegionEntry
   pub found : t .regions (w .id) ≡ some entry
   pub lending : ¬ (entry .loans ≡ [])
+  pub id-some : 1 ≤ w .id
   pub task-some : 1 ≤ w .task
   pub task-most : w .task ≤ tasks
   pub size-some : 1 ≤ w .size
@@ -91,27 +93,15 @@ pub record WaitIs (t : Receipts) (w : Wait) : Type 0 where
   pub priority-most : w .priority ≤ 255
   pub time : (w .ticks ≡ 0) ⊎ (w .since < w .ticks)
 
-unfoldable pub AllWaits : Receipts → List Wait → Type 0
-AllWaits t [] = Unit {0}
-AllWaits t (w ∷ ws) = WaitIs t w × AllWaits t ws
-
 unfoldable pub tasksOf : List Wait → List ℕ
 tasksOf [] = []
 tasksOf (w ∷ ws) = w .task ∷ tasksOf ws
 
--- all waits as the record keeps them: region by region, each in its order
-abbrev pub queueAt : ℕ → Option RegionEntry → Receipts → List Wait
-queueAt id none t = []
-queueAt id (some e) t = queueOf id e t
-
-unfoldable pub queuesFrom : ℕ → ℕ → Receipts → List Wait
-queuesFrom zero i t = []
-queuesFrom (suc n) i t = queueAt (idOf i) (t .regions (idOf i)) t ++ queuesFrom n (suc i) t
-
+-- the waits, and their picture: the record keeps them as they stand in line
 pub record Waits (d : Manager) (t : Receipts) : Type 0 where
-  pub all : AllWaits t (t .waits)
+  pub each : (w : Wait) → In w (t .waits) → WaitIs t w
   pub once : Distinct (tasksOf (t .waits))
-  pub queue : d .waiters ≡ pad tasks noWaiter (waitersOf (queuesFrom slots 0 t))
+  pub queue : d .waiters ≡ pad tasks noWaiter (waitersOf (inLine t))
 
 -- the picture of the objects: the memory and the record as the receipts say
 pub record Picture (m : List ℕ) (d : Manager) (t : Receipts) : Type 0 where

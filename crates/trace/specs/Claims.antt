@@ -13,7 +13,7 @@ use lib.Seq.{sets}
 use lib.Dec.{eqb}
 use Rattle.arith.specs.Round.{pagesFor}
 use Rattle.arith.specs.Layout.{mapStart}
-use Rattle.manager.specs.Record.{slots, mostWords, partitionOf}
+use Rattle.manager.specs.Record.{mostWords, partitionOf}
 use Rattle.manager.specs.Map.{Segment, free, held, draw, decode}
 use Rattle.manager.specs.Perform.{Implementation}
 use Rattle.manager.specs.declared.Waiter.{Waiter}
@@ -24,7 +24,8 @@ use Rattle.manager.specs.declared.Wait.the-variants.{No}
 use Rattle.manager.specs.declared.Status.the-variants.{Successful, Unsatisfied, InternalError}
 use Rattle.trace.specs.Loans.{Loan, Lent, Run, Lowest, Room, Ordered, drawn, loanPages, sum, enter, amend}
 use Rattle.trace.specs.Receipts.{Receipts, RegionEntry, PartitionEntry, Wait, replyOf, isSuccess, unit, pagesIn, addressIn, pageIn, byPage, pageLoans, buffersIn, buffersFrom, Within, Distinct}
-use Rattle.trace.specs.Replies.{queueOf, dueFrom, informationIn, grantTo, byReceipts, writeByReceipts, readByReceipts}
+use Rattle.trace.specs.Queue.{queueOf, inLine, dueIn}
+use Rattle.trace.specs.Replies.{informationIn, grantTo, byReceipts, writeByReceipts, readByReceipts}
 use Rattle.trace.specs.Trace.{Ask, call, read, write, State, answer, answerWrite, after, Object, Loaned, Owned, Runs, start}
 
 -- a wait as the record keeps it: with the ticks that it has left
@@ -156,7 +157,7 @@ pub record Claims (i : Implementation) (s : State) : Type 0 where
   pub sound : (c : Call) → ¬ (answer i s c .status ≡ InternalError)
   pub sound-write : (id address first : ℕ) (words : List ℕ) → ¬ (answerWrite i s id address first words .status ≡ InternalError)
   -- a tick sends 6 to exactly those waits whose ticks have run out by the ticks counted since they began, and serves nobody ("ticks left")
-  pub tick : answer i s Tick .notices ≡ dueFrom slots 1 (s .receipts)
+  pub tick : answer i s Tick .notices ≡ dueIn (inLine (s .receipts))
 
 -- "Demand 3 is a single claim about the list and the writes between its calls, and not one for each call": after every list of calls and
 -- writes, from a fresh start over any memory of allowed length

@@ -15,7 +15,8 @@ use Rattle.manager.specs.Examples.{Step, step, Row, layout, calls, words, same,
 use Rattle.manager.specs.declared.Order.the-variants.{Fifo}
 use Rattle.trace.specs.Loans.{enter, amend, inPages, drawn}
 use Rattle.trace.specs.Receipts.{Receipts, RegionEntry, Reply, blank, pagesIn, addressIn, pageLoans, note, allNoticed, without, waitOf, strike, buffersFrom}
-use Rattle.trace.specs.Replies.{waitsIn, behind, arranged, decided, firstId, anyId, pagesAt, lowestRun, grantsIn, waitsAlready, listed, byReceipts}
+use Rattle.trace.specs.Queue.{insertBy, insertAll, waitsIn}
+use Rattle.trace.specs.Replies.{decided, firstId, anyId, pagesAt, lowestRun, grantsIn, waitsAlready, listed, byReceipts}
 
 -- an answer: status, value, and the notices (task, status, address)
 abbrev right : Reply → ℕ → ℕ → List ℕ → Bool
@@ -44,5 +45,5 @@ holds (calls ss) = follows blank ss (λ t. true)
 holds (words ss ws) = follows blank ss (λ t. same (drawnWords (t .regions 1)) ws)
 
 pub examples : every holds table ≡ true
-unfolding largest pageCount every draw enter amend inPages drawn note allNoticed without waitOf strike buffersFrom waitsIn behind arranged decided firstId anyId pagesAt lowestRun grantsIn waitsAlready listed byReceipts
+unfolding largest pageCount every draw enter amend inPages drawn note allNoticed without waitOf strike buffersFrom insertBy insertAll waitsIn decided firstId anyId pagesAt lowestRun grantsIn waitsAlready listed byReceipts
 examples = refl

@@ -1,7 +1,7 @@
 -- Document 01 by the receipts: what every call is answered, from its arguments, the receipts and the memory's length. No word of the
 -- memory and no field of the record is looked at. Assumes nothing.
 use mathlib.Core.Bool.{Bool, true, false, cond, not, _&&_, _||_}
-use mathlib.Core.List.{List, [], _∷_, _++_}
+use mathlib.Core.List.{List, [], _∷_}
 use mathlib.Core.Option.{Option, none, some}
 use Prim.Native.Nat.{ℕ, zero, suc, _+_, _-_, _*_, _/_, _%_}
 use lib.ListN.{length, take, drop}
@@ -19,46 +19,11 @@ use Rattle.manager.specs.declared.Place.{Place}
 use Rattle.manager.specs.declared.Place.the-variants.{At, Nowhere}
 use Rattle.manager.specs.declared.Wait as asking
 use Rattle.manager.specs.declared.Wait.the-variants.{No, Yes}
-use Rattle.manager.specs.declared.Order.{Order}
-use Rattle.manager.specs.declared.Order.the-variants.{Fifo, Priority}
 use Rattle.manager.specs.declared.Status.{Status}
-use Rattle.manager.specs.declared.Status.the-variants.{Successful, InvalidName, InvalidId, TooMany, Timeout, InvalidSize, InvalidAddress, InvalidNumber, ResourceInUse, Unsatisfied, IncorrectState, InvalidPriority, Waiting}
+use Rattle.manager.specs.declared.Status.the-variants.{Successful, InvalidName, InvalidId, TooMany, InvalidSize, InvalidAddress, InvalidNumber, ResourceInUse, Unsatisfied, IncorrectState, InvalidPriority, Waiting}
 use Rattle.trace.specs.Loans.{Loan, loan, loanPages, runs, most, sum, enter, amend}
 use Rattle.trace.specs.Receipts.{Receipts, RegionEntry, Wait, Reply, unit, pagesIn, addressIn, pageIn, byPage, pageLoans}
-
--- THE QUEUE BY THE RECEIPTS: a region's waits, by arrival, or by priority and equal ones by arrival
-unfoldable pub waitsIn : ℕ → List Wait → List Wait
-waitsIn id [] = []
-waitsIn id (w ∷ ws) = cond (eqb (w .id) id) (w ∷ waitsIn id ws) (waitsIn id ws)
-
-abbrev pub urgentThan : Order → Wait → Wait → Bool
-urgentThan Fifo w x = false
-urgentThan Priority w x = ltb (w .priority) (x .priority)
-
-unfoldable pub behind : Order → Wait → List Wait → List Wait
-behind o w [] = w ∷ []
-behind o w (x ∷ xs) = cond (urgentThan o w x) (w ∷ x ∷ xs) (x ∷ behind o w xs)
-
-unfoldable pub arranged : Order → List Wait → List Wait → List Wait
-arranged o q [] = q
-arranged o q (w ∷ ws) = arranged o (behind o w q) ws
-
-abbrev pub queueOf : ℕ → RegionEntry → Receipts → List Wait
-queueOf id e t = arranged (e .order) [] (waitsIn id (t .waits))
-
--- TIME-OUTS BY THE RECEIPTS: the waits whose ticks run out at this tick, by the ticks counted since they began; regions in order
-unfoldable pub dueIn : List Wait → List Notice
-dueIn [] = []
-dueIn (w ∷ ws) =
-    cond (eqb (w .ticks) (w .since + 1)) (record { task = w .task; status = Timeout; address = 0 } ∷ dueIn ws) (dueIn ws)
-
-abbrev pub dueOf : ℕ → Option RegionEntry → Receipts → List Notice
-dueOf id none t = []
-dueOf id (some e) t = dueIn (queueOf id e t)
-
-unfoldable pub dueFrom : ℕ → ℕ → Receipts → List Notice
-dueFrom zero id t = []
-dueFrom (suc n) id t = dueOf id (t .regions id) t ++ dueFrom n (suc id) t
+use Rattle.trace.specs.Queue.{queueOf, inLine, dueIn}
 
 -- INFORMATION BY THE RECEIPTS: count, largest and total bytes over the runs of unheld pages, then over the loans
 abbrev pub informationIn : RegionEntry → Information
@@ -295,7 +260,7 @@ byReceipts n t (GetBuffer id) = living (t .partitions id) (λ e. front (e .unlen
 byReceipts n t (ReturnBuffer id a) =
     living (t .partitions id) (λ e. decided (check (not (listed a (e .lent))) InvalidAddress ∷ []) (yes 0))
 -- a tick: no check of its own; the time-outs
-byReceipts n t Tick = tells (dueFrom slots 1 t)
+byReceipts n t Tick = tells (dueIn (inLine t))
 
 -- a write of a held segment: 4, 9, then 8. A read: the words of the loan at the address, none where there is no such loan
 abbrev pub writeByReceipts : Receipts → ℕ → ℕ → ℕ → List ℕ → Reply

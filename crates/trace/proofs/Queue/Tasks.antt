@@ -13,9 +13,10 @@ use borrow.Author.Tests.{eq-eqb, ne-eqb}
 use Rattle.manager.proofs.Laws.Appended.{by-case}
 use Rattle.trace.specs.Loans.{Loan}
 use Rattle.trace.specs.Receipts.{Receipts, withLoans, Wait, Within, Distinct, strike, without, waitOf}
-use Rattle.trace.proofs.Invariant.{WaitIs, AllWaits, tasksOf}
+use Rattle.trace.proofs.Invariant.{WaitIs, tasksOf}
 use Rattle.trace.proofs.Loans.Tests.{by-eqb}
-use Rattle.trace.proofs.Queue.Line.{In, keep, settle, line, in-settle, in-keep, in-append, keep-all}
+use Rattle.trace.proofs.Queue.Line.{In, keep, in-insert, in-keep, in-append, keep-all}
+use Rattle.trace.specs.Queue.{insertBy, insertAll}
 
 -- NUMBERS FROM 1 TO n, EACH ONCE, ARE AT MOST n
 strike-less : (a x : ℕ) (l : List ℕ) → Within x (strike a l) → Within x l
@@ -117,38 +118,38 @@ keep-once p (w ∷ ws) d =
         let r = task-in (w .task) (keep p ws) h in
         subst (λ (a : ℕ). Within a (tasksOf ws)) (r .2) (in-tasks (r .0) ws (in-keep p (r .0) ws .0 (r .1) .0))
 
-settle-once : (lt : Wait → Wait → Bool) (w : Wait) (q : List Wait) → Distinct (tasksOf q) → ¬ Within (w .task) (tasksOf q)
-    → Distinct (tasksOf (settle lt w q))
-unfolding Distinct Within tasksOf settle
-settle-once lt w [] d n = (λ h. h, tt)
-settle-once lt w (x ∷ q) d n =
-    let ih = settle-once lt w q (d .1) (λ h. n (inr h)) in
-    by-case (lt w x) (λ t. Distinct (tasksOf (cond t (w ∷ x ∷ q) (x ∷ settle lt w q)))) (λ t. (n, d)) (λ f. (other, ih))
+insert-once : (lt : Wait → Wait → Bool) (w : Wait) (q : List Wait) → Distinct (tasksOf q) → ¬ Within (w .task) (tasksOf q)
+    → Distinct (tasksOf (insertBy lt w q))
+unfolding Distinct Within tasksOf insertBy
+insert-once lt w [] d n = (λ h. h, tt)
+insert-once lt w (x ∷ q) d n =
+    let ih = insert-once lt w q (d .1) (λ h. n (inr h)) in
+    by-case (lt w x) (λ t. Distinct (tasksOf (cond t (w ∷ x ∷ q) (x ∷ insertBy lt w q)))) (λ t. (n, d)) (λ f. (other, ih))
   where
-    other : ¬ Within (x .task) (tasksOf (settle lt w q))
+    other : ¬ Within (x .task) (tasksOf (insertBy lt w q))
     other h =
-        let r = task-in (x .task) (settle lt w q) h in
-        elim (in-settle lt w (r .0) q .0 (r .1)) [
+        let r = task-in (x .task) (insertBy lt w q) h in
+        elim (in-insert lt w (r .0) q .0 (r .1)) [
           | inl e ↦ n (inl (sym (ap (λ (v : Wait). v .task) e ∙ r .2)))
           | inr k ↦ d .0 (subst (λ (a : ℕ). Within a (tasksOf q)) (r .2) (in-tasks (r .0) q k))
         ]
 
 lined-once : (lt : Wait → Wait → Bool) (q ws : List Wait) → Distinct (tasksOf q) → Distinct (tasksOf ws)
-    → ((a : ℕ) → Within a (tasksOf q) → ¬ Within a (tasksOf ws)) → Distinct (tasksOf (line lt q ws))
-unfolding Distinct Within tasksOf line
+    → ((a : ℕ) → Within a (tasksOf q) → ¬ Within a (tasksOf ws)) → Distinct (tasksOf (insertAll lt q ws))
+unfolding Distinct Within tasksOf insertAll
 lined-once lt q [] d e n = d
 lined-once lt q (w ∷ ws) d e n =
-    lined-once lt (settle lt w q) ws (settle-once lt w q d (λ h. n (w .task) h (inl refl))) (e .1) other
+    lined-once lt (insertBy lt w q) ws (insert-once lt w q d (λ h. n (w .task) h (inl refl))) (e .1) other
   where
-    other : (a : ℕ) → Within a (tasksOf (settle lt w q)) → ¬ Within a (tasksOf ws)
+    other : (a : ℕ) → Within a (tasksOf (insertBy lt w q)) → ¬ Within a (tasksOf ws)
     other a h k =
-        let r = task-in a (settle lt w q) h in
-        elim (in-settle lt w (r .0) q .0 (r .1)) [
+        let r = task-in a (insertBy lt w q) h in
+        elim (in-insert lt w (r .0) q .0 (r .1)) [
           | inl f ↦ e .0 (subst (λ (b : ℕ). Within b (tasksOf ws)) (sym (ap (λ (v : Wait). v .task) f ∙ r .2)) k)
           | inr m ↦ n a (subst (λ (b : ℕ). Within b (tasksOf q)) (r .2) (in-tasks (r .0) q m)) (inr k)
         ]
 
-pub line-once : (lt : Wait → Wait → Bool) (ws : List Wait) → Distinct (tasksOf ws) → Distinct (tasksOf (line lt [] ws))
+pub line-once : (lt : Wait → Wait → Bool) (ws : List Wait) → Distinct (tasksOf ws) → Distinct (tasksOf (insertAll lt [] ws))
 unfolding Distinct Within tasksOf
 line-once lt ws d = lined-once lt [] ws tt d (λ a h. absurd h)
 
@@ -192,18 +193,6 @@ keep-others (x ∷ a) w b d =
     (in-tasks w (a ++ (w ∷ b)) (in-append w a (w ∷ b) .1 (inr (inl refl))))) in
     rw (ne-eqb (x .task) (w .task) n) (ap (_∷_ x) (keep-others a w b (d .1)))
 
--- ALL WAITS: each is one
-pub all-in : (t : Receipts) (ws : List Wait) → AllWaits t ws → (w : Wait) → In w ws → WaitIs t w
-unfolding AllWaits In
-all-in t [] a w h = absurd h
-all-in t (x ∷ ws) a w (inl e) = subst (λ (v : Wait). WaitIs t v) e (a .0)
-all-in t (x ∷ ws) a w (inr h) = all-in t ws (a .1) w h
-
-pub in-all : (t : Receipts) (ws : List Wait) → ((w : Wait) → In w ws → WaitIs t w) → AllWaits t ws
-unfolding AllWaits In
-in-all t [] h = tt
-in-all t (x ∷ ws) h = (h x (inl refl), in-all t ws (λ w m. h w (inr m)))
-
 -- A WAIT IN OTHER RECEIPTS: it is one still, at another count of ticks as well, where its region lends something and time is left
 abbrev pub counting : ℕ → Wait → Wait
 counting n w = record { task = w .task; id = w .id; size = w .size; priority = w .priority; ticks = w .ticks; since = n }
@@ -215,6 +204,7 @@ wait-moved t u w n l a found lending time =
       entry = withLoans l (a .entry);
       found = found;
       lending = lending;
+      id-some = a .id-some;
       task-some = a .task-some;
       task-most = a .task-most;
       size-some = a .size-some;

@@ -3,7 +3,7 @@ use mathlib.Core.Path.{_≡_, refl, sym, ap, _∙_, subst}
 use mathlib.Core.Bool.{Bool, true, false, cond, not, _&&_, true≢false}
 use mathlib.Core.List.{List, [], _∷_, _++_}
 use mathlib.Core.Logic.{_⊎_, inl, inr, ⊎-elim}
-use Prim.Native.Nat.{ℕ, zero, suc, _+_, _-_, _≤_}
+use Prim.Native.Nat.{ℕ, suc, _+_, _-_, _≤_}
 use native.Mathlib.Nat.{eq-zero-or-pos, sub-zero}
 use native.Mathlib.Omega.{arith}
 use lib.ListN.{length, replicate}
@@ -14,7 +14,7 @@ use Rattle.arith.specs.Layout.{pageCount}
 use Rattle.manager.specs.Lists.{every, some as someOf, pairwise, adjacent}
 use Rattle.manager.proofs.Laws.Lists.{and-first, and-second}
 use Rattle.manager.specs.Map.{Segment, free, held, isHeldSegment}
-use Rattle.manager.specs.Record.{tasks, noWaiter, regionOf}
+use Rattle.manager.specs.Record.{slots, tasks, noWaiter, regionOf}
 use Rattle.manager.specs.Region.{baseOf, dead, pagesOf, pagesAsked, anyHeld, segments}
 use Rattle.manager.specs.Queue.{goesBefore}
 use Rattle.manager.specs.Sound.{unused, soundWaiter, soundPlace, otherTask, inOrder, liveRegion, soundRegion}
@@ -25,10 +25,12 @@ use Rattle.manager.specs.declared.Region.{Region}
 use Rattle.manager.specs.declared.Waiter.{Waiter}
 use Rattle.trace.specs.Receipts.{Receipts, Wait, unit, Within, Distinct}
 use Rattle.trace.specs.Claims.{waiterOf, waitersOf}
-use Rattle.trace.proofs.Invariant.{WaitIs, AllWaits, tasksOf}
+use Rattle.trace.proofs.Invariant.{WaitIs, tasksOf}
+use Rattle.trace.proofs.Areas.{region-slot}
 use Rattle.trace.proofs.Loans.Addresses.{address-none}
 use Rattle.trace.proofs.Loans.Words.{loansOf}
 use Rattle.trace.proofs.Recover.Region.{entryOf, slotEntry, unit-same, region-parts}
+use Rattle.trace.proofs.Queue.Line.{In}
 
 -- a waiter as a wait, and the used places of a queue
 abbrev pub waitFor : Waiter → Wait
@@ -158,7 +160,7 @@ unfolding soundRegion
 live-clauses m r e f = rw f at e
 
 module _ (m : List ℕ) (d : Manager) (t : Receipts) (entries : (id : ℕ) → t .regions id ≡ slotEntry m (regionOf d id))
-    (sounds : (id : ℕ) → soundRegion m (regionOf d id) ≡ true) where
+    (sounds : (id : ℕ) → soundRegion m (regionOf d id) ≡ true) (nr : length (d .regions) ≡ slots) (np : length (d .partitions) ≡ slots) where
   pub wait-is : (w : Waiter) → soundPlace m d w ≡ true → unused w ≡ false → WaitIs t (waitFor w)
   wait-is w e f =
       let r = regionOf d (w .region) in
@@ -169,7 +171,8 @@ module _ (m : List ℕ) (d : Manager) (t : Receipts) (entries : (id : ℕ) → t
         entry = entryOf m r;
         found = entries (w .region) ∙ rw (p .alive);
         lending = λ n. some-loan 0 (segments m r) (p .lending) (address-none (baseOf r) (r .page) (loansOf 0 (segments m r)) n);
-        task-some = pos (w .task) (eqb-false (w .task) 0 f);
+        id-some = omega (arith, region-slot d nr np (w .region) (eqb-false (r .name) 0 (p .alive)) .is);
+        task-some = let y = eqb-false (w .task) 0 f in omega arith;
         task-most = p .task-most;
         size-some = p .size-some;
         size-most = subst (λ (x : ℕ). pagesFor (w .size) x ≤ pageCount (r .start) (r .length) x) (sym u) (p .size-most);
@@ -177,19 +180,16 @@ module _ (m : List ℕ) (d : Manager) (t : Receipts) (entries : (id : ℕ) → t
         priority-most = p .priority-most;
         time = eq-zero-or-pos (w .ticks);
       }
-    where
-      pos : (k : ℕ) → (k ≡ 0 → ⊥) → 1 ≤ k
-      pos zero n = absurd (n refl)
-      pos (suc k) n = omega arith
 
-  pub all-waits : (ws : List Waiter) → every (soundPlace m d) ws ≡ true → AllWaits t (waitsOf ws)
-  unfolding AllWaits waitsOf
-  all-waits [] e = tt
-  all-waits (w ∷ ws) e = go (either (unused w)) (all-waits ws (every-tail (soundPlace m d) w ws e))
+  pub each-wait : (ws : List Waiter) → every (soundPlace m d) ws ≡ true → (x : Wait) → In x (waitsOf ws) → WaitIs t x
+  unfolding In waitsOf
+  each-wait [] e x h = absurd h
+  each-wait (w ∷ ws) e x h = go (either (unused w)) (each-wait ws (every-tail (soundPlace m d) w ws e) x)
     where
-      go : (unused w ≡ true) ⊎ (unused w ≡ false) → AllWaits t (waitsOf ws) → AllWaits t (waitsOf (w ∷ ws))
-      go (inl f) ih = rw f ih
-      go (inr f) ih = rw f (wait-is w (every-here (soundPlace m d) w ws e) f, ih)
+      go : (unused w ≡ true) ⊎ (unused w ≡ false) → (In x (waitsOf ws) → WaitIs t x) → WaitIs t x
+      go (inl f) ih = ih (subst (In x) (waits-skip w ws f) h)
+      go (inr f) ih =
+          ⊎-elim (λ (q : waitFor w ≡ x). subst (WaitIs t) q (wait-is w (every-here (soundPlace m d) w ws e) f)) ih (subst (In x) (waits-cons w ws f) h)
 
 -- a task is not among those of places that have other tasks
 other-tasks : (w : Waiter) (ws : List Waiter) → unused w ≡ false → every (otherTask w) ws ≡ true → ¬ Within (w .task) (tasksOf (waitsOf ws))

@@ -4,7 +4,7 @@ use mathlib.Core.Path.{_≡_, refl, sym, ap, _∙_, subst}
 use mathlib.Core.Bool.{Bool, true, false, cond}
 use mathlib.Core.List.{List, [], _∷_}
 use mathlib.Core.Option.{none, some}
-use Prim.Native.Nat.{ℕ, suc, _+_, _-_, _*_, _≤_, _<_}
+use Prim.Native.Nat.{ℕ, suc, _+_, _*_, _≤_, _<_}
 use native.Mathlib.Omega.{arith}
 use lib.ListN.{length, getD, length-set}
 use lib.Dec.{eqb}
@@ -134,7 +134,7 @@ module _ (m : List ℕ) (d : Manager) (t : Receipts) (v : Inv m d t) (name start
         let u = registering (idOf slot) (some asked) t in
         let n = note-done asks memory manager t (idOf slot) Successful refl in
         let after : Inv memory manager u =
-        with-waits picture (waits-put t (idOf slot) (some asked) d manager refl (none-there t (idOf slot) (t .waits) (v .waits .all) not-there) (v .waits)) in
+        with-waits picture (waits-put t (idOf slot) (some asked) (none-there d t (v .waits) (idOf slot) not-there) d manager refl (v .waits)) in
         record {
           inv = rw n after;
           stays = λ w h h′. map-stays memory manager u after (idOf slot) asked (put-here (idOf slot) (some asked) (t .regions)) m memory words w

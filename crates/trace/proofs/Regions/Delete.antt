@@ -1,7 +1,7 @@
 -- A delete of a region with nothing held: nobody waits for it, and its slot is emptied. Assumes nothing.
 use mathlib.Core.Path.{_≡_, refl, sym, ap, _∙_, subst}
 use mathlib.Core.Bool.{Bool, false, cond}
-use mathlib.Core.List.{List, []}
+use mathlib.Core.List.{List}
 use mathlib.Core.Option.{none, some}
 use Prim.Native.Nat.{ℕ}
 use lib.ListN.{length-set}
@@ -15,7 +15,6 @@ use Rattle.manager.specs.declared.Region.{Region}
 use Rattle.manager.specs.declared.Call.the-variants.{DeleteRegion}
 use Rattle.manager.specs.declared.Status.the-variants.{Successful}
 use Rattle.trace.specs.Receipts.{Receipts, RegionEntry, pageLoans, put}
-use Rattle.trace.specs.Replies.{waitsIn}
 use Rattle.trace.proofs.Invariant.{regionFor, RegionSlot, empty, Inv, Picture, with-waits}
 use Rattle.trace.proofs.Areas.{OfSlot, region-slot, region-there, region-elsewhere, areas-no-region}
 use Rattle.trace.proofs.Clients.{RegionAt}
@@ -24,7 +23,7 @@ use Rattle.trace.proofs.Loans.Lawful.{none-held}
 use Rattle.trace.proofs.Loans.Pages.{pages}
 use Rattle.trace.proofs.Regions.Checks.{Passed, note-done, Kept, kept-words, kept-checked}
 use Rattle.trace.proofs.Regions.Live.{law, slot-entry, map-drawing}
-use Rattle.trace.proofs.Regions.Lending.{none-lent, registering, waits-put}
+use Rattle.trace.proofs.Regions.Lending.{NoWait, none-lent, registering, waits-put}
 use Rattle.trace.proofs.Regions.Queue.{no-loans, sound-inv}
 
 module _ (m : List ℕ) (d : Manager) (t : Receipts) (v : Inv m d t) (id : ℕ) where
@@ -34,8 +33,8 @@ module _ (m : List ℕ) (d : Manager) (t : Receipts) (v : Inv m d t) (id : ℕ) 
         region-slot d (v .picture .region-slots) (v .picture .partition-slots) id
         (subst (λ (r : Region). ¬ (r .name ≡ 0)) (sym (at .region)) (at .is .named))
 
-    nobody : waitsIn id (t .waits) ≡ []
-    nobody = none-lent t id e (t .waits) (v .waits .all) q (no-loans m e (at .is) (none-held _ pages (law (regionFor e)) (pageLoans e) (map-drawing m e (at .is)) h))
+    nobody : NoWait t id
+    nobody = none-lent d t (v .waits) id e q (no-loans m e (at .is) (none-held _ pages (law (regionFor e)) (pageLoans e) (map-drawing m e (at .is)) h))
 
     slot-at : (j : ℕ) → RegionSlot m (regionOf (withRegion d (slotOf id) noRegion) j) (put id none (t .regions) j)
     slot-at j =
@@ -62,7 +61,7 @@ module _ (m : List ℕ) (d : Manager) (t : Receipts) (v : Inv m d t) (id : ℕ) 
     act-kept =
         kept-words (DeleteRegion id) m t (done m (withRegion d (slotOf id) noRegion) 0) refl
         (rw (note-done (DeleteRegion id) m (withRegion d (slotOf id) noRegion) t 0 Successful refl)
-        (with-waits picture (waits-put t id none d (withRegion d (slotOf id) noRegion) refl nobody (v .waits))))
+        (with-waits picture (waits-put t id none nobody d (withRegion d (slotOf id) noRegion) refl (v .waits))))
 
   -- A DELETE KEEPS THE PICTURE
   pub keeps-delete : Kept (DeleteRegion id) m t (deleteRegion m d id)

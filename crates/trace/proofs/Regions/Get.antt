@@ -2,7 +2,6 @@
 use mathlib.Core.Path.{_≡_, refl, sym, ap, subst}
 use mathlib.Core.Bool.{true}
 use mathlib.Core.List.{List, [], _∷_, _++_}
-use mathlib.Core.Logic.{inl}
 use mathlib.Core.Option.{some}
 use Prim.Native.Nat.{ℕ, _≤_, _<_}
 use native.Mathlib.Omega.{arith}
@@ -38,7 +37,7 @@ use Rattle.trace.proofs.Regions.Checks.{Passed, refuses, note-done, not
 use Rattle.trace.proofs.Regions.Live.{law, slot-entry, map-drawing}
 use Rattle.trace.proofs.Regions.Picture.{on-region, any-queue, changed-map, changed-words}
 use Rattle.trace.proofs.Regions.Lending.{waits-lent, enter-some}
-use Rattle.trace.proofs.Regions.Queue.{sound-inv, wait-inv}
+use Rattle.trace.proofs.Regions.Queue.{sound-inv, wait-inv, live-id}
 
 -- what a get does in a region, once its checks pass
 abbrev pub getting : List ℕ → Manager → asking.Wait → Waiter → Region → ℕ → Result
@@ -85,6 +84,7 @@ module _ (m : List ℕ) (d : Manager) (t : Receipts) (v : Inv m d t) (id size : 
           record {
             entry = e;
             found = q;
+            id-some = live-id m d t v id e q;
             lending = λ (n : e .loans ≡ []). no-run 0 (empty-run (pagesIn e) wants (pageLoans e) (ap (byPage e) n) some-wanted h);
             task-some = let y = eqb-false task 0 (c .0) in omega arith;
             task-most = ltb-false tasks task (c .1 .0);
@@ -116,7 +116,7 @@ module _ (m : List ℕ) (d : Manager) (t : Receipts) (v : Inv m d t) (id size : 
         kept-map asks m d t v id e q (done (withSegments m (regionFor e) s) d (addressIn e p)) (changed-words m d t (v .picture) id e q l s w)
         (rw (note-done asks (withSegments m (regionFor e) s) d t (addressIn e p) Successful refl, on-region id e t (lend (addressIn e p) size) l q (lend-page m e is p size))
         (with-waits (changed-map m d t (v .picture) id e q l s w)
-        (waits-lent t id e q l d (v .waits) (inl (enter-some p wants (pageLoans e))))))
+        (waits-lent t id e q l d (v .waits) (λ x i r. enter-some p wants (pageLoans e)))))
 
     got-kept : (g : Place) (s : List Segment) → Gets pages (pagesIn e) (pageLoans e) wants g s → Passed (waitChecks d wait task priority)
         → Kept asks m t (onPlace g (λ p. done (withSegments m (regionFor e) s) d (addressOf (regionFor e) p)) (unplaced m d wait waiter))

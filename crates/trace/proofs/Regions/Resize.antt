@@ -2,7 +2,7 @@
 use mathlib.Core.Path.{_≡_, refl, sym, ap, subst}
 use mathlib.Core.Bool.{Bool, false, cond}
 use mathlib.Core.List.{List}
-use mathlib.Core.Logic.{inl, inr}
+use mathlib.Core.Logic.{inr}
 use mathlib.Core.Option.{some}
 use Prim.Native.Nat.{ℕ, _*_, _<_}
 use native.Mathlib.Omega.{arith}
@@ -66,7 +66,7 @@ module _ (m : List ℕ) (d : Manager) (t : Receipts) (v : Inv m d t) (id a size 
           on-region id e t (refit a size) other q (ap (λ (l : List Loan). withLoans l e) (amended-at e (regular m e is) a wants (x .at))),
         )
         (with-waits (changed-map m d t (v .picture) id e q other s w)
-        (waits-lent t id e q other d (v .waits) (inl (lent-list other (pageIn e a) wants other-lent)))))
+        (waits-lent t id e q other d (v .waits) (λ y i r. lent-list other (pageIn e a) wants other-lent))))
 
     act-kept : Kept (ResizeSegment id a size) m t (resizing m d a (regionFor e) wants)
     act-kept =

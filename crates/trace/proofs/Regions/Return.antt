@@ -1,8 +1,7 @@
 -- A return: the loan is struck, and then the region's queue is served. Assumes nothing.
 use mathlib.Core.Path.{_≡_, refl, sym, ap, subst}
 use mathlib.Core.Bool.{false}
-use mathlib.Core.List.{List, []}
-use mathlib.Core.Logic.{inl}
+use mathlib.Core.List.{List}
 use mathlib.Core.Option.{some}
 use Prim.Native.Nat.{ℕ}
 use native.Mathlib.Omega.{arith}
@@ -17,7 +16,6 @@ use Rattle.manager.specs.declared.Region.{Region}
 use Rattle.manager.specs.declared.Call.the-variants.{ReturnSegment}
 use Rattle.trace.specs.Loans.{Loan, amend}
 use Rattle.trace.specs.Receipts.{Receipts, RegionEntry, pagesIn, pageIn, pageLoans, giveBack, onRegion, withLoans, note}
-use Rattle.trace.specs.Replies.{queueOf}
 use Rattle.trace.proofs.Invariant.{regionFor, atAddresses, lentPages, Inv}
 use Rattle.trace.proofs.Frame.{only-trans}
 use Rattle.trace.proofs.Clients.{RegionAt}
@@ -28,8 +26,9 @@ use Rattle.trace.proofs.Regions.Checks.{Passed, Kept, kept-map, kept-ch
 use Rattle.trace.proofs.Regions.Live.{law, slot-entry, map-drawing, lent-held}
 use Rattle.trace.proofs.Regions.Picture.{put-here, lending, on-region, lending-again, changed-map, changed-words}
 use Rattle.trace.proofs.Regions.Lending.{waits-lent}
-use Rattle.trace.proofs.Regions.Queue.{sound-inv, region-ids, few-queue}
+use Rattle.trace.proofs.Regions.Queue.{sound-inv, few-queue}
 use Rattle.trace.proofs.Regions.Serve.{Outcome, Serving, something, served}
+use Rattle.trace.specs.Queue.{queueOf}
 
 -- what a return does in a region, once its checks pass
 abbrev pub returning : List ℕ → Manager → ℕ → ℕ → Region → Served
@@ -61,13 +60,13 @@ module _ (m : List ℕ) (d : Manager) (t : Receipts) (v : Inv m d t) (id a : ℕ
             picture = changed-map m d t (v .picture) id e q rest _ drawing;
             entry = put-here id (some (lentPages rest e)) (t .regions);
             waits = rw (lending-again id e t rest something)
-                (waits-lent t id e q something d (v .waits) (inl (λ (n : something ≡ []). let z : _≡_ {A = ℕ} 0 1 = cc in omega arith)));
+                (waits-lent t id e q something d (v .waits) (λ y i r n. let z : _≡_ {A = ℕ} 0 1 = cc in omega arith));
             queue = refl;
           }
 
       pub outcome : Outcome e rest (queueOf id e t) released (onRegion id (giveBack a) t) (returning m d id a (regionFor e))
       unfolding serve
-      outcome = rw struck (served id e tasks _ d _ rest (queueOf id e t) serving (few-queue d t id e (v .waits) (region-ids m d t (v .picture)) q))
+      outcome = rw struck (served id e tasks _ d _ rest (queueOf id e t) serving (few-queue d t id e (v .waits)))
 
       -- what it keeps
       act-kept : Kept (ReturnSegment id a) m t (fromServed (returning m d id a (regionFor e)))

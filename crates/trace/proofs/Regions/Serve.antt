@@ -2,7 +2,7 @@
 -- nothing while others wait; in the end it does not, since where nothing is lent the first wait has a run. Assumes nothing.
 use mathlib.Core.Path.{_≡_, refl, sym, ap, _∙_, subst}
 use mathlib.Core.List.{List, [], _∷_}
-use mathlib.Core.Logic.{_⊎_, inl, inr}
+use mathlib.Core.Logic.{_⊎_, inl, inr, ⊎-elim}
 use mathlib.Core.Option.{some}
 use Prim.Native.Nat.{ℕ, zero, suc, _≤_, _<_}
 use native.Mathlib.Omega.{arith}
@@ -10,7 +10,7 @@ use lib.ListN.{length, getD}
 use borrow.Author.Tests.{lt-ltb, le-ltb}
 use Rattle.arith.specs.Round.{pagesFor}
 use Rattle.arith.proofs.Laws.Round.{pages-some}
-use Rattle.manager.specs.Record.{slots, tasks, noWaiter, regionOf}
+use Rattle.manager.specs.Record.{tasks, noWaiter, regionOf}
 use Rattle.manager.specs.Map.{Segment}
 use Rattle.manager.specs.Region.{addressOf, withSegments, pagesAsked, placed, taken}
 use Rattle.manager.specs.Queue.{firstOf, dequeue}
@@ -23,7 +23,7 @@ use Rattle.manager.specs.declared.Place.the-variants.{At, Nowhere}
 use Rattle.manager.specs.declared.Notice.{Notice}
 use Rattle.trace.specs.Loans.{Loan, loan, enter}
 use Rattle.trace.specs.Receipts.{Receipts, RegionEntry, Wait, unit, pagesIn, addressIn, lend, onRegion, put, withWaits, without, noticed, allNoticed}
-use Rattle.trace.specs.Replies.{lowestRun, grantsIn, queueOf, waitsIn}
+use Rattle.trace.specs.Replies.{lowestRun, grantsIn}
 use Rattle.trace.specs.Claims.{waiterOf}
 use Rattle.trace.proofs.Invariant.{regionFor, atAddresses, lentPages, WaitIs, Waits, Inv, Picture, with-waits}
 use Rattle.trace.proofs.Frame.{only-refl, only-trans, region-unit, lent-pages}
@@ -31,14 +31,12 @@ use Rattle.trace.proofs.Clients.{RegionAt, region-at, OnlyMap}
 use Rattle.trace.proofs.Loans.Lawful.{Drawing, Gets, given, nothing}
 use Rattle.trace.proofs.Loans.Pages.{pages, place-lowest}
 use Rattle.trace.proofs.Grants.{first-grant, grants-first}
-use Rattle.trace.proofs.Queue.Tasks.{all-in}
-use Rattle.trace.proofs.Queue.Shown.{Ids, queued}
 use Rattle.trace.proofs.Queue.Grant as queue
 use Rattle.trace.proofs.Regions.Live.{law, lent-drawing}
 use Rattle.trace.proofs.Regions.Picture.{put-here, lending, on-region, lending-again, lending-same, any-queue, changed-map, changed-words}
-use Rattle.trace.proofs.Regions.Lending.{none-arranged, waits-lent}
-use Rattle.trace.proofs.Regions.Queue.{region-ids, lending-ids}
+use Rattle.trace.proofs.Regions.Lending.{none-queued, waits-lent}
 use Rattle.trace.proofs.Regions.Get.{empty-run, lend-page}
+use Rattle.trace.specs.Queue.{queueOf}
 
 -- one turn
 module _ (f : ℕ) (m : List ℕ) (d : Manager) (id : ℕ) where
@@ -79,33 +77,25 @@ module _ (id : ℕ) (e : RegionEntry) where
     region-is : RegionAt m (regionOf d id) (lentPages l e)
     region-is = region-at m (regionOf d id) (t .regions id) (lentPages l e) (v .picture .regions id) (v .entry)
 
-    -- the ids of the receipts, were something lent
-    shadow-ids : Ids slots (lending id e something t)
-    shadow-ids = lending-ids t id (lentPages l e) something (region-ids m d t (v .picture)) (v .entry)
-
     -- it ends where something is lent, or nobody waits
     ended : (¬ (l ≡ [])) ⊎ (ws ≡ []) → Inv m d t
     ended h =
         with-waits (v .picture)
         (subst (λ (u : Receipts). Waits d u) (lending-again id e t something l ∙ lending-same id e t l (v .entry))
-        (waits-lent (lending id e something t) id (lentPages something e) (put-here id (some (lentPages something e)) (t .regions)) l d (v .waits) (nobody h)))
-      where
-        nobody : (¬ (l ≡ [])) ⊎ (ws ≡ []) → (¬ (l ≡ [])) ⊎ (waitsIn id (t .waits) ≡ [])
-        nobody (inl x) = inl x
-        nobody (inr x) = inr (none-arranged (e .order) (waitsIn id (t .waits)) (v .queue ∙ x))
+        (waits-lent (lending id e something t) id (lentPages something e) (put-here id (some (lentPages something e)) (t .regions)) l d (v .waits)
+        (⊎-elim (λ (x : ¬ (l ≡ [])) w i r. x) (λ (x : ws ≡ []) w i r. absurd (none-queued t id e (v .queue ∙ x) w i r)) h)))
 
   -- the first wait of a queue that is being served
   module _ (m : List ℕ) (d : Manager) (t : Receipts) (l : List Loan) (w : Wait) (ws : List Wait) (v : Serving id e m d t l (w ∷ ws)) where
     abbrev pages-asked : ℕ
     pages-asked = pagesFor (w .size) (unit e)
 
-    first : queue.Granted slots tasks d (lending id e something t) id (lentPages something e) w ws
+    first : queue.Granted d (lending id e something t) id (lentPages something e) w ws
     first =
-        queue.granted slots tasks (lending id e something t) (queued d (lending id e something t) (v .waits) (shadow-ids m d t l (w ∷ ws) v)) d (v .waits .queue)
-        id (lentPages something e) (put-here id (some (lentPages something e)) (t .regions)) w ws (v .queue)
+        queue.granted d (lending id e something t) (v .waits) id (lentPages something e) (put-here id (some (lentPages something e)) (t .regions)) w ws (v .queue)
 
     first-is : WaitIs (lending id e something t) w
-    first-is = all-in (lending id e something t) (t .waits) (v .waits .all) w (first .waits)
+    first-is = v .waits .each w (first .waits)
 
     -- he asks for pages that the region has
     asker : (u : WaitIs (lending id e something t) w) → u .entry ≡ lentPages something e
@@ -145,7 +135,7 @@ module _ (id : ℕ) (e : RegionEntry) where
               (without (w .task) (t .waits)) (changed-map m d t (v .picture) id (lentPages l e) (v .entry) (enter p pages-asked l) s g);
           entry = put-here id (some (lentPages (enter p pages-asked l) e)) (t .regions);
           waits = rw (lending-again id e (withWaits (without (w .task) (t .waits)) t) (enter p pages-asked l) something)
-              (queue.waits-struck d (dequeue d (firstOf id (d .waiters))) (lending id e something t) (w .task) (v .waits) (shadow-ids m d t l (w ∷ ws) v) (first .shown));
+              (first .after);
           queue = first .rest;
         }
 
@@ -189,9 +179,7 @@ module _ (id : ℕ) (e : RegionEntry) where
   served zero m d t l (w ∷ ws) v h = absurd (omega arith)
   served (suc f) m d t l [] v h =
       rw (serve-nobody f m d id
-      (let i = queued d (lending id e something t) (v .waits) (shadow-ids m d t l [] v) in
-      let k = queue.none-first slots tasks (lending id e something t) i d (v .waits .queue) id (lentPages something e) (put-here id (some (lentPages something e)) (t .regions)) (v .queue) in
-      omega arith))
+      (queue.none-first d (lending id e something t) (v .waits) id (lentPages something e) (put-here id (some (lentPages something e)) (t .regions)) (v .queue)))
       (record { grants = refl; only = only-refl _ _ m; inv = ended m d t l [] v (inr refl) })
   served (suc f) m d t l (w ∷ ws) v h =
       took-turn m d t l w ws v f (λ m′ d′ t′ l′ v′. served f m′ d′ t′ l′ ws v′ (omega arith))

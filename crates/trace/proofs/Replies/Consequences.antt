@@ -20,7 +20,7 @@ use Rattle.manager.specs.declared.Wait.the-variants.{No}
 use Rattle.manager.specs.declared.Status.the-variants.{Successful, Unsatisfied}
 use Rattle.trace.specs.Loans.{Loan, Lent, Run, Lowest, Room, amend}
 use Rattle.trace.specs.Receipts.{Receipts, RegionEntry, PartitionEntry, Wait, Reply, unit, pagesIn, addressIn, pageIn, pageLoans, buffersIn}
-use Rattle.trace.specs.Replies.{no, yes, tells, informs, resizes, decided, pagesAt, mostPagesAt, pagesOver, runIn, grantsIn, queueOf, informationIn, front, byReceipts}
+use Rattle.trace.specs.Replies.{no, yes, tells, informs, resizes, decided, pagesAt, mostPagesAt, pagesOver, runIn, grantsIn, informationIn, front, byReceipts}
 use Rattle.trace.specs.Claims.{Grants}
 use Rattle.trace.proofs.Held.{Regular, loan-holds, amended-at}
 use Rattle.trace.proofs.Grants.{Found, found, nowhere, lowest-found, grants-are}
@@ -30,6 +30,7 @@ use Rattle.trace.proofs.Loans.Book.{lent-one}
 use Rattle.trace.proofs.Loans.Change.{reach-is, most-from, returned}
 use Rattle.trace.proofs.Queue.Line.{In}
 use Rattle.trace.proofs.Replies.Held.{Finds, there, missing, finds}
+use Rattle.trace.specs.Queue.{queueOf}
 
 -- ---- a region's loans
 

@@ -9,7 +9,7 @@ use lib.ListN.{length, replicate}
 use lib.Dec.{eqb, ltb}
 use borrow.Author.Tests.{eqb-true, eqb-false, eq-eqb}
 use Rattle.arith.proofs.Laws.Round.{pages-some}
-use Rattle.manager.specs.Record.{slots, tasks, noWaiter, regionOf}
+use Rattle.manager.specs.Record.{tasks, noWaiter, regionOf}
 use Rattle.manager.specs.Result.{Result, check, checked, done}
 use Rattle.manager.specs.Region.{pagesOf, addressOf, heldAt, pagesAsked, placed, taken}
 use Rattle.manager.specs.Queue.{waiting}
@@ -28,20 +28,22 @@ use Rattle.manager.specs.declared.Status.the-variants.{InvalidSize, InvalidAddr
 use Rattle.trace.specs.Loans.{Loan}
 use Rattle.trace.specs.Receipts.{Receipts, RegionEntry, Wait, Reply, Within, replyOf, unit, addressIn}
 use Rattle.trace.specs.Claims.{waitersOf}
-use Rattle.trace.specs.Replies.{yes, tells, noRun, pagesOver, grantsIn, waitsAlready, waitingChecks, queueOf, byReceipts}
-use Rattle.trace.proofs.Invariant.{regionFor, tasksOf, queuesFrom, Inv}
+use Rattle.trace.specs.Replies.{yes, tells, noRun, pagesOver, grantsIn, waitsAlready, waitingChecks, byReceipts}
+use Rattle.trace.proofs.Invariant.{regionFor, tasksOf, Inv}
 use Rattle.trace.proofs.Frame.{region-unit}
 use Rattle.trace.proofs.Queue.Line.{In, true-false, in-append}
 use Rattle.trace.proofs.Queue.Places.{in-some, in-replicate}
 use Rattle.trace.proofs.Queue.Tasks.{in-tasks}
-use Rattle.trace.proofs.Queue.Shown.{Queued, queued, in-queues, in-waiters, task-waits}
 use Rattle.trace.proofs.Queue.Ticks.{tick-notices}
+use Rattle.trace.proofs.Queue.Order.{in-all-waits}
+use Rattle.trace.proofs.Queue.Waiters.{task-waits, in-waiters}
 use Rattle.trace.proofs.Clients.{RegionAt}
-use Rattle.trace.proofs.Regions.Queue.{sound-inv, region-ids}
+use Rattle.trace.proofs.Regions.Queue.{sound-inv}
 use Rattle.trace.proofs.Regions.Get.{getting}
 use Rattle.trace.proofs.Regions.Return.{returning, outcome, rest-at}
 use Rattle.trace.proofs.Replies.Checks.{Agree, rest, same, test, acted, agree, answers, at-region}
 use Rattle.trace.proofs.Replies.Held.{none-at, lent-at, placed-lowest}
+use Rattle.trace.specs.Queue.{queueOf, inLine}
 
 -- ---- a task waits
 
@@ -64,27 +66,24 @@ module _ (task : ℕ) where
       or-true false e = e
 
 module _ (m : List ℕ) (d : Manager) (t : Receipts) (v : Inv m d t) where
-  queue-right : Queued slots tasks t
-  queue-right = queued d t (v .waits) (region-ids m d t (v .picture))
-
   -- A TASK WAITS IN THE RECORD EXACTLY WHERE IT WAITS BY THE RECEIPTS
   waiting-within : (task : ℕ) → ¬ (task ≡ 0) → waiting d task ≡ true → Within task (tasksOf (t .waits))
   waiting-within task n e =
       let r = in-some (λ w. eqb (w .task) task) (d .waiters) e in
-      let k = tasks - length (waitersOf (queuesFrom slots 0 t)) in
+      let k = tasks - length (waitersOf (inLine t)) in
       let i = subst (λ (l : List Waiter). In (r .0) l) (v .waits .queue) (r .1) in
       let f : r .0 .task ≡ task = eqb-true (r .0 .task) task (r .2) in
-      elim (in-append (r .0) (waitersOf (queuesFrom slots 0 t)) (replicate k noWaiter) .0 i) [
-        | inl h ↦ let w = in-waiters (r .0) (queuesFrom slots 0 t) h in
+      elim (in-append (r .0) (waitersOf (inLine t)) (replicate k noWaiter) .0 i) [
+        | inl h ↦ let w = in-waiters (r .0) (inLine t) h in
             subst (λ (a : ℕ). Within a (tasksOf (t .waits))) (ap (λ (x : Waiter). x .task) (w .2) ∙ f)
-            (in-tasks (w .0) (t .waits) (in-queues slots tasks t queue-right (w .0) .0 (w .1)))
+            (in-tasks (w .0) (t .waits) (in-all-waits t (w .0) .0 (w .1)))
         | inr h ↦ absurd (n (sym f ∙ ap (λ (x : Waiter). x .task) (sym (in-replicate k noWaiter (r .0) h))))
       ]
 
   pub task-already : (task : ℕ) → ¬ (task ≡ 0) → waiting d task ≡ waitsAlready task (t .waits)
   task-already task n =
       by-case (waitsAlready task (t .waits)) (λ b. waiting d task ≡ b)
-      (λ e. task-waits slots tasks t queue-right d (v .waits .queue) task (already-within task (t .waits) e))
+      (λ e. task-waits d t (v .waits) task (already-within task (t .waits) e))
       (λ e. by-case (waiting d task) (λ b. b ≡ false)
       (λ f. absurd (true-false (waitsAlready task (t .waits)) (within-already task (t .waits) (waiting-within task n f)) e))
       (λ f. refl))
@@ -135,4 +134,4 @@ module _ (m : List ℕ) (d : Manager) (t : Receipts) (v : Inv m d t) where
 
   pub replies-tick : replyOf (tick m d) ≡ byReceipts (length m) t Tick
   unfolding tick byReceipts checked
-  replies-tick = answers m d [] _ _ (sound-inv m d t v) (ap (λ (ns : List Notice). tells ns) (tick-notices slots tasks d t (v .waits .queue)))
+  replies-tick = answers m d [] _ _ (sound-inv m d t v) (ap (λ (ns : List Notice). tells ns) (tick-notices d t (v .waits)))
