@@ -9,7 +9,6 @@ use Prim.Native.Nat.{ℕ, zero, suc, _+_, _*_, _/_, _≤_, _<_}
 use native.Mathlib.Nat.{mul-le-mul}
 use native.Mathlib.Omega.{arith}
 use lib.ListN.{length, take, drop, length-take, length-drop}
-use Rattle.arith.proofs.Laws.Round.{pages-some}
 use Rattle.manager.specs.Record.{regionOf, partitionOf}
 use Rattle.manager.specs.Region.{segments}
 use Rattle.manager.specs.Partition.{isBuffer, follow, linked, nextOf}
@@ -23,21 +22,21 @@ use Rattle.manager.specs.declared.Partition.{Partition}
 use Rattle.manager.specs.declared.Status.the-variants.{InternalError}
 use Rattle.trace.specs.Loans.{Lent, loanPages, sum}
 use Rattle.trace.specs.Receipts.{RegionEntry, PartitionEntry, Wait, Reply, replyOf, unit, firstIn, pageIn, pageLoans, buffersIn, buffersFrom, Within}
-use Rattle.trace.specs.Replies.{pagesOver, byReceipts, readByReceipts}
+use Rattle.trace.specs.Replies.{byReceipts, readByReceipts}
 use Rattle.trace.specs.Trace.{State, answer}
 use Rattle.trace.specs.Claims.{freePages, Chained, null, link, RegionClaims, PartitionClaims}
 use Rattle.trace.proofs.Invariant.{regionFor, PartitionIs, Inv}
 use Rattle.trace.proofs.Frame.{unit-least, inside-parts, partition-shaped, buffer-lies, chained-buffer}
 use Rattle.trace.proofs.Buffers.{buffer-within, within-buffer}
 use Rattle.trace.proofs.Clients.{RegionAt, region-at, partition-at, SegmentLoan, segment-in, segment-some}
-use Rattle.trace.proofs.Held.{Regular, regular, loan-holds}
+use Rattle.trace.proofs.Segments.{law, Regular, regular, loan-holds, pages-lent}
+use Rattle.trace.proofs.Map.{drawing}
 use Rattle.trace.proofs.Loans.Addresses.{address-pages}
 use Rattle.trace.proofs.Queue.Line.{In}
 use Rattle.trace.proofs.Queue.Order.{in-waits, queue-of, in-all-waits}
 use Rattle.trace.proofs.Queue.Waiters.{waiters-for}
-use Rattle.trace.proofs.Regions.Live.{law, map-drawing}
 use Rattle.trace.proofs.Partitions.Slot.{buffers-in, unlent-once}
-use Rattle.trace.proofs.Replies.Consequences.{pages-lent, unsatisfied-by, lowest-by, information-by, size-by, resize-by, return-by, buffer-unsatisfied, buffer-front}
+use Rattle.trace.proofs.Replies.Consequences.{unsatisfied-by, lowest-by, information-by, size-by, resize-by, return-by, buffer-unsatisfied, buffer-front}
 use Rattle.trace.proofs.Replies.Undamaged.{not-damaged, reply-sound}
 use Rattle.trace.specs.Queue.{queueOf, inLine, dueIn}
 
@@ -83,13 +82,13 @@ module _ (i : Implementation) (s : State) (v : Inv (s .memory) (s .manager) (s .
     loans : Regular e
     loans = regular (s .memory) e (at .is)
 
-    -- a wait of its queue asks for a page
-    queue-asks : (w : Wait) → In w (queueOf id e (s .receipts)) → 0 < pagesOver e (w .size)
+    -- a wait of its queue asks for something
+    queue-asks : (w : Wait) → In w (queueOf id e (s .receipts)) → 0 < w .size
     unfolding In
     queue-asks w h =
         let t = s .receipts in
         let y : In w (t .waits) = in-all-waits t w .0 (in-waits id w (inLine t) .0 (rw (queue-of id e t q) at h) .0) in
-        pages-some (w .size) (unit e) (loans .some-unit) (v .waits .each w y .size-some)
+        v .waits .each w y .size-some
 
     -- a read of a loan has words
     read-some : (a k : ℕ) → Lent (e .loans) a k → ¬ (i .read (s .memory) (s .manager) id a ≡ [])
@@ -110,11 +109,11 @@ module _ (i : Implementation) (s : State) (v : Inv (s .memory) (s .manager) (s .
         let t = s .receipts in
         record {
           placed = λ a k x. loan-holds e loans a k x .at;
-          ordered = loans .ordered;
+          ordered = loans .fits;
           map = at .is .map;
           counted =
               ap (λ (l : List ℕ). sum l + freePages (segments (s .memory) (regionFor e))) (ap loanPages (loans .placed) ∙ address-pages (firstIn e) (unit e) (pageLoans e))
-              ∙ law (regionFor e) .counted (map-drawing (s .memory) e (at .is));
+              ∙ law e .counted (drawing (s .memory) e (at .is));
           unsatisfied = λ size task priority ticks z h. rw (status-by (GetSegment id size No task priority ticks))
               (unsatisfied-by n t id e q loans size task priority ticks z h);
           lowest = λ size task priority ticks z h. rw (status-by (GetSegment id size No task priority ticks), value-by (GetSegment id size No task priority ticks))

@@ -19,10 +19,9 @@ use Rattle.manager.specs.declared.Partition.{Partition}
 use Rattle.trace.specs.Loans.{Lent}
 use Rattle.trace.specs.Receipts.{Receipts, RegionEntry, PartitionEntry, unit, pagesIn, addressIn, pageIn, pageLoans, Within}
 use Rattle.trace.specs.Trace.{Object, region, partition, Loaned, segment, buffer, Owned, ClientsWrite}
-use Rattle.trace.proofs.Invariant.{Inside, Only, regionFor, RegionIs, RegionSlot, PartitionIs, PartitionSlot, Inv, empty, live}
-use Rattle.trace.proofs.Loans.Drawn.{lent-within, lent-some}
+use Rattle.trace.proofs.Invariant.{Inside, regionFor, RegionIs, RegionSlot, PartitionIs, PartitionSlot, Inv, empty, live, OnlyMap}
 use Rattle.trace.proofs.Frame.{unit-whole, whole-times, page-upto, first-from, region-unit, region-inside, region-before, region-same, partition-shaped, buffer-lies, buffers-apart, chained-buffer, link-next, link-before, buffer-inside, partition-same}
-use Rattle.trace.proofs.Held.{regular, loan-holds}
+use Rattle.trace.proofs.Segments.{law, regular, loan-holds}
 use Rattle.trace.proofs.Areas.{areaFor, areaIn, sound-clear, clear-words, same-object}
 
 -- ---- what stands in a live slot
@@ -81,12 +80,12 @@ module _ (m : List ℕ) (e : RegionEntry) (is : RegionIs m e) (a n : ℕ) (l : S
   segment-behind = omega (arith, l .at)
 
   pub segment-some : 0 < l .k
-  segment-some = lent-some (pagesIn e) 0 (pageLoans e) (l .p) (l .k) (is .ordered) (l .lent)
+  segment-some = law e .lent-some (is .fits) (l .p) (l .k) (l .lent)
 
   pub segment-in : LoanIn (areaFor (regionFor e)) a n
   segment-in =
       let w : unit e % 4 ≡ 0 = omega (arith, unit-whole e) in
-      let u = page-upto (e .start) (e .bytes) (unit e) (region-unit m e is) (is .some-page) (l .p + l .k) (lent-within (pagesIn e) 0 (pageLoans e) (l .p) (l .k) (is .ordered) (l .lent)) in
+      let u = page-upto (e .start) (e .bytes) (unit e) (region-unit m e is) (is .some-page) (l .p + l .k) (law e .lent-within (is .fits) (l .p) (l .k) (l .lent)) in
       record {
         from = omega (arith, l .at, first-from (e .start) (e .bytes) (unit e) (region-unit m e is));
         upto = omega (arith, l .at, l .bytes, u);
@@ -182,10 +181,6 @@ module _ (m : List ℕ) (d : Manager) (t : Receipts) (v : Inv m d t) where
 -- whatever is of clients before a call and after it has its value still
 abbrev pub Stays : Receipts → Receipts → List ℕ → List ℕ → Type 0
 Stays t u m m′ = (w : ℕ) → Owned t w → Owned u w → getD m′ w 0 ≡ getD m w 0
-
--- only map words of an entry's region differ
-abbrev pub OnlyMap : RegionEntry → List ℕ → List ℕ → Type 0
-OnlyMap e m m′ = Only (4 * mapAt (regionFor e)) (4 * pagesIn e) m m′
 
 -- no word is a link word of one of some buffers
 abbrev pub NoLink : List ℕ → ℕ → Type 0

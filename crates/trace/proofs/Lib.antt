@@ -4,7 +4,8 @@ pub mod Loans
 pub mod Buffers
 pub mod Frame
 pub mod Areas
-pub mod Held
+pub mod Segments
+pub mod Map
 pub mod Grants
 pub mod Sound
 pub mod Clients

@@ -11,7 +11,6 @@ use Prim.Native.Nat.{ℕ, _+_, _-_, _*_, _/_, _≤_, _<_}
 use lib.ListN.{length, getD, take, drop}
 use lib.Seq.{sets}
 use lib.Dec.{eqb}
-use Rattle.arith.specs.Round.{pagesFor}
 use Rattle.arith.specs.Layout.{mapStart}
 use Rattle.manager.specs.Record.{mostWords, partitionOf}
 use Rattle.manager.specs.Map.{Segment, free, held, draw, decode}
@@ -22,8 +21,9 @@ use Rattle.manager.specs.declared.Call.{Call}
 use Rattle.manager.specs.declared.Call.the-variants.{GetSegment, ReturnSegment, SegmentSize, ResizeSegment, RegionInformation, GetBuffer, Tick}
 use Rattle.manager.specs.declared.Wait.the-variants.{No}
 use Rattle.manager.specs.declared.Status.the-variants.{Successful, Unsatisfied, InternalError}
-use Rattle.trace.specs.Loans.{Loan, Lent, Run, Lowest, Room, Ordered, drawn, loanPages, sum, enter, amend}
-use Rattle.trace.specs.Receipts.{Receipts, RegionEntry, PartitionEntry, Wait, replyOf, isSuccess, unit, pagesIn, addressIn, pageIn, byPage, pageLoans, buffersIn, buffersFrom, Within, Distinct}
+use Rattle.trace.specs.Loans.{Loan, Lent, loanPages, sum, enter, amend}
+use Rattle.trace.specs.Reading.{NoPlace}
+use Rattle.trace.specs.Receipts.{reading, pagesOver, Receipts, RegionEntry, PartitionEntry, Wait, replyOf, isSuccess, unit, pagesIn, addressIn, pageIn, byPage, pageLoans, buffersIn, buffersFrom, Within, Distinct}
 use Rattle.trace.specs.Queue.{queueOf, inLine, dueIn}
 use Rattle.trace.specs.Replies.{informationIn, grantTo, byReceipts, writeByReceipts, readByReceipts}
 use Rattle.trace.specs.Trace.{Ask, call, read, write, State, answer, answerWrite, after, Object, Loaned, Owned, Runs, start}
@@ -44,13 +44,19 @@ unfoldable pub waitersFor : ℕ → List Waiter → List Waiter
 waitersFor id [] = []
 waitersFor id (w ∷ ws) = cond (not (eqb (w .task) 0) && eqb (w .region) id) (w ∷ waitersFor id ws) (waitersFor id ws)
 
--- GRANTS BY THE RECEIPTS, with the loans l: to the first waits in order, each at the lowest run at that moment, up to the first wait that
--- has none
+-- OF A REGION WITH THE LOANS l, at addresses: no place would serve a get of so many bytes; page p is the one that it takes
+abbrev pub Full : RegionEntry → List Loan → ℕ → Type 0
+Full e l size = NoPlace (reading e) (pagesIn e) (byPage e l) (pagesOver e size)
+
+abbrev pub Takes : RegionEntry → List Loan → ℕ → ℕ → Type 0
+Takes e l size p = reading e .Chosen (pagesIn e) (byPage e l) (pagesOver e size) p
+
+-- GRANTS BY THE RECEIPTS: to the first waits in order, each at the place that a get takes at that moment, up to the first wait that has none
 pub data Grants (e : RegionEntry) : List Loan → List Wait → List Notice → Type 0 where
   all : {l : List Loan} → Grants e l [] []
-  stop : {l : List Loan} {w : Wait} {ws : List Wait} → ((p : ℕ) → ¬ Run (pagesIn e) (byPage e l) (pagesFor (w .size) (unit e)) p) → Grants e l (w ∷ ws) []
-  grant : {l : List Loan} {w : Wait} {ws : List Wait} {ns : List Notice} {p : ℕ} → Lowest (pagesIn e) (byPage e l) (pagesFor (w .size) (unit e)) p
-      → Grants e (enter (addressIn e p) (pagesFor (w .size) (unit e)) l) ws ns
+  stop : {l : List Loan} {w : Wait} {ws : List Wait} → Full e l (w .size) → Grants e l (w ∷ ws) []
+  grant : {l : List Loan} {w : Wait} {ws : List Wait} {ns : List Notice} (p : ℕ) → Takes e l (w .size) p
+      → Grants e (enter (addressIn e p) (pagesOver e (w .size)) l) ws ns
       → Grants e l (w ∷ ws) (grantTo w (addressIn e p) ∷ ns)
 
 -- a region's map words in the memory: where they lie, and how many they are, follows from what create asked for
@@ -68,21 +74,20 @@ pub record RegionClaims (i : Implementation) (s : State) (id : ℕ) (e : RegionE
   -- "Where an object's pages or buffers lie follows from what create asked for": each loan is at the address of a page
   pub placed : (a k : ℕ) → Lent (e .loans) a k → a ≡ addressIn e (pageIn e a)
   -- its loans lie in its pages, and no two share one
-  pub ordered : Ordered (pagesIn e) 0 (pageLoans e)
+  pub ordered : reading e .Fits (pagesIn e) (pageLoans e)
   -- "The drawn map has a held segment for each loan and a free one for each unbroken run of unheld pages, taken whole": the region's map
   -- is the drawn one
-  pub map : mapIn (s .memory) e ≡ draw (drawn (pagesIn e) 0 (pageLoans e))
+  pub map : mapIn (s .memory) e ≡ draw (reading e .drawn (pagesIn e) (pageLoans e))
   -- pages held by the receipts and pages free in the map make up the region
   pub counted : sum (loanPages (e .loans)) + freePages (decode (mapIn (s .memory) e)) ≡ pagesIn e
   -- "A get is valid if its checks ahead of 13, the one for 25 aside, refuse nothing": one that won't wait is answered 13 exactly when no
   -- run of adjoining unheld pages is long enough
-  pub unsatisfied : (size task priority ticks : ℕ) → 0 < size → pagesFor size (unit e) ≤ pagesIn e
-      → (answer i s (GetSegment id size No task priority ticks) .status ≡ Unsatisfied)
-      ↔ ((p : ℕ) → ¬ Run (pagesIn e) (pageLoans e) (pagesFor size (unit e)) p)
+  pub unsatisfied : (size task priority ticks : ℕ) → 0 < size → pagesOver e size ≤ pagesIn e
+      → (answer i s (GetSegment id size No task priority ticks) .status ≡ Unsatisfied) ↔ Full e (e .loans) size
   -- else the address is the lowest that fits
-  pub lowest : (size task priority ticks : ℕ) → 0 < size → pagesFor size (unit e) ≤ pagesIn e
+  pub lowest : (size task priority ticks : ℕ) → 0 < size → pagesOver e size ≤ pagesIn e
       → (answer i s (GetSegment id size No task priority ticks) .status ≡ Unsatisfied)
-      ⊎ ((p : ℕ) × Lowest (pagesIn e) (pageLoans e) (pagesFor size (unit e)) p
+      ⊎ ((p : ℕ) × Takes e (e .loans) size p
       × (answer i s (GetSegment id size No task priority ticks) .status ≡ Successful)
       × (answer i s (GetSegment id size No task priority ticks) .value ≡ addressIn e p))
   -- "a read is empty only where the receipts have no loan at that address in that region"
@@ -95,7 +100,7 @@ pub record RegionClaims (i : Implementation) (s : State) (id : ℕ) (e : RegionE
   pub resize : (a k size : ℕ) → Lent (e .loans) a k → 0 < size
       → (answer i s (ResizeSegment id a size) .value ≡ k * unit e)
       × ((answer i s (ResizeSegment id a size) .status ≡ Unsatisfied)
-      ↔ (¬ Room (pagesIn e) (pageLoans e) (pageIn e a) k (pagesFor size (unit e))))
+      ↔ (¬ reading e .Room (pagesIn e) (pageLoans e) (pageIn e a) k (pagesOver e size)))
   -- the queue is the waits of the receipts, in order
   pub queue : waitersFor id (s .manager .waiters) ≡ waitersOf (queueOf id e (s .receipts))
   -- after a return the grants go to the first waits in that order, each to the lowest run at that moment, and stop exactly at the first

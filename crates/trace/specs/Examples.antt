@@ -13,10 +13,11 @@ use Rattle.manager.specs.Lists.{every}
 use Rattle.manager.specs.Map.{draw}
 use Rattle.manager.specs.Examples.{Step, step, Row, layout, calls, words, same, told, table}
 use Rattle.manager.specs.declared.Order.the-variants.{Fifo}
-use Rattle.trace.specs.Loans.{enter, amend, inPages, drawn}
-use Rattle.trace.specs.Receipts.{Receipts, RegionEntry, Reply, blank, pagesIn, addressIn, pageLoans, note, allNoticed, without, waitOf, strike, buffersFrom}
+use Rattle.trace.specs.Loans.{enter, amend, inPages}
+use Rattle.trace.specs.Receipts.{Receipts, RegionEntry, Reply, blank, pagesIn, addressIn, pageLoans, note, allNoticed, without, waitOf, strike, buffersFrom, reading}
 use Rattle.trace.specs.Queue.{insertBy, insertAll, waitsIn}
-use Rattle.trace.specs.Replies.{decided, firstId, anyId, pagesAt, lowestRun, grantsIn, waitsAlready, listed, byReceipts}
+use Rattle.trace.specs.Replies.{decided, firstId, anyId, pagesAt, grantsIn, waitsAlready, listed, byReceipts}
+use Rattle.trace.specs.Pages.{drawn, lowestRun, readingOf}
 
 -- an answer: status, value, and the notices (task, status, address)
 abbrev right : Reply → ℕ → ℕ → List ℕ → Bool
@@ -36,7 +37,7 @@ lies e n first last = eqb (pagesIn e) n && (eqb (addressIn e 0) first && eqb (ad
 -- the words of the map that is drawn from a region's loans
 abbrev drawnWords : Option RegionEntry → List ℕ
 drawnWords none = []
-drawnWords (some e) = draw (drawn (pagesIn e) 0 (pageLoans e))
+drawnWords (some e) = draw (reading e .drawn (pagesIn e) (pageLoans e))
 
 abbrev holds : Row → Bool
 holds (layout start bytes page n first last) =
@@ -45,5 +46,5 @@ holds (calls ss) = follows blank ss (λ t. true)
 holds (words ss ws) = follows blank ss (λ t. same (drawnWords (t .regions 1)) ws)
 
 pub examples : every holds table ≡ true
-unfolding largest pageCount every draw enter amend inPages drawn note allNoticed without waitOf strike buffersFrom insertBy insertAll waitsIn decided firstId anyId pagesAt lowestRun grantsIn waitsAlready listed byReceipts
+unfolding readingOf largest pageCount every draw enter amend inPages drawn note allNoticed without waitOf strike buffersFrom insertBy insertAll waitsIn decided firstId anyId pagesAt lowestRun grantsIn waitsAlready listed byReceipts
 examples = refl

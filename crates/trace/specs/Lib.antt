@@ -1,4 +1,6 @@
 pub mod Loans
+pub mod Reading
+pub mod Pages
 pub mod Receipts
 pub mod Queue
 pub mod Replies

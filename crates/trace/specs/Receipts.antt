@@ -18,6 +18,8 @@ use Rattle.manager.specs.declared.Information.{Information}
 use Rattle.manager.specs.declared.Order.{Order}
 use Rattle.manager.specs.declared.Status.{Status}
 use Rattle.trace.specs.Loans.{Loan, enter, amend, inPages}
+use Rattle.trace.specs.Reading.{Reading}
+use Rattle.trace.specs.Pages.{readingOf}
 
 -- an object under its id: what was asked for, and its loans, each at the address that was answered, in the order of the addresses
 pub record RegionEntry : Type 0 where
@@ -71,6 +73,13 @@ addressIn e p = firstIn e + p * unit e
 
 abbrev pub pageIn : RegionEntry → ℕ → ℕ
 pageIn e a = (a - firstIn e) / unit e
+
+-- what they say of its kind, and the pages that are given for so many bytes: "rounded up by the region's rule"
+abbrev pub reading : RegionEntry → Reading
+reading e = readingOf (e .order)
+
+abbrev pub pagesOver : RegionEntry → ℕ → ℕ
+pagesOver e size = reading e .rounded (pagesFor size (unit e))
 
 -- loans at addresses of a region, by their pages; and all its loans so
 abbrev pub byPage : RegionEntry → List Loan → List Loan
@@ -126,10 +135,10 @@ strike a (x ∷ xs) = cond (eqb x a) xs (x ∷ strike a xs)
 -- "get enters a loan at the answered address, of the size rounded up by the region's rule"; "resize gives the loan at its address the
 -- new size, rounded alike; return strikes that loan": the one at exactly that address
 abbrev pub lend : ℕ → ℕ → RegionEntry → RegionEntry
-lend a size e = withLoans (enter a (pagesFor size (unit e)) (e .loans)) e
+lend a size e = withLoans (enter a (pagesOver e size) (e .loans)) e
 
 abbrev pub refit : ℕ → ℕ → RegionEntry → RegionEntry
-refit a size e = withLoans (amend a (pagesFor size (unit e)) (e .loans)) e
+refit a size e = withLoans (amend a (pagesOver e size) (e .loans)) e
 
 abbrev pub giveBack : ℕ → RegionEntry → RegionEntry
 giveBack a e = withLoans (amend a 0 (e .loans)) e

@@ -3,10 +3,10 @@
 use mathlib.Core.Bool.{Bool, true, false, cond, not, _&&_, _||_}
 use mathlib.Core.List.{List, [], _∷_}
 use mathlib.Core.Option.{Option, none, some}
-use Prim.Native.Nat.{ℕ, zero, suc, _+_, _-_, _*_, _/_, _%_}
+use Prim.Native.Nat.{ℕ, zero, suc, _+_, _*_, _/_, _%_}
 use lib.ListN.{length, take, drop}
 use lib.Dec.{eqb, leb, ltb}
-use Rattle.arith.specs.Round.{roundUp, pagesFor}
+use Rattle.arith.specs.Round.{roundUp}
 use Rattle.arith.specs.Layout.{pageCount}
 use Rattle.manager.specs.Record.{slots, tasks, noInformation}
 use Rattle.manager.specs.Result.{Check, check}
@@ -16,19 +16,18 @@ use Rattle.manager.specs.declared.Information.{Information}
 use Rattle.manager.specs.declared.Call.{Call}
 use Rattle.manager.specs.declared.Call.the-variants.{CreateRegion, IdentRegion, DeleteRegion, GetSegment, ReturnSegment, SegmentSize, ResizeSegment, RegionInformation, CreatePartition, IdentPartition, DeletePartition, GetBuffer, ReturnBuffer, Tick}
 use Rattle.manager.specs.declared.Place.{Place}
-use Rattle.manager.specs.declared.Place.the-variants.{At, Nowhere}
 use Rattle.manager.specs.declared.Wait as asking
 use Rattle.manager.specs.declared.Wait.the-variants.{No, Yes}
 use Rattle.manager.specs.declared.Status.{Status}
 use Rattle.manager.specs.declared.Status.the-variants.{Successful, InvalidName, InvalidId, TooMany, InvalidSize, InvalidAddress, InvalidNumber, ResourceInUse, Unsatisfied, IncorrectState, InvalidPriority, Waiting}
-use Rattle.trace.specs.Loans.{Loan, loan, loanPages, runs, most, sum, enter, amend}
-use Rattle.trace.specs.Receipts.{Receipts, RegionEntry, Wait, Reply, unit, pagesIn, addressIn, pageIn, byPage, pageLoans}
+use Rattle.trace.specs.Loans.{Loan, loan, loanPages, most, sum, enter, amend}
+use Rattle.trace.specs.Receipts.{Receipts, RegionEntry, Wait, Reply, unit, reading, pagesOver, pagesIn, addressIn, pageIn, byPage, pageLoans}
 use Rattle.trace.specs.Queue.{queueOf, inLine, dueIn}
 
 -- INFORMATION BY THE RECEIPTS: count, largest and total bytes over the runs of unheld pages, then over the loans
 abbrev pub informationIn : RegionEntry → Information
 informationIn e =
-    let frees = runs (pagesIn e) 0 (pageLoans e) in
+    let frees = reading e .runs (pagesIn e) (pageLoans e) in
     let helds = loanPages (e .loans) in
     record {
       «free_count» = length frees;
@@ -117,36 +116,21 @@ unfoldable pub pagesAt : ℕ → List Loan → ℕ
 pagesAt a [] = 0
 pagesAt a (loan b k ∷ l) = cond (eqb b a) k (pagesAt a l)
 
--- where the next loan starts, or the region of n pages ends
-abbrev pub upTo : ℕ → List Loan → ℕ
-upTo n [] = n
-upTo n (loan a k ∷ l) = a
+-- where a get of so many bytes is placed, with the loans l at addresses; and the most pages that the loan at an address can have
+abbrev pub placeIn : RegionEntry → List Loan → ℕ → Place
+placeIn e l size = reading e .place (pagesIn e) (byPage e l) (pagesOver e size)
 
--- the most pages, of n, that the loan at page p can have: its own, and the unheld ones up to the next loan
-unfoldable pub mostPagesAt : ℕ → ℕ → List Loan → ℕ
-mostPagesAt n p [] = 0
-mostPagesAt n p (loan a k ∷ l) = cond (eqb a p) (upTo n l - a) (mostPagesAt n p l)
+abbrev pub mostIn : RegionEntry → ℕ → ℕ
+mostIn e a = reading e .most (pagesIn e) (pageLoans e) (pageIn e a)
 
--- the lowest run of k unheld pages, of n, from page `at` on: the first gap between loans that has k pages
-unfoldable pub lowestRun : ℕ → ℕ → ℕ → List Loan → Place
-lowestRun n k at [] = cond (leb k (n - at)) (At at) Nowhere
-lowestRun n k at (loan a m ∷ l) = cond (leb k (a - at)) (At at) (lowestRun n k (a + m) l)
-
-abbrev pub pagesOver : RegionEntry → ℕ → ℕ
-pagesOver e size = pagesFor size (unit e)
-
--- with the loans l, at addresses
-abbrev pub runIn : RegionEntry → ℕ → List Loan → Place
-runIn e size l = lowestRun (pagesIn e) (pagesOver e size) 0 (byPage e l)
-
--- GRANTS: to the first waits in order, each at the lowest run at that moment, up to the first wait that has none
+-- GRANTS: to the first waits in order, each where a get of its size is placed at that moment, up to the first wait that has no place
 abbrev pub grantTo : Wait → ℕ → Notice
 grantTo w a = record { task = w .task; status = Successful; address = a }
 
 unfoldable pub grantsIn : RegionEntry → List Loan → List Wait → List Notice
 grantsIn e l [] = []
 grantsIn e l (w ∷ ws) =
-    onPlace (runIn e (w .size) l) (λ p. grantTo w (addressIn e p) ∷ grantsIn e (enter (addressIn e p) (pagesOver e (w .size)) l) ws) []
+    onPlace (placeIn e l (w .size)) (λ p. grantTo w (addressIn e p) ∷ grantsIn e (enter (addressIn e p) (pagesOver e (w .size)) l) ws) []
 
 -- a task waits
 unfoldable pub waitsAlready : ℕ → List Wait → Bool
@@ -164,10 +148,10 @@ waitingChecks t Yes task priority =
     ∷ check (waitsAlready task (t .waits)) IncorrectState
     ∷ []
 
--- no run: 13, or the task now waits
-abbrev pub noRun : asking.Wait → Reply
-noRun No = no Unsatisfied
-noRun Yes = no Waiting
+-- no place: 13, or the task now waits
+abbrev pub noPlace : asking.Wait → Reply
+noPlace No = no Unsatisfied
+noPlace Yes = no Waiting
 
 -- "the value is the old length, with 13 too"
 abbrev pub resizes : Bool → ℕ → Reply
@@ -214,7 +198,7 @@ byReceipts n t (GetSegment id size wait task priority ticks) =
     decided (check (eqb size 0) InvalidSize ∷ [])
     (living (t .regions id) (λ e.
     decided (check (ltb (pagesIn e) (pagesOver e size)) InvalidSize ∷ waitingChecks t wait task priority)
-    (onPlace (runIn e size (e .loans)) (λ p. yes (addressIn e p)) (noRun wait))))
+    (onPlace (placeIn e (e .loans) size) (λ p. yes (addressIn e p)) (noPlace wait))))
 -- return: 4, 9; then the queue is served
 byReceipts n t (ReturnSegment id a) =
     living (t .regions id) (λ e.
@@ -230,7 +214,7 @@ byReceipts n t (ResizeSegment id a size) =
     decided (check (eqb size 0) InvalidSize ∷ [])
     (living (t .regions id) (λ e.
     decided (check (eqb (pagesAt a (e .loans)) 0) InvalidAddress ∷ [])
-    (resizes (leb (pagesOver e size) (mostPagesAt (pagesIn e) (pageIn e a) (pageLoans e))) (pagesAt a (e .loans) * unit e))))
+    (resizes (leb (pagesOver e size) (mostIn e a)) (pagesAt a (e .loans) * unit e))))
 -- information: 4
 byReceipts n t (RegionInformation id) = living (t .regions id) (λ e. informs (informationIn e))
 -- create partition: 3, start 9, alignment 9, past memory 9, length or size 0 (8), length below size 8, size not a multiple of 4 or

@@ -6,9 +6,10 @@ use mathlib.Core.List.{List, [], _∷_}
 use mathlib.Core.Logic.{_⊎_, inl, inr, _↔_}
 use Prim.Native.Nat.{ℕ, zero, suc, _+_, _≤_, _<_}
 use native.Mathlib.Omega.{arith}
-use Rattle.trace.specs.Loans.{Loan, loan, loan+, enter, amend, Lent, Held, Ordered}
+use Rattle.trace.specs.Loans.{Loan, loan, loan+, enter, amend, Lent, Held}
 use Rattle.trace.proofs.Loans.Tests.{by-leb, by-eqb}
 use Rattle.trace.proofs.Loans.Drawn.{ordered-next, lent-after}
+use Rattle.trace.specs.Pages.{Ordered}
 
 -- A LOAN ENTERED IS THERE, AND NOTHING ELSE IS NEW
 pub enter-is : (p k : ℕ) (l : List Loan) (a m : ℕ) → Lent (enter p k l) a m ↔ (((p ≡ a) × (k ≡ m)) ⊎ Lent l a m)

@@ -12,10 +12,10 @@ use borrow.Author.Tests.{eq-eqb, ne-eqb}
 use Rattle.manager.specs.Map.{held}
 use Rattle.manager.specs.Paged.{free+, held+, lead, rest, heldFrom, reachFrom, changeFrom}
 use Rattle.manager.proofs.Laws.Paged.{free-join}
-use Rattle.trace.specs.Loans.{Loan, loan, loan+, amend, Lent, Held, drawn, Ordered, Room}
-use Rattle.trace.specs.Replies.{upTo, mostPagesAt}
+use Rattle.trace.specs.Loans.{Loan, loan, loan+, amend, Lent, Held}
 use Rattle.trace.proofs.Loans.Tests.{by-leb, by-eqb}
 use Rattle.trace.proofs.Loans.Drawn.{next, onward, drawn-next, lead-onward, rest-onward, ordered-next, ordered-end, ordered-from, held-after, next-held, lent-after}
+use Rattle.trace.specs.Pages.{drawn, Ordered, Room, upTo, mostPagesAt}
 
 -- ---- past the free pages in front
 

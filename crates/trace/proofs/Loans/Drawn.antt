@@ -7,7 +7,8 @@ use Prim.Native.Nat.{ℕ, zero, suc, _+_, _-_, _≤_, _<_}
 use native.Mathlib.Omega.{arith}
 use Rattle.manager.specs.Map.{Segment, held}
 use Rattle.manager.specs.Paged.{free+, lead, rest}
-use Rattle.trace.specs.Loans.{Loan, loan, Lent, Held, run+, drawn, Ordered}
+use Rattle.trace.specs.Loans.{Loan, loan, Lent, Held}
+use Rattle.trace.specs.Pages.{run+, drawn, Ordered}
 
 -- where the first loan starts, or the region ends
 abbrev pub next : ℕ → List Loan → ℕ

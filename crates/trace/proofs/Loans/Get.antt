@@ -13,10 +13,10 @@ use Rattle.manager.specs.Map.{Segment, held}
 use Rattle.manager.specs.Paged.{free+, placeFrom, take}
 use Rattle.manager.specs.declared.Place.{Place}
 use Rattle.manager.specs.declared.Place.the-variants.{At, Nowhere}
-use Rattle.trace.specs.Loans.{Loan, loan, enter, Held, drawn, Ordered, Run}
-use Rattle.trace.specs.Replies.{lowestRun}
+use Rattle.trace.specs.Loans.{Loan, loan, enter, Held, Run}
 use Rattle.trace.proofs.Loans.Tests.{by-leb}
 use Rattle.trace.proofs.Loans.Drawn.{next, onward, drawn-next, ordered-end, ordered-from, held-after}
+use Rattle.trace.specs.Pages.{drawn, Ordered, lowestRun}
 
 -- what a get of k pages has to come to, from page `at` on: the lowest run, lent, or nothing where there is none
 pub data Got (n at : ℕ) (l : List Loan) (k : ℕ) : Place → List Segment → Type 0 where

@@ -12,9 +12,10 @@ use Rattle.manager.specs.Map.{Segment, free, held, isHeldSegment, draw, decode,
 use Rattle.manager.proofs.Laws.Map.{Well, sound-drawn, reread, well-decoded, length-draw, total-decoded}
 use Rattle.manager.specs.Paged.{free+}
 use Rattle.manager.proofs.Laws.Paged.{free-join, total-free, well-free, free-front}
-use Rattle.trace.specs.Loans.{Loan, loan, run+, size+, drawn, runs, Ordered, loanPages, sum}
+use Rattle.trace.specs.Loans.{Loan, loan, loanPages, sum}
 use Rattle.trace.specs.Claims.{freePages}
 use Rattle.trace.proofs.Loans.Drawn.{next, onward, drawn-next, ordered-next, ordered-from}
+use Rattle.trace.specs.Pages.{runs, size+, run+, drawn, Ordered}
 
 -- ---- the words
 

@@ -15,6 +15,7 @@ use Rattle.manager.specs.Lists.{every, some as someOf, pairwise, adjacent}
 use Rattle.manager.proofs.Laws.Lists.{and-first, and-second}
 use Rattle.manager.specs.Map.{Segment, free, held, isHeldSegment}
 use Rattle.manager.specs.Record.{slots, tasks, noWaiter, regionOf}
+use Rattle.manager.specs.Paged.{kindOf}
 use Rattle.manager.specs.Region.{baseOf, dead, pagesOf, pagesAsked, anyHeld, segments}
 use Rattle.manager.specs.Queue.{goesBefore}
 use Rattle.manager.specs.Sound.{unused, soundWaiter, soundPlace, otherTask, inOrder, liveRegion, soundRegion}
@@ -23,14 +24,16 @@ use Rattle.manager.proofs.Laws.Distinct.{either}
 use Rattle.manager.specs.declared.Manager.{Manager}
 use Rattle.manager.specs.declared.Region.{Region}
 use Rattle.manager.specs.declared.Waiter.{Waiter}
-use Rattle.trace.specs.Receipts.{Receipts, Wait, unit, Within, Distinct}
+use Rattle.trace.specs.Receipts.{Receipts, Wait, unit, Within, Distinct, pagesIn}
 use Rattle.trace.specs.Claims.{waiterOf, waitersOf}
 use Rattle.trace.proofs.Invariant.{WaitIs, tasksOf}
 use Rattle.trace.proofs.Areas.{region-slot}
 use Rattle.trace.proofs.Loans.Addresses.{address-none}
 use Rattle.trace.proofs.Loans.Words.{loansOf}
+use Rattle.trace.proofs.Loans.Lawful.{found}
 use Rattle.trace.proofs.Recover.Region.{entryOf, slotEntry, unit-same, region-parts}
 use Rattle.trace.proofs.Queue.Line.{In}
+use Rattle.trace.proofs.Segments.{law}
 
 -- a waiter as a wait, and the used places of a queue
 abbrev pub waitFor : Waiter → Wait
@@ -124,7 +127,7 @@ pub record WaiterParts (m : List ℕ) (r : Region) (w : Waiter) : Type 0 where
   pub alive : dead r ≡ false
   pub lending : anyHeld m r ≡ true
   pub size-some : 1 ≤ w .size
-  pub size-most : pagesFor (w .size) (r .page) ≤ pagesOf r
+  pub size-most : pagesAsked r (w .size) ≤ pagesOf r
   pub priority-some : 1 ≤ w .priority
   pub priority-most : w .priority ≤ 255
 
@@ -175,7 +178,8 @@ module _ (m : List ℕ) (d : Manager) (t : Receipts) (entries : (id : ℕ) → t
         task-some = let y = eqb-false (w .task) 0 f in omega arith;
         task-most = p .task-most;
         size-some = p .size-some;
-        size-most = subst (λ (x : ℕ). pagesFor (w .size) x ≤ pageCount (r .start) (r .length) x) (sym u) (p .size-most);
+        size-most = subst (λ (x : ℕ). x ≤ pagesIn (entryOf m r)) (law (entryOf m r) .rounded (pagesFor (w .size) (unit (entryOf m r))))
+            (subst (λ (x : ℕ). kindOf (r .order) .rounded (pagesFor (w .size) x) ≤ pageCount (r .start) (r .length) x) (sym u) (p .size-most));
         priority-some = p .priority-some;
         priority-most = p .priority-most;
         time = eq-zero-or-pos (w .ticks);

@@ -17,8 +17,8 @@ use Rattle.manager.specs.declared.Manager.{Manager}
 use Rattle.manager.specs.declared.Call.{Call}
 use Rattle.manager.specs.declared.Status.{Status}
 use Rattle.trace.specs.Receipts.{Receipts, RegionEntry, replyOf, note, allNoticed, isSuccess, isWaiting, entered, waited}
-use Rattle.trace.proofs.Invariant.{Inv}
-use Rattle.trace.proofs.Clients.{Stays, OnlyMap, map-stays}
+use Rattle.trace.proofs.Invariant.{Inv, OnlyMap}
+use Rattle.trace.proofs.Clients.{Stays, map-stays}
 
 -- every check of a list passes
 unfoldable pub Passed : List Check → Type 0

