@@ -13,6 +13,7 @@ use borrow.Author.Tests.{ltb-false, not-true}
 use Rattle.manager.specs.Record.{regionOf}
 use Rattle.manager.specs.Lists.{every}
 use Rattle.manager.proofs.Laws.Lists.{and-first}
+use Rattle.manager.proofs.Laws.Result.{Passed}
 use Rattle.manager.specs.Result.{Result, refused}
 use Rattle.manager.specs.Region.{dead, heldAt}
 use Rattle.manager.specs.Sound.{sound}
@@ -28,7 +29,7 @@ use Rattle.trace.proofs.Frame.{only-sets}
 use Rattle.trace.proofs.Clients.{segment-in, clients-keep}
 use Rattle.trace.proofs.Segments.{regular, loan-holds}
 use Rattle.trace.proofs.Map.{lent-held}
-use Rattle.trace.proofs.Regions.Checks.{Passed, refusing, by-answer}
+use Rattle.trace.proofs.Regions.Checks.{refusing, by-sound}
 
 -- a change of nothing, and a change of one loan's words, are writes that clients may make
 pub clients-none : (t : Receipts) (m : List ℕ) → ClientsWrite t m m
@@ -80,7 +81,7 @@ module _ (m : List ℕ) (d : Manager) (t : Receipts) (v : Inv m d t) where
     pub writes : (id a first : ℕ) (words : List ℕ) → Writes m d t (a / 4 + first) words (writeSegment m d id a first words)
     unfolding writeSegment every Passed
     writes id a first words =
-        by-answer m d _ _ ok (Writes m d t (a / 4 + first) words) refl (writes-refused m d t (a / 4 + first) words)
+        by-sound m d _ _ ok (Writes m d t (a / 4 + first) words) refl (writes-refused m d t (a / 4 + first) words)
         (λ c. record {
           clients = passed id a first words (regionOf d id) (t .regions id) refl (v .picture .regions id) (c .0) (c .1 .0) (c .1 .1 .0);
           manager = refl;

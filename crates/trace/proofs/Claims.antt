@@ -21,7 +21,7 @@ use Rattle.manager.specs.declared.Wait.the-variants.{No}
 use Rattle.manager.specs.declared.Partition.{Partition}
 use Rattle.manager.specs.declared.Status.the-variants.{InternalError}
 use Rattle.trace.specs.Loans.{Lent, loanPages, sum}
-use Rattle.trace.specs.Receipts.{RegionEntry, PartitionEntry, Wait, Reply, replyOf, unit, firstIn, pageIn, pageLoans, buffersIn, buffersFrom, Within}
+use Rattle.trace.specs.Receipts.{RegionEntry, PartitionEntry, Wait, Reply, replyOf, unit, firstIn, pageIn, pageLoans, buffersIn, buffersFrom}
 use Rattle.trace.specs.Replies.{byReceipts, readByReceipts}
 use Rattle.trace.specs.Trace.{State, answer}
 use Rattle.trace.specs.Claims.{freePages, Chained, null, link, RegionClaims, PartitionClaims}
@@ -32,13 +32,13 @@ use Rattle.trace.proofs.Clients.{RegionAt, region-at, partition-at, Seg
 use Rattle.trace.proofs.Segments.{law, Regular, regular, loan-holds, pages-lent}
 use Rattle.trace.proofs.Map.{drawing}
 use Rattle.trace.proofs.Loans.Addresses.{address-pages}
-use Rattle.trace.proofs.Queue.Line.{In}
 use Rattle.trace.proofs.Queue.Order.{in-waits, queue-of, in-all-waits}
 use Rattle.trace.proofs.Queue.Waiters.{waiters-for}
 use Rattle.trace.proofs.Partitions.Slot.{buffers-in, unlent-once}
 use Rattle.trace.proofs.Replies.Consequences.{unsatisfied-by, lowest-by, information-by, size-by, resize-by, return-by, buffer-unsatisfied, buffer-front}
 use Rattle.trace.proofs.Replies.Undamaged.{not-damaged, reply-sound}
 use Rattle.trace.specs.Queue.{queueOf, inLine, dueIn}
+use Rattle.manager.specs.Lists.{In}
 
 -- ---- a chain by word 0
 
@@ -139,7 +139,7 @@ module _ (i : Implementation) (s : State) (v : Inv (s .memory) (s .manager) (s .
     not-null a b z = omega (arith, buffer-lies (s .memory) partition e is a b .low, partition-shaped (s .memory) partition e is .start-in)
 
     -- its buffers, as its entry asks for them
-    asked-within : (a : ℕ) → Within a (buffersFrom (buffersIn e) (e .size) (e .start)) ↔ (isBuffer partition a ≡ true)
+    asked-within : (a : ℕ) → In a (buffersFrom (buffersIn e) (e .size) (e .start)) ↔ (isBuffer partition a ≡ true)
     asked-within a =
         let h = partition-shaped (s .memory) partition e is in
         rw (← buffers-in (s .memory) partition e is, ← is .size, ← is .start) (within-buffer partition h a, buffer-within partition h a)
@@ -158,7 +158,7 @@ module _ (i : Implementation) (s : State) (v : Inv (s .memory) (s .manager) (s .
           once = is .once;
           each = λ a. (
             λ w. is .either a (asked-within a .0 w),
-            λ w. asked-within a .1 (⊎-elim (λ (l : Within a (e .lent)). is .buffer a l) (λ (l : Within a (e .unlent)). chained-buffer (s .memory) partition e is a l) w),
+            λ w. asked-within a .1 (⊎-elim (λ (l : In a (e .lent)). is .buffer a l) (λ (l : In a (e .unlent)). chained-buffer (s .memory) partition e is a l) w),
           );
           either = is .apart;
           counted = counted;

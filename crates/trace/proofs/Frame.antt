@@ -17,7 +17,7 @@ use Rattle.arith.proofs.Laws.Layout.{map-ge, count-map, count-end}
 use Rattle.manager.proofs.Laws.Lists.{and-first, and-second}
 use Rattle.manager.specs.Region.{pagesOf, baseOf, mapAt, mapWords}
 use Rattle.manager.specs.Partition.{isBuffer, chain}
-use Rattle.manager.proofs.Laws.Distinct.{On, same-or-not}
+use Rattle.manager.proofs.Laws.Distinct.{On, same-or-not, on-in}
 use Rattle.manager.proofs.Laws.Partition.Buffers.{Shaped, Laid, Buffer, buffer-of, Placed, placed, apart}
 use Rattle.manager.proofs.Laws.Partition.Chain.{linked-on}
 use Rattle.manager.proofs.Laws.Partition.Links.{Same, follow-same, linked-same}
@@ -25,9 +25,9 @@ use Rattle.manager.proofs.Laws.Partition.Live.{live-laid, live-size, live-chain
 use Rattle.manager.specs.Sound.{inside}
 use Rattle.manager.specs.declared.Region.{Region}
 use Rattle.manager.specs.declared.Partition.{Partition}
-use Rattle.trace.specs.Receipts.{RegionEntry, PartitionEntry, unit, pagesIn, Within}
+use Rattle.trace.specs.Receipts.{RegionEntry, PartitionEntry, unit, pagesIn}
 use Rattle.trace.proofs.Invariant.{Inside, Only, regionFor, RegionIs, PartitionIs, OnlyMap}
-use Rattle.trace.proofs.Buffers.{within-on, on-within}
+use Rattle.manager.specs.Lists.{In}
 
 -- ---- words inside an area, and changes of nothing else
 
@@ -212,9 +212,9 @@ module _ (m : List ℕ) (p : Partition) (e : PartitionEntry) (is : PartitionIs m
   buffer-lies a h = placed p partition-shaped a (buffer-is a h)
 
   -- a buffer on the chain is a buffer
-  pub chained-buffer : (a : ℕ) → Within a (e .unlent) → isBuffer p a ≡ true
+  pub chained-buffer : (a : ℕ) → In a (e .unlent) → isBuffer p a ≡ true
   chained-buffer a w =
-      linked-on m p (p .free) 0 (p .front) a (live-chain m p (is .sound)) (within-on a (chain m p) (rw (← is .chained) at w))
+      linked-on m p (p .free) 0 (p .front) a (live-chain m p (is .sound)) (on-in a (chain m p) .1 (rw (← is .chained) at w))
 
   -- two buffers share no byte
   pub buffers-apart : (a b : ℕ) → isBuffer p a ≡ true → isBuffer p b ≡ true → (a ≡ b) ⊎ ((a + p .size ≤ b) ⊎ (b + p .size ≤ a))
@@ -234,9 +234,9 @@ module _ (m : List ℕ) (p : Partition) (e : PartitionEntry) (is : PartitionIs m
   link-before a h = omega (arith, buffer-lies a h .aligned, partition-shaped .big)
 
   -- A LIVE PARTITION RESTS ON THE LINK WORDS OF ITS CHAINED BUFFERS
-  pub partition-same : (m′ : List ℕ) → length m′ ≡ length m → ((a : ℕ) → Within a (e .unlent) → Same m m′ a) → PartitionIs m′ p e
+  pub partition-same : (m′ : List ℕ) → length m′ ≡ length m → ((a : ℕ) → In a (e .unlent) → Same m m′ a) → PartitionIs m′ p e
   partition-same m′ s h =
-      let h′ : (a : ℕ) → On a (chain m p) → Same m m′ a = λ a w. h a (rw (is .chained) at (on-within a (chain m p) w)) in
+      let h′ : (a : ℕ) → On a (chain m p) → Same m m′ a = λ a w. h a (rw (is .chained) at (on-in a (chain m p) .0 w)) in
       record {
         named = is .named;
         name = is .name;

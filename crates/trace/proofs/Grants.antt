@@ -10,7 +10,7 @@ use Rattle.trace.specs.Receipts.{RegionEntry, Wait, pagesOver, addressIn
 use Rattle.trace.specs.Replies.{grantTo, grantsIn}
 use Rattle.trace.specs.Claims.{Grants, all, stop, grant}
 use Rattle.trace.proofs.Segments.{Regular, Places, takes, full, places}
-use Rattle.trace.proofs.Queue.Line.{In}
+use Rattle.manager.specs.Lists.{In}
 
 -- THE GRANTS THAT ARE COMPUTED ARE THE GRANTS
 pub grants-are : (e : RegionEntry) (l : List Loan) (ws : List Wait) → Regular (withLoans l e) → ((w : Wait) → In w ws → 0 < w .size)

@@ -17,11 +17,11 @@ use Rattle.manager.specs.declared.Manager.{Manager}
 use Rattle.manager.specs.declared.Region.{Region}
 use Rattle.manager.specs.declared.Partition.{Partition}
 use Rattle.trace.specs.Loans.{Loan}
-use Rattle.trace.specs.Receipts.{Receipts, RegionEntry, PartitionEntry, Wait, unit, pagesIn, firstIn, pageLoans, Within, Distinct, reading, pagesOver}
+use Rattle.trace.specs.Receipts.{Receipts, RegionEntry, PartitionEntry, Wait, unit, pagesIn, firstIn, pageLoans, reading, pagesOver}
 use Rattle.trace.specs.Claims.{waitersOf}
 use Rattle.trace.proofs.Loans.Addresses.{atPages}
 use Rattle.trace.specs.Queue.{inLine}
-use Rattle.trace.proofs.Queue.Line.{In}
+use Rattle.manager.specs.Lists.{In, Distinct}
 
 -- word w lies wholly in the n bytes from a on
 pub record Inside (a n w : ℕ) : Type 0 where
@@ -70,9 +70,9 @@ pub record PartitionIs (m : List ℕ) (p : Partition) (e : PartitionEntry) : Typ
   pub sound : livePartition m p ≡ true
   pub chained : chain m p ≡ e .unlent
   pub once : Distinct (e .lent)
-  pub buffer : (a : ℕ) → Within a (e .lent) → isBuffer p a ≡ true
-  pub either : (a : ℕ) → isBuffer p a ≡ true → Within a (e .lent) ⊎ Within a (e .unlent)
-  pub apart : (a : ℕ) → Within a (e .lent) → ¬ Within a (e .unlent)
+  pub buffer : (a : ℕ) → In a (e .lent) → isBuffer p a ≡ true
+  pub either : (a : ℕ) → isBuffer p a ≡ true → In a (e .lent) ⊎ In a (e .unlent)
+  pub apart : (a : ℕ) → In a (e .lent) → ¬ In a (e .unlent)
   pub counted : length (e .lent) + length (e .unlent) ≡ buffers p
 
 pub data PartitionSlot (m : List ℕ) : Partition → Option PartitionEntry → Type 0 where

@@ -6,17 +6,16 @@ use mathlib.Core.Option.{none}
 use Prim.Native.Nat.{ℕ, zero, suc, _≤_}
 use lib.ListN.{length, getD, replicate}
 use borrow.Author.Tests.{le-leb}
-use Rattle.manager.specs.Lists.{every, pairwise}
+use Rattle.manager.specs.Lists.{every, pairwise, In, Distinct}
 use Rattle.manager.specs.Record.{slots, mostWords, noRegion, noPartition, slotOf, fresh}
 use Rattle.manager.specs.Region.{regionAreas, partitionAreas}
 use Rattle.manager.specs.Sound.{soundAreas}
 use Rattle.manager.specs.declared.Region.{Region}
 use Rattle.manager.specs.declared.Partition.{Partition}
-use Rattle.trace.specs.Receipts.{blank, Distinct}
+use Rattle.trace.specs.Receipts.{blank}
 use Rattle.trace.specs.Claims.{waitersOf}
 use Rattle.trace.proofs.Invariant.{RegionSlot, PartitionSlot, Inv, Waits, tasksOf, empty}
 use Rattle.trace.specs.Queue.{insertAll}
-use Rattle.trace.proofs.Queue.Line.{In}
 
 -- any place of a list of one value has it
 pub getD-same : {A : Type 0} (n i : ℕ) (z : A) → getD (replicate n z) i z ≡ z

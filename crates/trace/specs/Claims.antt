@@ -23,10 +23,11 @@ use Rattle.manager.specs.declared.Wait.the-variants.{No}
 use Rattle.manager.specs.declared.Status.the-variants.{Successful, Unsatisfied, InternalError}
 use Rattle.trace.specs.Loans.{Loan, Lent, loanPages, sum, enter, amend}
 use Rattle.trace.specs.Reading.{NoPlace}
-use Rattle.trace.specs.Receipts.{reading, pagesOver, Receipts, RegionEntry, PartitionEntry, Wait, replyOf, isSuccess, unit, pagesIn, addressIn, pageIn, byPage, pageLoans, buffersIn, buffersFrom, Within, Distinct}
+use Rattle.trace.specs.Receipts.{reading, pagesOver, Receipts, RegionEntry, PartitionEntry, Wait, replyOf, isSuccess, unit, pagesIn, addressIn, pageIn, byPage, pageLoans, buffersIn, buffersFrom}
 use Rattle.trace.specs.Queue.{queueOf, inLine, dueIn}
 use Rattle.trace.specs.Replies.{informationIn, grantTo, byReceipts, writeByReceipts, readByReceipts}
 use Rattle.trace.specs.Trace.{Ask, call, read, write, State, answer, answerWrite, after, Object, Loaned, Owned, Runs, start}
+use Rattle.manager.specs.Lists.{In, Distinct}
 
 -- a wait as the record keeps it: with the ticks that it has left
 abbrev pub left : Wait → ℕ
@@ -122,8 +123,8 @@ pub record PartitionClaims (i : Implementation) (s : State) (id : ℕ) (e : Part
   -- no buffer is lent twice
   pub once : Distinct (e .lent)
   -- held and chained buffers make up the partition, and none is both
-  pub each : (a : ℕ) → Within a (buffersFrom (buffersIn e) (e .size) (e .start)) ↔ (Within a (e .lent) ⊎ Within a (e .unlent))
-  pub either : (a : ℕ) → Within a (e .lent) → ¬ Within a (e .unlent)
+  pub each : (a : ℕ) → In a (buffersFrom (buffersIn e) (e .size) (e .start)) ↔ (In a (e .lent) ⊎ In a (e .unlent))
+  pub either : (a : ℕ) → In a (e .lent) → ¬ In a (e .unlent)
   pub counted : length (e .lent) + length (e .unlent) ≡ buffersIn e
   -- a get is answered 13 exactly when every buffer is held; else the address is the front of the chain as the receipts have it
   pub unsatisfied : (answer i s (GetBuffer id) .status ≡ Unsatisfied) ↔ (length (e .lent) ≡ buffersIn e)

@@ -1,10 +1,8 @@
 -- Document 01, "Receipts, for demand 3": written from the arguments and answers of the calls, never from the record or the memory.
 -- Assumes nothing.
-use mathlib.Core.Path.{_≡_}
 use mathlib.Core.Bool.{Bool, cond}
 use mathlib.Core.List.{List, [], _∷_, _++_}
 use mathlib.Core.Option.{Option, none, some}
-use mathlib.Core.Logic.{_⊎_}
 use Prim.Native.Nat.{ℕ, zero, suc, _+_, _-_, _*_, _/_}
 use lib.Dec.{eqb}
 use Rattle.arith.specs.Round.{roundUp, pagesFor}
@@ -116,16 +114,6 @@ withLoans l e = record { name = e .name; start = e .start; bytes = e .bytes; pag
 
 abbrev pub withBuffers : List ℕ → List ℕ → PartitionEntry → PartitionEntry
 withBuffers l u e = record { name = e .name; start = e .start; bytes = e .bytes; size = e .size; lent = l; unlent = u }
-
--- a number is on a list
-unfoldable pub Within : ℕ → List ℕ → Type 0
-Within a [] = ⊥
-Within a (x ∷ xs) = (x ≡ a) ⊎ Within a xs
-
--- no number is on it twice
-unfoldable pub Distinct : List ℕ → Type 0
-Distinct [] = Unit {0}
-Distinct (x ∷ xs) = (¬ Within x xs) × Distinct xs
 
 -- one number struck from a list
 unfoldable pub strike : ℕ → List ℕ → List ℕ

@@ -12,9 +12,10 @@ use Rattle.trace.specs.Receipts.{Receipts}
 use Rattle.trace.proofs.Invariant.{Inv, empty}
 use Rattle.trace.proofs.Frame.{only-refl}
 use Rattle.trace.proofs.Areas.{areaIn, no-area}
-use Rattle.trace.proofs.Regions.Checks.{Passed, Kept, kept-checked}
+use Rattle.trace.proofs.Regions.Checks.{Kept, kept-checked}
 use Rattle.trace.proofs.Regions.Queue.{sound-inv}
 use Rattle.trace.proofs.Partitions.Slot.{partition-entry, keeping, put-keeps, live-slot, kept-done}
+use Rattle.manager.proofs.Laws.Result.{Passed}
 
 module _ (m : List ℕ) (d : Manager) (t : Receipts) (v : Inv m d t) where
   -- A DELETE KEEPS THE PICTURE

@@ -22,7 +22,7 @@ use Rattle.manager.specs.declared.Manager.{Manager}
 use Rattle.manager.specs.declared.Partition.{Partition}
 use Rattle.manager.specs.declared.Call.{Call}
 use Rattle.manager.specs.declared.Status.the-variants.{Successful}
-use Rattle.trace.specs.Receipts.{Receipts, PartitionEntry, buffersIn, Distinct, put, mapOption, onPartition, entered}
+use Rattle.trace.specs.Receipts.{Receipts, PartitionEntry, buffersIn, put, mapOption, onPartition, entered}
 use Rattle.trace.specs.Trace.{Object, region, partition}
 use Rattle.trace.proofs.Invariant.{Inside, Only, PartitionIs, PartitionSlot, Waits, Inv, empty, live}
 use Rattle.trace.proofs.Frame.{partition-shaped}
@@ -33,6 +33,7 @@ use Rattle.trace.proofs.Queue.Tasks.{wait-same}
 use Rattle.trace.proofs.Clients.{Stays}
 use Rattle.trace.proofs.Regions.Checks.{Kept, note-done}
 use Rattle.trace.proofs.Regions.Picture.{words-same}
+use Rattle.manager.specs.Lists.{Distinct}
 
 -- ---- what stands in a slot
 

@@ -12,15 +12,15 @@ use lib.Dec.{eqb}
 use borrow.Author.Tests.{eqb-true, eq-eqb, ne-eqb}
 use Rattle.manager.specs.Record.{tasks, noWaiter}
 use Rattle.manager.specs.Result.{pad}
-use Rattle.manager.specs.Lists.{indexOf}
+use Rattle.manager.specs.Lists.{indexOf, In, Distinct}
 use Rattle.manager.specs.Queue.{waitsFor, firstOf, removeAt, dequeue}
 use Rattle.manager.proofs.Laws.Queue.{length-pad}
 use Rattle.manager.specs.declared.Manager.{Manager}
 use Rattle.manager.specs.declared.Waiter.{Waiter}
-use Rattle.trace.specs.Receipts.{Receipts, RegionEntry, Wait, Distinct, withWaits, without, waitOf}
+use Rattle.trace.specs.Receipts.{Receipts, RegionEntry, Wait, withWaits, without, waitOf}
 use Rattle.trace.specs.Claims.{waiterOf, waitersOf}
 use Rattle.trace.proofs.Invariant.{Waits, tasksOf, WaitIs}
-use Rattle.trace.proofs.Queue.Line.{In, keep, Sorted, in-append, in-keep, keep-append, keep-line}
+use Rattle.trace.proofs.Queue.Line.{keep, Sorted, in-append, in-keep, keep-append, keep-line}
 use Rattle.trace.proofs.Queue.Order.{queue-of, waits-keep, stands-strict, in-all-waits}
 use Rattle.trace.proofs.Queue.Places.{first-is, first-at, first-none, remove-pad}
 use Rattle.trace.proofs.Queue.Tasks.{notOf, without-keep, keep-others, keep-once, line-once, wait-of, wait-same}

@@ -9,16 +9,12 @@ use native.Mathlib.Omega.{arith}
 use lib.ListN.{length}
 use Rattle.manager.proofs.Laws.Appended.{by-case}
 use Rattle.trace.specs.Queue.{insertBy, insertAll}
+use Rattle.manager.specs.Lists.{In}
 
 pub true-false : (b : Bool) → b ≡ true → b ≡ false → ⊥
 true-false b e f = let z : _≡_ {A = ℕ} 0 1 = cc in omega arith
 
 module _ {A : Type 0} where
-  -- an element is on a list
-  unfoldable pub In : A → List A → Type 0
-  In x [] = ⊥
-  In x (y ∷ l) = (y ≡ x) ⊎ In x l
-
   -- those that pass a test
   unfoldable pub keep : (A → Bool) → List A → List A
   keep p [] = []

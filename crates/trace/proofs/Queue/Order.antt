@@ -18,7 +18,8 @@ use Rattle.trace.specs.Receipts.{Receipts, RegionEntry, Wait}
 use Rattle.trace.specs.Queue.{insertAll, rank, urgentThan, waitsIn, queueOf, orderIn, orders, standsBefore, inLine}
 use Rattle.trace.specs.Claims.{waiterOf}
 use Rattle.trace.proofs.Loans.Tests.{by-eqb}
-use Rattle.trace.proofs.Queue.Line.{true-false, In, keep, Sorted, Strict, in-keep, in-line, line-same, keep-line}
+use Rattle.trace.proofs.Queue.Line.{true-false, keep, Sorted, Strict, in-keep, in-line, line-same, keep-line}
+use Rattle.manager.specs.Lists.{In}
 
 -- PAIRS OF NUMBERS IN ORDER
 unfoldable lex : ℕ → ℕ → ℕ → ℕ → Bool

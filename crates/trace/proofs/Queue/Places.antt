@@ -10,14 +10,14 @@ use lib.ListN.{length, replicate, length-append, replicate-append-replicate}
 use lib.Seq.{take-append-seam, drop-append-seam}
 use Rattle.manager.specs.Record.{noWaiter}
 use Rattle.manager.specs.Result.{pad}
-use Rattle.manager.specs.Lists.{every, some, indexOf, pairwise, adjacent}
+use Rattle.manager.specs.Lists.{every, some, indexOf, pairwise, adjacent, In}
 use Rattle.manager.specs.Queue.{goesBefore, insert, removeAt}
 use Rattle.manager.proofs.Laws.Queue as places
 use Rattle.manager.specs.declared.Waiter.{Waiter}
 use Rattle.manager.specs.declared.Order.{Order}
 use Rattle.manager.proofs.Laws.Lists.{and-first, and-second}
 use Rattle.manager.proofs.Laws.Appended.{by-case}
-use Rattle.trace.proofs.Queue.Line.{true-false, In, keep, in-append}
+use Rattle.trace.proofs.Queue.Line.{true-false, keep, in-append}
 use Rattle.trace.specs.Queue.{insertBy}
 
 -- ONE ENTERED

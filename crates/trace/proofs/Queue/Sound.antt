@@ -11,17 +11,17 @@ use lib.Dec.{eqb}
 use borrow.Author.Tests.{ne-eqb, le-leb}
 use Rattle.manager.specs.Record.{tasks, noWaiter, regionOf}
 use Rattle.manager.specs.Result.{pad}
-use Rattle.manager.specs.Lists.{every, pairwise, adjacent}
+use Rattle.manager.specs.Lists.{every, pairwise, adjacent, In, Distinct}
 use Rattle.manager.specs.Region.{dead, pagesOf, anyHeld, pagesAsked}
 use Rattle.manager.specs.Sound.{soundWaiter, soundPlace, otherTask, inOrder, soundQueue}
 use Rattle.manager.specs.declared.Manager.{Manager}
 use Rattle.manager.specs.declared.Waiter.{Waiter}
 use Rattle.manager.specs.declared.Order.{Order}
 use Rattle.manager.proofs.Laws.Appended.{by-case}
-use Rattle.trace.specs.Receipts.{Receipts, Wait, Within, Distinct}
+use Rattle.trace.specs.Receipts.{Receipts, Wait}
 use Rattle.trace.specs.Claims.{waiterOf, waitersOf}
 use Rattle.trace.proofs.Invariant.{WaitIs, Waits, tasksOf}
-use Rattle.trace.proofs.Queue.Line.{In, Behind, Sorted, in-append, sorted-line}
+use Rattle.trace.proofs.Queue.Line.{Behind, Sorted, in-append, sorted-line}
 use Rattle.trace.proofs.Queue.Order.{stands-strict, in-all-waits, stands-is}
 use Rattle.trace.proofs.Queue.Places.{every-in, in-replicate, adjacent-pad, pairwise-pad}
 use Rattle.trace.proofs.Queue.Tasks.{in-tasks, line-once}
@@ -35,7 +35,7 @@ once-pairwise [] d = refl
 once-pairwise (w ∷ q) d =
     rw (every-in (otherTask (waiterOf w)) (waitersOf q) (λ x m.
     let r = in-waiters x q m in
-    let n : ¬ (w .task ≡ x .task) = λ e. d .0 (subst (λ (a : ℕ). Within a (tasksOf q)) (ap (λ (v : Waiter). v .task) (r .2) ∙ sym e) (in-tasks (r .0) q (r .1))) in
+    let n : ¬ (w .task ≡ x .task) = λ e. d .0 (subst (λ (a : ℕ). In a (tasksOf q)) (ap (λ (v : Waiter). v .task) (r .2) ∙ sym e) (in-tasks (r .0) q (r .1))) in
     or-not (eqb (w .task) 0) (eqb (w .task) (x .task)) (ne-eqb (w .task) (x .task) n)))
     (once-pairwise q (d .1))
   where

@@ -15,14 +15,15 @@ use Rattle.manager.specs.declared.Manager.{Manager}
 use Rattle.manager.specs.declared.Waiter.{Waiter}
 use Rattle.manager.specs.declared.Order.{Order}
 use Rattle.manager.proofs.Laws.Appended.{by-case}
-use Rattle.trace.specs.Receipts.{Receipts, RegionEntry, Wait, Within}
+use Rattle.trace.specs.Receipts.{Receipts, RegionEntry, Wait}
 use Rattle.trace.specs.Queue.{insertBy, waitsIn, queueOf, orders, standsBefore, inLine}
 use Rattle.trace.specs.Claims.{waiterOf, waitersOf, waitersFor}
 use Rattle.trace.proofs.Invariant.{Waits, tasksOf}
-use Rattle.trace.proofs.Queue.Line.{In, keep, in-append, keep-append, length-line}
+use Rattle.trace.proofs.Queue.Line.{keep, in-append, keep-append, length-line}
 use Rattle.trace.proofs.Queue.Order.{stands-is, in-all-waits, queue-of}
 use Rattle.trace.proofs.Queue.Places.{keep-replicate, some-in}
 use Rattle.trace.proofs.Queue.Tasks.{few, fewer, length-tasks, task-in}
+use Rattle.manager.specs.Lists.{In}
 
 -- WAITS AS WAITERS, one by one
 pub waiters-append : (a b : List Wait) → waitersOf (a ++ b) ≡ waitersOf a ++ waitersOf b
@@ -78,7 +79,7 @@ insert-waiters o w (x ∷ q) i h =
 
 module _ (d : Manager) (t : Receipts) (v : Waits d t) where
   -- no more waits than tasks, and fewer where a task does not wait
-  task-bounds : (b : ℕ) → Within b (tasksOf (t .waits)) → (1 ≤ b) × (b ≤ tasks)
+  task-bounds : (b : ℕ) → In b (tasksOf (t .waits)) → (1 ≤ b) × (b ≤ tasks)
   task-bounds b m =
       let r = task-in b (t .waits) m in
       let w = v .each (r .0) (r .1) in
@@ -89,7 +90,7 @@ module _ (d : Manager) (t : Receipts) (v : Waits d t) where
       let h = few tasks (tasksOf (t .waits)) (v .once) task-bounds in
       omega (arith, length-tasks (t .waits))
 
-  pub fewer-waits : (b : ℕ) → 1 ≤ b → b ≤ tasks → ¬ Within b (tasksOf (t .waits)) → length (t .waits) < tasks
+  pub fewer-waits : (b : ℕ) → 1 ≤ b → b ≤ tasks → ¬ In b (tasksOf (t .waits)) → length (t .waits) < tasks
   fewer-waits b p q g =
       let h = fewer tasks b (tasksOf (t .waits)) (v .once) task-bounds p q g in
       omega (arith, length-tasks (t .waits))
@@ -119,7 +120,7 @@ module _ (d : Manager) (t : Receipts) (v : Waits d t) where
   waiters-for id e f = for-keep id (d .waiters) ∙ queue-waiters id e f
 
   -- a task that waits by the receipts waits in the record
-  pub task-waits : (b : ℕ) → Within b (tasksOf (t .waits)) → waiting d b ≡ true
+  pub task-waits : (b : ℕ) → In b (tasksOf (t .waits)) → waiting d b ≡ true
   task-waits b m =
       let w = task-in b (t .waits) m in
       let i = in-append (waiterOf (w .0)) (waitersOf (inLine t)) (replicate (tasks - length (waitersOf (inLine t))) noWaiter)

@@ -8,7 +8,7 @@ use mathlib.Core.Option.{some}
 use Prim.Native.Nat.{ℕ, _-_}
 use lib.ListN.{length, replicate}
 use borrow.Author.Tests.{not-true}
-use Rattle.manager.specs.Lists.{every, pairwise, adjacent}
+use Rattle.manager.specs.Lists.{every, pairwise, adjacent, In, Distinct}
 use Rattle.manager.proofs.Laws.Lists.{and-first, and-second}
 use Rattle.manager.specs.Record.{slots, tasks, noWaiter, regionOf}
 use Rattle.manager.specs.Result.{pad}
@@ -18,10 +18,10 @@ use Rattle.manager.specs.Sound.{unused, soundPlace, otherTask, inOrder, soundQu
 use Rattle.manager.specs.declared.Manager.{Manager}
 use Rattle.manager.specs.declared.Waiter.{Waiter}
 use Rattle.manager.specs.declared.Order.{Order}
-use Rattle.trace.specs.Receipts.{Receipts, Wait, Distinct}
+use Rattle.trace.specs.Receipts.{Receipts, Wait}
 use Rattle.trace.specs.Claims.{waitersOf}
 use Rattle.trace.proofs.Invariant.{WaitIs, tasksOf, Waits}
-use Rattle.trace.proofs.Queue.Line.{In, Behind, Sorted, Strict}
+use Rattle.trace.proofs.Queue.Line.{Behind, Sorted, Strict}
 use Rattle.trace.proofs.Queue.Order.{stands-strict, stands-is}
 use Rattle.trace.proofs.Recover.Region.{entryOf, slotEntry}
 use Rattle.trace.proofs.Recover.Waits.{waiter-parts, wait-is, each-wait, waitFor, waitsOf, waits-cons, waits-skip, every-here, every-tail, adjacent-next, adjacent-tail, all-unused, queue-back, tasks-once}

@@ -11,20 +11,21 @@ use lib.Dec.{eqb, leb}
 use borrow.Author.Tests.{eqb-false, leb-true, not-true}
 use Rattle.arith.specs.Round.{pagesFor}
 use Rattle.arith.specs.Layout.{pageCount}
-use Rattle.manager.specs.Lists.{every, some as someOf, pairwise, adjacent}
+use Rattle.manager.specs.Lists.{every, some as someOf, pairwise, adjacent, In, Distinct}
 use Rattle.manager.proofs.Laws.Lists.{and-first, and-second}
 use Rattle.manager.specs.Map.{Segment, free, held, isHeldSegment}
 use Rattle.manager.specs.Record.{slots, tasks, noWaiter, regionOf}
 use Rattle.manager.specs.Paged.{kindOf}
 use Rattle.manager.specs.Region.{baseOf, dead, pagesOf, pagesAsked, anyHeld, segments}
 use Rattle.manager.specs.Queue.{goesBefore}
-use Rattle.manager.specs.Sound.{unused, soundWaiter, soundPlace, otherTask, inOrder, liveRegion, soundRegion}
+use Rattle.manager.specs.Sound.{unused, soundWaiter, soundPlace, otherTask, inOrder, soundRegion}
+use Rattle.manager.proofs.Laws.Sound.{live-of}
 use Rattle.manager.proofs.Laws.Queue.{empty-waiter}
 use Rattle.manager.proofs.Laws.Distinct.{either}
 use Rattle.manager.specs.declared.Manager.{Manager}
 use Rattle.manager.specs.declared.Region.{Region}
 use Rattle.manager.specs.declared.Waiter.{Waiter}
-use Rattle.trace.specs.Receipts.{Receipts, Wait, unit, Within, Distinct, pagesIn}
+use Rattle.trace.specs.Receipts.{Receipts, Wait, unit, pagesIn}
 use Rattle.trace.specs.Claims.{waiterOf, waitersOf}
 use Rattle.trace.proofs.Invariant.{WaitIs, tasksOf}
 use Rattle.trace.proofs.Areas.{region-slot}
@@ -32,7 +33,6 @@ use Rattle.trace.proofs.Loans.Addresses.{address-none}
 use Rattle.trace.proofs.Loans.Words.{loansOf}
 use Rattle.trace.proofs.Loans.Lawful.{found}
 use Rattle.trace.proofs.Recover.Region.{entryOf, slotEntry, unit-same, region-parts}
-use Rattle.trace.proofs.Queue.Line.{In}
 use Rattle.trace.proofs.Segments.{law}
 
 -- a waiter as a wait, and the used places of a queue
@@ -158,17 +158,13 @@ waiter-parts m d w e f =
       priority-most = leb-true (w .priority) 255 (and-second p q g₅);
     }
 
-pub live-clauses : (m : List ℕ) (r : Region) → soundRegion m r ≡ true → dead r ≡ false → liveRegion m r ≡ true
-unfolding soundRegion
-live-clauses m r e f = rw f at e
-
 module _ (m : List ℕ) (d : Manager) (t : Receipts) (entries : (id : ℕ) → t .regions id ≡ slotEntry m (regionOf d id))
     (sounds : (id : ℕ) → soundRegion m (regionOf d id) ≡ true) (nr : length (d .regions) ≡ slots) (np : length (d .partitions) ≡ slots) where
   pub wait-is : (w : Waiter) → soundPlace m d w ≡ true → unused w ≡ false → WaitIs t (waitFor w)
   wait-is w e f =
       let r = regionOf d (w .region) in
       let p = waiter-parts m d w e f in
-      let q = region-parts m r (live-clauses m r (sounds (w .region)) (p .alive)) in
+      let q = region-parts m r (live-of m r (sounds (w .region)) (p .alive)) in
       let u : unit (entryOf m r) ≡ r .page = unit-same m r (q .whole) in
       record {
         entry = entryOf m r;
@@ -196,12 +192,12 @@ module _ (m : List ℕ) (d : Manager) (t : Receipts) (entries : (id : ℕ) → t
           ⊎-elim (λ (q : waitFor w ≡ x). subst (WaitIs t) q (wait-is w (every-here (soundPlace m d) w ws e) f)) ih (subst (In x) (waits-cons w ws f) h)
 
 -- a task is not among those of places that have other tasks
-other-tasks : (w : Waiter) (ws : List Waiter) → unused w ≡ false → every (otherTask w) ws ≡ true → ¬ Within (w .task) (tasksOf (waitsOf ws))
-unfolding Within tasksOf waitsOf
+other-tasks : (w : Waiter) (ws : List Waiter) → unused w ≡ false → every (otherTask w) ws ≡ true → ¬ In (w .task) (tasksOf (waitsOf ws))
+unfolding In tasksOf waitsOf
 other-tasks w [] f e = λ (h : ⊥). h
 other-tasks w (x ∷ ws) f e = go (either (unused x)) (other-tasks w ws f (every-tail (otherTask w) x ws e))
   where
-    go : (unused x ≡ true) ⊎ (unused x ≡ false) → ¬ Within (w .task) (tasksOf (waitsOf ws)) → ¬ Within (w .task) (tasksOf (waitsOf (x ∷ ws)))
+    go : (unused x ≡ true) ⊎ (unused x ≡ false) → ¬ In (w .task) (tasksOf (waitsOf ws)) → ¬ In (w .task) (tasksOf (waitsOf (x ∷ ws)))
     go (inl g) ih = rw g ih
     go (inr g) ih =
         let n : eqb (w .task) (x .task) ≡ false = not-true (eqb (w .task) (x .task)) (rw f at (every-here (otherTask w) x ws e)) in

@@ -28,12 +28,13 @@ use Rattle.trace.proofs.Frame.{map-area}
 use Rattle.trace.proofs.Clients.{map-stays}
 use Rattle.trace.proofs.Areas.{areaFor, overlaps-clear, region-there, region-elsewhere, areas-new-region, region-kept, partition-kept}
 use Rattle.trace.proofs.Loans.Tests.{by-eqb}
-use Rattle.trace.proofs.Regions.Checks.{Passed, note-done, Kept, kept-checked}
+use Rattle.trace.proofs.Regions.Checks.{note-done, Kept, kept-checked}
 use Rattle.trace.proofs.Regions.Live.{slot-none}
 use Rattle.trace.proofs.Regions.Picture.{put-here, words-same, registering}
 use Rattle.trace.proofs.Regions.Lending.{none-there, waits-put}
 use Rattle.trace.proofs.Regions.Queue.{sound-inv}
 use Rattle.trace.proofs.Map.{opens, Steps}
+use Rattle.manager.proofs.Laws.Result.{Passed}
 
 -- what is found passes the test
 index-passes : {A : Type 0} (z : A) (t : A → Bool) (l : List A) → indexOf t l < length l → t (getD l (indexOf t l) z) ≡ true

@@ -23,11 +23,12 @@ use Rattle.trace.proofs.Invariant.{regionFor, RegionSlot, empty, Inv, P
 use Rattle.trace.proofs.Areas.{OfSlot, region-slot, region-there, region-elsewhere, areas-no-region}
 use Rattle.trace.proofs.Clients.{RegionAt}
 use Rattle.trace.proofs.Loans.Tests.{by-eqb}
-use Rattle.trace.proofs.Regions.Checks.{Passed, note-done, Kept, kept-words, kept-checked}
+use Rattle.trace.proofs.Regions.Checks.{note-done, Kept, kept-words, kept-checked}
 use Rattle.trace.proofs.Regions.Live.{slot-entry}
 use Rattle.trace.proofs.Regions.Lending.{NoWait, none-lent, waits-put}
 use Rattle.trace.proofs.Regions.Queue.{sound-inv}
 use Rattle.trace.proofs.Regions.Picture.{registering}
+use Rattle.manager.proofs.Laws.Result.{Passed}
 
 -- nothing is lent
 lends-none : (l : List Loan) → lendsAny l ≡ false → l ≡ []

@@ -29,12 +29,13 @@ use Rattle.trace.proofs.Loans.Lawful.{found}
 use Rattle.trace.proofs.Segments.{regular, full-lends}
 use Rattle.trace.proofs.Map.{Steps, Gives, gave, none, shows}
 use Rattle.trace.proofs.Queue.Enter.{new-waiter, new-time}
-use Rattle.trace.proofs.Regions.Checks.{Passed, refuses, note-done, note-waiting, Kept, kept-map, kept-words, kept-refused, kept-checked}
+use Rattle.trace.proofs.Regions.Checks.{refuses, note-done, note-waiting, Kept, kept-map, kept-words, kept-refused, kept-checked}
 use Rattle.trace.proofs.Regions.Live.{slot-entry}
 use Rattle.trace.proofs.Regions.Picture.{on-region, any-queue, stepped}
 use Rattle.trace.proofs.Regions.Lending.{waits-lent, enter-some}
 use Rattle.trace.proofs.Regions.Queue.{sound-inv, wait-inv, live-id}
 use Rattle.trace.specs.Claims.{Full}
+use Rattle.manager.proofs.Laws.Result.{Passed}
 
 -- what a get does in a region, once its checks pass
 abbrev pub getting : List ℕ → Manager → asking.Wait → Waiter → Region → ℕ → Result

@@ -16,9 +16,10 @@ use Rattle.trace.proofs.Invariant.{WaitIs, Waits}
 use Rattle.trace.proofs.Loans.Tests.{by-eqb, by-leb}
 use Rattle.trace.proofs.Queue.Order.{in-waits}
 use Rattle.trace.proofs.Queue.Tasks.{wait-moved, wait-same}
-use Rattle.trace.proofs.Queue.Line.{In, in-line, line-same}
+use Rattle.trace.proofs.Queue.Line.{in-line, line-same}
 use Rattle.trace.proofs.Regions.Picture.{put-here, put-else, lending, registering}
 use Rattle.trace.specs.Queue.{urgentThan, waitsIn, queueOf, orderIn, orders, standsBefore, inLine}
+use Rattle.manager.specs.Lists.{In}
 
 -- nobody waits for a region
 abbrev pub NoWait : Receipts → ℕ → Type 0

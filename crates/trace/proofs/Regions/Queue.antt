@@ -22,12 +22,13 @@ use Rattle.trace.specs.Replies.{lendsAny}
 use Rattle.trace.proofs.Map.{shows}
 use Rattle.trace.proofs.Sound.{inv-sound}
 use Rattle.trace.proofs.Loans.Tests.{by-eqb}
-use Rattle.trace.proofs.Queue.Line.{In, length-line, true-false}
+use Rattle.trace.proofs.Queue.Line.{length-line, true-false}
 use Rattle.trace.proofs.Queue.Enter.{waits-entered}
 use Rattle.trace.proofs.Queue.Sound.{Waitable, sound-queue}
 use Rattle.trace.proofs.Queue.Waiters.{few-waits, task-waits}
 use Rattle.trace.proofs.Regions.Live.{not-dead}
 use Rattle.trace.specs.Queue.{waitsIn, queueOf, orderIn, urgentThan}
+use Rattle.manager.specs.Lists.{In}
 
 -- ---- the queue is sound
 

@@ -24,11 +24,12 @@ use Rattle.trace.specs.Replies.{mostIn}
 use Rattle.trace.proofs.Segments.{regular, asks-some}
 use Rattle.trace.proofs.Map.{Steps, shows, lent-held}
 use Rattle.trace.proofs.Loans.Tests.{by-leb}
-use Rattle.trace.proofs.Regions.Checks.{Passed, note-done, Kept, kept-map, kept-refused, kept-checked}
+use Rattle.trace.proofs.Regions.Checks.{note-done, Kept, kept-map, kept-refused, kept-checked}
 use Rattle.trace.proofs.Regions.Live.{slot-entry}
 use Rattle.trace.proofs.Regions.Picture.{on-region, stepped}
 use Rattle.trace.proofs.Regions.Lending.{waits-lent, amend-some}
 use Rattle.trace.proofs.Regions.Queue.{sound-inv}
+use Rattle.manager.proofs.Laws.Result.{Passed}
 
 -- what a resize does in a region, once its checks pass
 abbrev pub resized : List ℕ → Manager → ℕ → Region → ℕ → Bool → Result

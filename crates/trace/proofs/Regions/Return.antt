@@ -19,13 +19,14 @@ use Rattle.trace.specs.Receipts.{Receipts, RegionEntry, giveBack, onRegi
 use Rattle.trace.proofs.Invariant.{RegionIs, regionFor, Inv}
 use Rattle.trace.proofs.Frame.{only-trans}
 use Rattle.trace.proofs.Map.{Steps, shows, lent-held}
-use Rattle.trace.proofs.Regions.Checks.{Passed, Kept, kept-map, kept-checked}
+use Rattle.trace.proofs.Regions.Checks.{Kept, kept-map, kept-checked}
 use Rattle.trace.proofs.Regions.Live.{slot-entry}
 use Rattle.trace.proofs.Regions.Picture.{put-here, lending, on-region, lending-again, stepped}
 use Rattle.trace.proofs.Regions.Lending.{waits-lent}
 use Rattle.trace.proofs.Regions.Queue.{sound-inv, few-queue}
 use Rattle.trace.proofs.Regions.Serve.{Outcome, Serving, something, served}
 use Rattle.trace.specs.Queue.{queueOf}
+use Rattle.manager.proofs.Laws.Result.{Passed}
 
 -- what a return does in a region, once its checks pass
 abbrev pub returning : List ℕ → Manager → ℕ → ℕ → Region → Served

@@ -5,6 +5,7 @@ use mathlib.Core.List.{List, [], _∷_}
 use mathlib.Core.Option.{Option, some}
 use Prim.Native.Nat.{ℕ}
 use Rattle.manager.proofs.Laws.Appended.{by-case}
+use Rattle.manager.proofs.Laws.Result.{answered-sound}
 use Rattle.manager.specs.Result.{Result, Check, check, checked, refused}
 use Rattle.manager.specs.Region.{dead}
 use Rattle.manager.specs.Partition.{deadPartition}
@@ -18,7 +19,6 @@ use Rattle.manager.specs.declared.Status.the-variants.{InvalidId}
 use Rattle.trace.specs.Receipts.{RegionEntry, PartitionEntry, Reply, replyOf}
 use Rattle.trace.specs.Replies.{no, decided, living}
 use Rattle.trace.proofs.Invariant.{regionFor, RegionIs, RegionSlot, PartitionIs, PartitionSlot, empty, live}
-use Rattle.trace.proofs.Regions.Checks.{answered-sound}
 use Rattle.trace.proofs.Regions.Live.{not-dead}
 use borrow.Author.Tests.{ne-eqb}
 

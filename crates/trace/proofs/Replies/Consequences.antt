@@ -23,8 +23,8 @@ use Rattle.trace.specs.Claims.{Grants, Full, Takes}
 use Rattle.trace.proofs.Segments.{law, Regular, Places, takes, full, places, lent-some, pages-lent, room-lent, regular-returned}
 use Rattle.trace.proofs.Grants.{grants-are}
 use Rattle.trace.proofs.Loans.Tests.{by-leb}
-use Rattle.trace.proofs.Queue.Line.{In}
 use Rattle.trace.specs.Queue.{queueOf}
+use Rattle.manager.specs.Lists.{In}
 
 -- ---- the answers about a region
 

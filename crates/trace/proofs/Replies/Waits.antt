@@ -24,11 +24,11 @@ use Rattle.manager.specs.declared.Wait as asking
 use Rattle.manager.specs.declared.Wait.the-variants.{No, Yes}
 use Rattle.manager.specs.declared.Call.the-variants.{GetSegment, ReturnSegment, Tick}
 use Rattle.manager.specs.declared.Status.the-variants.{InvalidSize, InvalidAddress}
-use Rattle.trace.specs.Receipts.{Receipts, RegionEntry, Wait, Reply, Within, replyOf, addressIn, pagesOver}
+use Rattle.trace.specs.Receipts.{Receipts, RegionEntry, Wait, Reply, replyOf, addressIn, pagesOver}
 use Rattle.trace.specs.Claims.{waitersOf}
 use Rattle.trace.specs.Replies.{yes, tells, noPlace, waitsAlready, waitingChecks, byReceipts}
 use Rattle.trace.proofs.Invariant.{regionFor, tasksOf, Inv}
-use Rattle.trace.proofs.Queue.Line.{In, true-false, in-append}
+use Rattle.trace.proofs.Queue.Line.{true-false, in-append}
 use Rattle.trace.proofs.Queue.Places.{in-some, in-replicate}
 use Rattle.trace.proofs.Queue.Tasks.{in-tasks}
 use Rattle.trace.proofs.Queue.Ticks.{tick-notices}
@@ -40,19 +40,20 @@ use Rattle.trace.proofs.Regions.Return.{returning, outcome}
 use Rattle.trace.proofs.Replies.Checks.{Agree, rest, same, test, acted, agree, answers, at-region}
 use Rattle.trace.proofs.Map.{shows, none-at, lent-held}
 use Rattle.trace.specs.Queue.{inLine}
+use Rattle.manager.specs.Lists.{In}
 
 -- ---- a task waits
 
 module _ (task : ℕ) where
-  already-within : (ws : List Wait) → waitsAlready task ws ≡ true → Within task (tasksOf ws)
-  unfolding waitsAlready Within tasksOf
+  already-within : (ws : List Wait) → waitsAlready task ws ≡ true → In task (tasksOf ws)
+  unfolding waitsAlready In tasksOf
   already-within [] e = absurd (true-false false e refl)
   already-within (w ∷ ws) e =
-      by-case (eqb (w .task) task) (λ b. (b || waitsAlready task ws) ≡ true → Within task (tasksOf (w ∷ ws)))
+      by-case (eqb (w .task) task) (λ b. (b || waitsAlready task ws) ≡ true → In task (tasksOf (w ∷ ws)))
       (λ f g. inl (eqb-true (w .task) task f)) (λ f g. inr (already-within ws g)) e
 
-  within-already : (ws : List Wait) → Within task (tasksOf ws) → waitsAlready task ws ≡ true
-  unfolding waitsAlready Within tasksOf
+  within-already : (ws : List Wait) → In task (tasksOf ws) → waitsAlready task ws ≡ true
+  unfolding waitsAlready In tasksOf
   within-already [] h = absurd h
   within-already (w ∷ ws) (inl e) = rw (eq-eqb (w .task) task e)
   within-already (w ∷ ws) (inr h) = or-true (eqb (w .task) task) (within-already ws h)
@@ -63,7 +64,7 @@ module _ (task : ℕ) where
 
 module _ (m : List ℕ) (d : Manager) (t : Receipts) (v : Inv m d t) where
   -- A TASK WAITS IN THE RECORD EXACTLY WHERE IT WAITS BY THE RECEIPTS
-  waiting-within : (task : ℕ) → ¬ (task ≡ 0) → waiting d task ≡ true → Within task (tasksOf (t .waits))
+  waiting-within : (task : ℕ) → ¬ (task ≡ 0) → waiting d task ≡ true → In task (tasksOf (t .waits))
   waiting-within task n e =
       let r = in-some (λ w. eqb (w .task) task) (d .waiters) e in
       let k = tasks - length (waitersOf (inLine t)) in
@@ -71,7 +72,7 @@ module _ (m : List ℕ) (d : Manager) (t : Receipts) (v : Inv m d t) where
       let f : r .0 .task ≡ task = eqb-true (r .0 .task) task (r .2) in
       elim (in-append (r .0) (waitersOf (inLine t)) (replicate k noWaiter) .0 i) [
         | inl h ↦ let w = in-waiters (r .0) (inLine t) h in
-            subst (λ (a : ℕ). Within a (tasksOf (t .waits))) (ap (λ (x : Waiter). x .task) (w .2) ∙ f)
+            subst (λ (a : ℕ). In a (tasksOf (t .waits))) (ap (λ (x : Waiter). x .task) (w .2) ∙ f)
             (in-tasks (w .0) (t .waits) (in-all-waits t (w .0) .0 (w .1)))
         | inr h ↦ absurd (n (sym f ∙ ap (λ (x : Waiter). x .task) (sym (in-replicate k noWaiter (r .0) h))))
       ]
