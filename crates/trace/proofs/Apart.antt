@@ -12,9 +12,10 @@ use Rattle.trace.specs.Receipts.{Receipts, RegionEntry, PartitionEntry, 
 use Rattle.trace.specs.Trace.{Object, region, partition, Loaned, segment, buffer}
 use Rattle.trace.proofs.Invariant.{Inv, RegionIs, PartitionIs}
 use Rattle.trace.proofs.Frame.{buffers-apart}
-use Rattle.trace.proofs.Areas.{areaIn, sound-clear, clear-parts, same-object}
+use Rattle.trace.proofs.Areas.{areaIn, sound-clear, same-object}
 use Rattle.trace.proofs.Clients.{SegmentLoan, BufferLoan, segment-loan, buffer-loan, region-at, partition-at, loan-in}
 use Rattle.trace.proofs.Segments.{law}
+use Rattle.trace.proofs.Disjoint.{clear-parts}
 
 -- one byte range is the other, or one ends before the other starts
 abbrev pub Alike : ℕ → ℕ → ℕ → ℕ → Type 0

@@ -20,8 +20,10 @@ use Rattle.manager.specs.declared.Call.the-variants.{GetSegment, ReturnSegment,
 use Rattle.manager.specs.declared.Wait.the-variants.{No}
 use Rattle.manager.specs.declared.Partition.{Partition}
 use Rattle.manager.specs.declared.Status.the-variants.{InternalError}
+use Rattle.manager.specs.Lists.{In}
 use Rattle.trace.specs.Loans.{Lent, loanPages, sum}
 use Rattle.trace.specs.Receipts.{RegionEntry, PartitionEntry, Wait, Reply, replyOf, unit, firstIn, pageIn, pageLoans, buffersIn, buffersFrom}
+use Rattle.trace.specs.Queue.{queueOf, inLine, dueIn}
 use Rattle.trace.specs.Replies.{byReceipts, readByReceipts}
 use Rattle.trace.specs.Trace.{State, answer}
 use Rattle.trace.specs.Claims.{freePages, Chained, null, link, RegionClaims, PartitionClaims}
@@ -37,8 +39,6 @@ use Rattle.trace.proofs.Queue.Waiters.{waiters-for}
 use Rattle.trace.proofs.Partitions.Slot.{buffers-in, unlent-once}
 use Rattle.trace.proofs.Replies.Consequences.{unsatisfied-by, lowest-by, information-by, size-by, resize-by, return-by, buffer-unsatisfied, buffer-front}
 use Rattle.trace.proofs.Replies.Undamaged.{not-damaged, reply-sound}
-use Rattle.trace.specs.Queue.{queueOf, inLine, dueIn}
-use Rattle.manager.specs.Lists.{In}
 
 -- ---- a chain by word 0
 

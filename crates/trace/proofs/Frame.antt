@@ -25,9 +25,9 @@ use Rattle.manager.proofs.Laws.Partition.Live.{live-laid, live-size, live-chain
 use Rattle.manager.specs.Sound.{inside}
 use Rattle.manager.specs.declared.Region.{Region}
 use Rattle.manager.specs.declared.Partition.{Partition}
+use Rattle.manager.specs.Lists.{In}
 use Rattle.trace.specs.Receipts.{RegionEntry, PartitionEntry, unit, pagesIn}
 use Rattle.trace.proofs.Invariant.{Inside, Only, regionFor, RegionIs, PartitionIs, OnlyMap}
-use Rattle.manager.specs.Lists.{In}
 
 -- ---- words inside an area, and changes of nothing else
 

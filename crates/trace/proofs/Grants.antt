@@ -5,12 +5,12 @@ use mathlib.Core.Logic.{inl, inr}
 use Prim.Native.Nat.{_<_}
 use Rattle.manager.specs.Serve.{onPlace}
 use Rattle.manager.specs.declared.Place.{Place}
+use Rattle.manager.specs.Lists.{In}
 use Rattle.trace.specs.Loans.{Loan, enter}
 use Rattle.trace.specs.Receipts.{RegionEntry, Wait, pagesOver, addressIn, withLoans}
 use Rattle.trace.specs.Replies.{grantTo, grantsIn}
 use Rattle.trace.specs.Claims.{Grants, all, stop, grant}
 use Rattle.trace.proofs.Segments.{Regular, Places, takes, full, places}
-use Rattle.manager.specs.Lists.{In}
 
 -- THE GRANTS THAT ARE COMPUTED ARE THE GRANTS
 pub grants-are : (e : RegionEntry) (l : List Loan) (ws : List Wait) → Regular (withLoans l e) → ((w : Wait) → In w ws → 0 < w .size)

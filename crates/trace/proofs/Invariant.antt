@@ -16,12 +16,12 @@ use Rattle.manager.specs.Sound.{soundLength, inside, livePartition, soundAreas}
 use Rattle.manager.specs.declared.Manager.{Manager}
 use Rattle.manager.specs.declared.Region.{Region}
 use Rattle.manager.specs.declared.Partition.{Partition}
+use Rattle.manager.specs.Lists.{In, Distinct}
 use Rattle.trace.specs.Loans.{Loan}
 use Rattle.trace.specs.Receipts.{Receipts, RegionEntry, PartitionEntry, Wait, unit, pagesIn, firstIn, pageLoans, reading, pagesOver}
+use Rattle.trace.specs.Queue.{inLine}
 use Rattle.trace.specs.Claims.{waitersOf}
 use Rattle.trace.proofs.Loans.Addresses.{atPages}
-use Rattle.trace.specs.Queue.{inLine}
-use Rattle.manager.specs.Lists.{In, Distinct}
 
 -- word w lies wholly in the n bytes from a on
 pub record Inside (a n w : ℕ) : Type 0 where

@@ -14,9 +14,9 @@ use Rattle.manager.specs.declared.Partition.{Partition}
 use Rattle.trace.specs.Receipts.{Receipts, RegionEntry, PartitionEntry, unit, pagesIn}
 use Rattle.trace.proofs.Invariant.{regionFor, RegionIs, RegionSlot, PartitionSlot, Inv, empty, live}
 use Rattle.trace.proofs.Frame.{unit-least, unit-most, unit-whole}
-use Rattle.trace.proofs.Areas.{at-every}
 use Rattle.trace.proofs.Loans.Lawful.{drawn-is}
 use Rattle.trace.proofs.Segments.{law}
+use Rattle.trace.proofs.Disjoint.{at-every}
 
 -- a page size as create leaves it
 pub unit-sound : (e : RegionEntry) → 1 ≤ e .page → e .page ≤ 4096 → soundPage (unit e) ≡ true

@@ -13,9 +13,9 @@ use Rattle.manager.specs.Sound.{soundAreas}
 use Rattle.manager.specs.declared.Region.{Region}
 use Rattle.manager.specs.declared.Partition.{Partition}
 use Rattle.trace.specs.Receipts.{blank}
+use Rattle.trace.specs.Queue.{insertAll}
 use Rattle.trace.specs.Claims.{waitersOf}
 use Rattle.trace.proofs.Invariant.{RegionSlot, PartitionSlot, Inv, Waits, tasksOf, empty}
-use Rattle.trace.specs.Queue.{insertAll}
 
 -- any place of a list of one value has it
 pub getD-same : {A : Type 0} (n i : ℕ) (z : A) → getD (replicate n z) i z ≡ z

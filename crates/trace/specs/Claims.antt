@@ -21,13 +21,13 @@ use Rattle.manager.specs.declared.Call.{Call}
 use Rattle.manager.specs.declared.Call.the-variants.{GetSegment, ReturnSegment, SegmentSize, ResizeSegment, RegionInformation, GetBuffer, Tick}
 use Rattle.manager.specs.declared.Wait.the-variants.{No}
 use Rattle.manager.specs.declared.Status.the-variants.{Successful, Unsatisfied, InternalError}
+use Rattle.manager.specs.Lists.{In, Distinct}
 use Rattle.trace.specs.Loans.{Loan, Lent, loanPages, sum, enter, amend}
 use Rattle.trace.specs.Reading.{NoPlace}
 use Rattle.trace.specs.Receipts.{reading, pagesOver, Receipts, RegionEntry, PartitionEntry, Wait, replyOf, isSuccess, unit, pagesIn, addressIn, pageIn, byPage, pageLoans, buffersIn, buffersFrom}
 use Rattle.trace.specs.Queue.{queueOf, inLine, dueIn}
 use Rattle.trace.specs.Replies.{informationIn, grantTo, byReceipts, writeByReceipts, readByReceipts}
 use Rattle.trace.specs.Trace.{Ask, call, read, write, State, answer, answerWrite, after, Object, Loaned, Owned, Runs, start}
-use Rattle.manager.specs.Lists.{In, Distinct}
 
 -- a wait as the record keeps it: with the ticks that it has left
 abbrev pub left : Wait → ℕ
@@ -82,10 +82,10 @@ pub record RegionClaims (i : Implementation) (s : State) (id : ℕ) (e : RegionE
   -- pages held by the receipts and pages free in the map make up the region
   pub counted : sum (loanPages (e .loans)) + freePages (decode (mapIn (s .memory) e)) ≡ pagesIn e
   -- "A get is valid if its checks ahead of 13, the one for 25 aside, refuse nothing": one that won't wait is answered 13 exactly when no
-  -- run of adjoining unheld pages is long enough
+  -- place would serve it: no run of adjoining unheld pages is long enough
   pub unsatisfied : (size task priority ticks : ℕ) → 0 < size → pagesOver e size ≤ pagesIn e
       → (answer i s (GetSegment id size No task priority ticks) .status ≡ Unsatisfied) ↔ Full e (e .loans) size
-  -- else the address is the lowest that fits
+  -- else the address is that of the place that its region's kind chooses: of pages, the lowest that fits
   pub lowest : (size task priority ticks : ℕ) → 0 < size → pagesOver e size ≤ pagesIn e
       → (answer i s (GetSegment id size No task priority ticks) .status ≡ Unsatisfied)
       ⊎ ((p : ℕ) × Takes e (e .loans) size p
@@ -104,8 +104,8 @@ pub record RegionClaims (i : Implementation) (s : State) (id : ℕ) (e : RegionE
       ↔ (¬ reading e .Room (pagesIn e) (pageLoans e) (pageIn e a) k (pagesOver e size)))
   -- the queue is the waits of the receipts, in order
   pub queue : waitersFor id (s .manager .waiters) ≡ waitersOf (queueOf id e (s .receipts))
-  -- after a return the grants go to the first waits in that order, each to the lowest run at that moment, and stop exactly at the first
-  -- that has none ("the stop rule")
+  -- after a return the grants go to the first waits in that order, each to the place that a get takes at that moment, and stop exactly
+  -- at the first that has none ("the stop rule")
   pub return : (a k : ℕ) → Lent (e .loans) a k
       → (answer i s (ReturnSegment id a) .status ≡ Successful)
       × Grants e (amend a 0 (e .loans)) (queueOf id e (s .receipts)) (answer i s (ReturnSegment id a) .notices)

@@ -1,10 +1,10 @@
 -- Document 01, "Bench examples": the ones marked M, answered by the receipts alone. The table is the one of the definitions; here no
 -- memory and no record is kept, and each answer is entered into the receipts by which the next call is answered. Assumes nothing.
-use Prim.Native.Nat.{ℕ, _+_}
 use mathlib.Core.Path.{_≡_, refl}
 use mathlib.Core.Bool.{Bool, true, _&&_}
 use mathlib.Core.List.{List, [], _∷_}
 use mathlib.Core.Option.{Option, none, some}
+use Prim.Native.Nat.{ℕ, _+_}
 use lib.Dec.{eqb}
 use Rattle.arith.specs.Layout.{largest, pageCount}
 use Rattle.manager.specs.Status.{numberOf}
@@ -14,10 +14,10 @@ use Rattle.manager.specs.Map.{draw}
 use Rattle.manager.specs.Examples.{Step, step, Row, layout, calls, words, same, told, table}
 use Rattle.manager.specs.declared.Order.the-variants.{Fifo}
 use Rattle.trace.specs.Loans.{enter, amend, inPages}
+use Rattle.trace.specs.Pages.{drawn, lowestRun, readingOf}
 use Rattle.trace.specs.Receipts.{Receipts, RegionEntry, Reply, blank, pagesIn, addressIn, pageLoans, note, allNoticed, without, waitOf, strike, buffersFrom, reading}
 use Rattle.trace.specs.Queue.{insertBy, insertAll, waitsIn}
 use Rattle.trace.specs.Replies.{decided, firstId, anyId, pagesAt, grantsIn, waitsAlready, listed, byReceipts}
-use Rattle.trace.specs.Pages.{drawn, lowestRun, readingOf}
 
 -- an answer: status, value, and the notices (task, status, address)
 abbrev right : Reply → ℕ → ℕ → List ℕ → Bool

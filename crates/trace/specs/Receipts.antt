@@ -95,8 +95,8 @@ buffersFrom zero size a = []
 buffersFrom (suc n) size a = a ∷ buffersFrom n size (a + size)
 
 -- an entry under an id
-abbrev pub put : {A : Type 0} → ℕ → Option A → (ℕ → Option A) → ℕ → Option A
-put id e f j = cond (eqb j id) e (f j)
+abbrev pub update : {A : Type 0} → ℕ → Option A → (ℕ → Option A) → ℕ → Option A
+update id e f j = cond (eqb j id) e (f j)
 
 -- a change of the entry under an id, where there is one
 abbrev pub mapOption : {A : Type 0} → (A → A) → Option A → Option A
@@ -104,10 +104,10 @@ mapOption f none = none
 mapOption f (some x) = some (f x)
 
 abbrev pub onRegion : ℕ → (RegionEntry → RegionEntry) → Receipts → Receipts
-onRegion id f t = record { regions = put id (mapOption f (t .regions id)) (t .regions); partitions = t .partitions; waits = t .waits }
+onRegion id f t = record { regions = update id (mapOption f (t .regions id)) (t .regions); partitions = t .partitions; waits = t .waits }
 
 abbrev pub onPartition : ℕ → (PartitionEntry → PartitionEntry) → Receipts → Receipts
-onPartition id f t = record { regions = t .regions; partitions = put id (mapOption f (t .partitions id)) (t .partitions); waits = t .waits }
+onPartition id f t = record { regions = t .regions; partitions = update id (mapOption f (t .partitions id)) (t .partitions); waits = t .waits }
 
 abbrev pub withLoans : List Loan → RegionEntry → RegionEntry
 withLoans l e = record { name = e .name; start = e .start; bytes = e .bytes; page = e .page; order = e .order; loans = l }
@@ -161,21 +161,21 @@ allLater (w ∷ ws) = later w ∷ allLater ws
 abbrev pub entered : Call → ℕ → Receipts → Receipts
 entered (CreateRegion name start bytes page order) v t =
     record {
-      regions = put v (some (record { name = name; start = start; bytes = bytes; page = page; order = order; loans = [] })) (t .regions);
+      regions = update v (some (record { name = name; start = start; bytes = bytes; page = page; order = order; loans = [] })) (t .regions);
       partitions = t .partitions;
       waits = t .waits;
     }
-entered (DeleteRegion id) v t = record { regions = put id none (t .regions); partitions = t .partitions; waits = t .waits }
+entered (DeleteRegion id) v t = record { regions = update id none (t .regions); partitions = t .partitions; waits = t .waits }
 entered (GetSegment id size wait task priority ticks) v t = onRegion id (lend v size) t
 entered (ReturnSegment id address) v t = onRegion id (giveBack address) t
 entered (ResizeSegment id address size) v t = onRegion id (refit address size) t
 entered (CreatePartition name start bytes size) v t =
     record {
       regions = t .regions;
-      partitions = put v (some (record { name = name; start = start; bytes = bytes; size = size; lent = []; unlent = buffersFrom (bytes / size) size start })) (t .partitions);
+      partitions = update v (some (record { name = name; start = start; bytes = bytes; size = size; lent = []; unlent = buffersFrom (bytes / size) size start })) (t .partitions);
       waits = t .waits;
     }
-entered (DeletePartition id) v t = record { regions = t .regions; partitions = put id none (t .partitions); waits = t .waits }
+entered (DeletePartition id) v t = record { regions = t .regions; partitions = update id none (t .partitions); waits = t .waits }
 entered (GetBuffer id) v t = onPartition id (λ e. withBuffers (v ∷ e .lent) (strike v (e .unlent)) e) t
 entered (ReturnBuffer id address) v t = onPartition id (λ e. withBuffers (strike address (e .lent)) (e .unlent ++ (address ∷ [])) e) t
 entered Tick v t = withWaits (allLater (t .waits)) t

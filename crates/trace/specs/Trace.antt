@@ -10,9 +10,9 @@ use Rattle.manager.specs.Result.{Result}
 use Rattle.manager.specs.Perform.{Implementation}
 use Rattle.manager.specs.declared.Manager.{Manager}
 use Rattle.manager.specs.declared.Call.{Call}
+use Rattle.manager.specs.Lists.{In}
 use Rattle.trace.specs.Loans.{Lent}
 use Rattle.trace.specs.Receipts.{Receipts, RegionEntry, PartitionEntry, blank, unit, replyOf, note}
-use Rattle.manager.specs.Lists.{In}
 
 -- one of a list of calls: a directive, or a read or write of a held segment
 pub data Ask : Type 0 where

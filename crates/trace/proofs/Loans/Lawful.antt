@@ -13,9 +13,9 @@ use Rattle.manager.specs.Paged.{Kind, free+}
 use Rattle.manager.specs.declared.Place.{Place}
 use Rattle.manager.specs.declared.Place.the-variants.{At, Nowhere}
 use Rattle.trace.specs.Loans.{Loan, loan, enter, amend, Lent, loanPages, sum}
+use Rattle.trace.specs.Reading.{Serves, NoPlace, Reading}
 use Rattle.trace.specs.Claims.{freePages}
 use Rattle.trace.proofs.Loans.Words.{loansOf}
-use Rattle.trace.specs.Reading.{Serves, NoPlace, Reading}
 
 -- a map is the one drawn from loans
 pub record Drawing (R : Reading) (n : ℕ) (l : List Loan) (s : List Segment) : Type 0 where
@@ -96,11 +96,3 @@ module _ (K : Kind) (R : Reading) (L : Lawful K R) where
         | inl e ↦ e .1
         | inr e ↦ elim e [ inl h ↦ absurd (omega (arith, L .lent-some o p k x)) | inr h ↦ absurd (omega (arith, L .lent-some o p m y)) ]
       ]
-
-  -- something is held where there is a loan
-  pub none-held : {n : ℕ} (l : List Loan) {s : List Segment} → Drawing R n l s → some isHeldSegment s ≡ false → l ≡ []
-  none-held [] d e = refl
-  none-held (loan a k ∷ l) {s} d e =
-      let t : some isHeldSegment s ≡ true = L .any-some d in
-      let z : _≡_ {A = ℕ} 0 1 = cc in
-      absurd (omega arith)

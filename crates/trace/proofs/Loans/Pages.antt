@@ -13,14 +13,13 @@ use Rattle.manager.specs.Paged.{paged, kindOf, placeFrom, take, heldFrom, reach
 use Rattle.manager.specs.declared.Order.{Order}
 use Rattle.manager.specs.declared.Place.{Place}
 use Rattle.trace.specs.Loans.{Loan, amend, Lent, Run, loanPages, sum, Held}
+use Rattle.trace.specs.Pages.{runs, Ordered, Room, lowestRun, mostPagesAt, pages, readingOf}
 use Rattle.trace.specs.Claims.{freePages}
 use Rattle.trace.proofs.Loans.Drawn as draws
 use Rattle.trace.proofs.Loans.Get.{Got, gave, lacks, got-from, lowest-from}
 use Rattle.trace.proofs.Loans.Change as change
 use Rattle.trace.proofs.Loans.Words as words
-use Rattle.trace.proofs.Loans.Book as book
 use Rattle.trace.proofs.Loans.Lawful.{Drawing, Gets, given, nothing, Lawful}
-use Rattle.trace.specs.Pages.{runs, Ordered, Room, lowestRun, mostPagesAt, pages, readingOf}
 
 gets : {n k : ℕ} {l : List Loan} {g : Place} {s : List Segment} → Ordered n 0 l → Got n 0 l k g s → Gets pages n l k g s
 gets o (gave p e i b run low) = given p (record { fits = i; is = e }) (record { run = run; first = λ q u. low q (omega arith) u })
@@ -106,7 +105,7 @@ paged-lawful =
       any-some = λ {n} {a} {k} {l} {s} d. ap (some isHeldSegment) (d .is) ∙ words.any-some n 0 a k l;
       lent-some = λ {n} {l} o p k x. draws.lent-some n 0 l p k o x;
       lent-within = λ {n} {l} o p k x. draws.lent-within n 0 l p k o x;
-      no-overlap = λ {n} {l} o. book.no-overlap n 0 l o;
+      no-overlap = λ {n} {l} o. draws.no-overlap n 0 l o;
     }
 
 -- THE LAWS OF A KIND, by the order of its regions

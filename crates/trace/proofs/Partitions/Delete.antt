@@ -8,6 +8,7 @@ use Rattle.manager.specs.Lists as lists
 use Rattle.manager.specs.Partitions.{deletePartition, identPartition}
 use Rattle.manager.specs.declared.Manager.{Manager}
 use Rattle.manager.specs.declared.Call.the-variants.{DeletePartition, IdentPartition}
+use Rattle.manager.proofs.Laws.Result.{Passed}
 use Rattle.trace.specs.Receipts.{Receipts}
 use Rattle.trace.proofs.Invariant.{Inv, empty}
 use Rattle.trace.proofs.Frame.{only-refl}
@@ -15,7 +16,6 @@ use Rattle.trace.proofs.Areas.{areaIn, no-area}
 use Rattle.trace.proofs.Regions.Checks.{Kept, kept-checked}
 use Rattle.trace.proofs.Regions.Queue.{sound-inv}
 use Rattle.trace.proofs.Partitions.Slot.{partition-entry, keeping, put-keeps, live-slot, kept-done}
-use Rattle.manager.proofs.Laws.Result.{Passed}
 
 module _ (m : List ℕ) (d : Manager) (t : Receipts) (v : Inv m d t) where
   -- A DELETE KEEPS THE PICTURE

@@ -21,6 +21,7 @@ use Rattle.manager.specs.Partitions.{getBuffer}
 use Rattle.manager.specs.declared.Manager.{Manager}
 use Rattle.manager.specs.declared.Partition.{Partition}
 use Rattle.manager.specs.declared.Call.the-variants.{GetBuffer}
+use Rattle.manager.specs.Lists.{In, Distinct}
 use Rattle.trace.specs.Receipts.{Receipts, PartitionEntry, strike, withBuffers}
 use Rattle.trace.proofs.Invariant.{Only, PartitionIs, Inv, live}
 use Rattle.trace.proofs.Frame.{partition-laid, partition-shaped}
@@ -29,7 +30,6 @@ use Rattle.trace.proofs.Buffers.{strike-here, within-strike, strike-oth
 use Rattle.trace.proofs.Regions.Checks.{Kept, kept-checked}
 use Rattle.trace.proofs.Regions.Queue.{sound-inv}
 use Rattle.trace.proofs.Partitions.Slot.{unlent-once, partition-entry, on-partition, put-keeps, live-slot, live-clear, outside, kept-done}
-use Rattle.manager.specs.Lists.{In, Distinct}
 
 -- the entry with one buffer more lent
 abbrev pub lentOne : ℕ → PartitionEntry → PartitionEntry

@@ -22,16 +22,16 @@ use Rattle.manager.specs.Partitions.{returnBuffer}
 use Rattle.manager.specs.declared.Manager.{Manager}
 use Rattle.manager.specs.declared.Partition.{Partition}
 use Rattle.manager.specs.declared.Call.the-variants.{ReturnBuffer}
+use Rattle.manager.specs.Lists.{In}
 use Rattle.trace.specs.Receipts.{Receipts, PartitionEntry, strike, withBuffers}
 use Rattle.trace.proofs.Invariant.{Only, PartitionIs, Inv, live}
 use Rattle.trace.proofs.Frame.{partition-laid, partition-shaped}
 use Rattle.trace.proofs.Buffers.{within-strike, strike-other, strike-keeps, strike-distinct, strike-length}
 use Rattle.trace.proofs.Clients.{NoLink, owned-no-link}
-use Rattle.trace.proofs.Regions.Picture.{put-here}
+use Rattle.trace.proofs.Regions.Picture.{update-here}
 use Rattle.trace.proofs.Regions.Checks.{Kept, kept-checked}
 use Rattle.trace.proofs.Regions.Queue.{sound-inv}
 use Rattle.trace.proofs.Partitions.Slot.{partition-entry, keeping, on-partition, put-keeps, live-slot, live-clear, outside, kept-done}
-use Rattle.manager.specs.Lists.{In}
 
 -- a number added at the end of a list
 pub last-within : (a : ℕ) (l : List ℕ) → In a (l ++ (a ∷ []))
@@ -112,7 +112,7 @@ module _ (m : List ℕ) (d : Manager) (t : Receipts) (v : Inv m d t) (id a : ℕ
         kept-done (ReturnBuffer id a) m t (keeping id (some (lentLess a e)) t) (afterReturn m p a) (withPartition d (slotOf id) (returned p a)) 0
         (on-partition id e t (λ (x : PartitionEntry). lentLess a x) q) after
         (λ w h h′. back-words m p e is a b o w
-        (owned-no-link _ _ (keeping id (some (lentLess a e)) t) after id (lentLess a e) (put-here id (some (lentLess a e)) (t .partitions)) w h′))
+        (owned-no-link _ _ (keeping id (some (lentLess a e)) t) after id (lentLess a e) (update-here id (some (lentLess a e)) (t .partitions)) w h′))
 
   -- A RETURN KEEPS THE PICTURE
   pub keeps-return : Kept (ReturnBuffer id a) m t (returnBuffer m d id a)

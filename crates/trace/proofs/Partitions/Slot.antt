@@ -22,18 +22,19 @@ use Rattle.manager.specs.declared.Manager.{Manager}
 use Rattle.manager.specs.declared.Partition.{Partition}
 use Rattle.manager.specs.declared.Call.{Call}
 use Rattle.manager.specs.declared.Status.the-variants.{Successful}
-use Rattle.trace.specs.Receipts.{Receipts, PartitionEntry, buffersIn, put, mapOption, onPartition, entered}
+use Rattle.manager.specs.Lists.{Distinct}
+use Rattle.trace.specs.Receipts.{Receipts, PartitionEntry, buffersIn, update, mapOption, onPartition, entered}
 use Rattle.trace.specs.Trace.{Object, region, partition}
 use Rattle.trace.proofs.Invariant.{Inside, Only, PartitionIs, PartitionSlot, Waits, Inv, empty, live}
 use Rattle.trace.proofs.Frame.{partition-shaped}
 use Rattle.trace.proofs.Buffers.{chain-once}
-use Rattle.trace.proofs.Areas.{areaIn, Clear, OfSlot, sound-clear, partition-slot, partition-there, partition-elsewhere, areas-partition, region-kept, partition-kept}
+use Rattle.trace.proofs.Areas.{areaIn, OfSlot, sound-clear, partition-slot, partition-there, partition-elsewhere, areas-partition, region-kept, partition-kept}
 use Rattle.trace.proofs.Loans.Tests.{by-eqb}
 use Rattle.trace.proofs.Queue.Tasks.{wait-same}
 use Rattle.trace.proofs.Clients.{Stays}
 use Rattle.trace.proofs.Regions.Checks.{Kept, note-done}
 use Rattle.trace.proofs.Regions.Picture.{words-same}
-use Rattle.manager.specs.Lists.{Distinct}
+use Rattle.trace.proofs.Disjoint.{Clear}
 
 -- ---- what stands in a slot
 
@@ -59,7 +60,7 @@ module _ (m : List ℕ) (p : Partition) (e : PartitionEntry) (is : PartitionIs m
 -- ---- another entry for a partition
 
 abbrev pub keeping : ℕ → Option PartitionEntry → Receipts → Receipts
-keeping id o t = record { regions = t .regions; partitions = put id o (t .partitions); waits = t .waits }
+keeping id o t = record { regions = t .regions; partitions = update id o (t .partitions); waits = t .waits }
 
 pub on-partition : (id : ℕ) (e : PartitionEntry) (t : Receipts) (g : PartitionEntry → PartitionEntry) → t .partitions id ≡ some e
     → onPartition id g t ≡ keeping id (some (g e)) t
@@ -89,7 +90,7 @@ module _ (m : List ℕ) (d : Manager) (t : Receipts) (v : Inv m d t) (id : ℕ) 
   -- THE INVARIANT, where the partition is as its entry says
   module _ (m′ : List ℕ) (o : Option PartitionEntry) (only : Only (p .start) (p .length) m m′)
       (clear : (x : Object) → ¬ (x ≡ partition id) → Clear (areaOf p) (areaIn d x)) (is : PartitionSlot m′ p o) where
-    slot-at : (j : ℕ) → PartitionSlot m′ (partitionOf putting j) (put id o (t .partitions) j)
+    slot-at : (j : ℕ) → PartitionSlot m′ (partitionOf putting j) (update id o (t .partitions) j)
     slot-at j =
         by-eqb j id (λ (b : Bool). PartitionSlot m′ (partitionOf putting j) (cond b o (t .partitions j)))
         (λ e. subst (λ (x : Partition). PartitionSlot m′ x o) (sym (ap (partitionOf putting) e ∙ there)) is)

@@ -10,15 +10,15 @@ use Rattle.manager.specs.Result.{pad}
 use Rattle.manager.specs.Queue.{insert, enqueue}
 use Rattle.manager.specs.declared.Manager.{Manager}
 use Rattle.manager.specs.declared.Order.{Order}
+use Rattle.manager.specs.Lists.{In}
 use Rattle.trace.specs.Receipts.{Receipts, Wait, withWaits}
+use Rattle.trace.specs.Queue.{insertAll, orderIn, orders, standsBefore, inLine}
 use Rattle.trace.specs.Claims.{waiterOf, waitersOf}
 use Rattle.trace.proofs.Invariant.{WaitIs, Waits, tasksOf}
 use Rattle.trace.proofs.Queue.Line.{in-append, line-append}
 use Rattle.trace.proofs.Queue.Places.{insert-pad}
 use Rattle.trace.proofs.Queue.Tasks.{append-once, wait-same}
 use Rattle.trace.proofs.Queue.Waiters.{fewer-waits, line-length, line-some, insert-waiters}
-use Rattle.trace.specs.Queue.{insertAll, orderIn, orders, standsBefore, inLine}
-use Rattle.manager.specs.Lists.{In}
 
 -- A WAIT ENTERED: the waits and their picture
 module _ (d : Manager) (t : Receipts) (w : Wait) (v : Waits d t) (a : WaitIs t w) (order : regionOf d (w .id) .order ≡ a .entry .order)

@@ -18,6 +18,7 @@ use Rattle.manager.proofs.Laws.Queue.{length-pad}
 use Rattle.manager.specs.declared.Manager.{Manager}
 use Rattle.manager.specs.declared.Waiter.{Waiter}
 use Rattle.trace.specs.Receipts.{Receipts, RegionEntry, Wait, withWaits, without, waitOf}
+use Rattle.trace.specs.Queue.{insertAll, waitsIn, queueOf, orders, standsBefore, inLine}
 use Rattle.trace.specs.Claims.{waiterOf, waitersOf}
 use Rattle.trace.proofs.Invariant.{Waits, tasksOf, WaitIs}
 use Rattle.trace.proofs.Queue.Line.{keep, Sorted, in-append, in-keep, keep-append, keep-line}
@@ -25,7 +26,6 @@ use Rattle.trace.proofs.Queue.Order.{queue-of, waits-keep, stands-stric
 use Rattle.trace.proofs.Queue.Places.{first-is, first-at, first-none, remove-pad}
 use Rattle.trace.proofs.Queue.Tasks.{notOf, without-keep, keep-others, keep-once, line-once, wait-of, wait-same}
 use Rattle.trace.proofs.Queue.Waiters.{line-fits, line-some, queue-waiters, waiters-append, keep-waiters}
-use Rattle.trace.specs.Queue.{insertAll, waitsIn, queueOf, orders, standsBefore, inLine}
 
 -- the receipts without a task's wait
 abbrev pub struck : ℕ → Receipts → Receipts

@@ -8,8 +8,8 @@ use Prim.Native.Nat.{ℕ, suc, _+_}
 use native.Mathlib.Omega.{arith}
 use lib.ListN.{length}
 use Rattle.manager.proofs.Laws.Appended.{by-case}
-use Rattle.trace.specs.Queue.{insertBy, insertAll}
 use Rattle.manager.specs.Lists.{In}
+use Rattle.trace.specs.Queue.{insertBy, insertAll}
 
 pub true-false : (b : Bool) → b ≡ true → b ≡ false → ⊥
 true-false b e f = let z : _≡_ {A = ℕ} 0 1 = cc in omega arith

@@ -14,12 +14,12 @@ use Rattle.manager.specs.Queue.{urgent, goesBefore}
 use Rattle.manager.specs.declared.Order.{Order}
 use Rattle.manager.specs.declared.Order.the-variants.{Fifo, Priority}
 use Rattle.manager.proofs.Laws.Appended.{by-case}
+use Rattle.manager.specs.Lists.{In}
 use Rattle.trace.specs.Receipts.{Receipts, RegionEntry, Wait}
 use Rattle.trace.specs.Queue.{insertAll, rank, urgentThan, waitsIn, queueOf, orderIn, orders, standsBefore, inLine}
 use Rattle.trace.specs.Claims.{waiterOf}
 use Rattle.trace.proofs.Loans.Tests.{by-eqb}
 use Rattle.trace.proofs.Queue.Line.{true-false, keep, Sorted, Strict, in-keep, in-line, line-same, keep-line}
-use Rattle.manager.specs.Lists.{In}
 
 -- PAIRS OF NUMBERS IN ORDER
 unfoldable lex : ℕ → ℕ → ℕ → ℕ → Bool
@@ -139,13 +139,6 @@ in-waits id x ws =
       λ h. let c = k .0 (rw (waits-keep id ws) at h) in (c .0, eqb-true (x .id) id (c .1)),
       λ h. rw (waits-keep id ws) (k .1 (h .0, eq-eqb (x .id) id (h .1))),
     )
-
--- no wait of a region: none in its queue
-pub no-waits : (id : ℕ) (ws : List Wait) → ((w : Wait) → In w ws → w .id ≡ id → ⊥) → waitsIn id ws ≡ []
-unfolding waitsIn In
-no-waits id [] h = refl
-no-waits id (w ∷ ws) h =
-    rw (ne-eqb (w .id) id (h w (inl refl))) (no-waits id ws (λ x k. h x (inr k)))
 
 -- ALL WAITS IN LINE: each stands there, and nothing else
 pub in-all-waits : (t : Receipts) (w : Wait) → In w (inLine t) ↔ In w (t .waits)

@@ -17,8 +17,8 @@ use Rattle.manager.specs.declared.Waiter.{Waiter}
 use Rattle.manager.specs.declared.Order.{Order}
 use Rattle.manager.proofs.Laws.Lists.{and-first, and-second}
 use Rattle.manager.proofs.Laws.Appended.{by-case}
-use Rattle.trace.proofs.Queue.Line.{true-false, keep, in-append}
 use Rattle.trace.specs.Queue.{insertBy}
+use Rattle.trace.proofs.Queue.Line.{true-false, keep, in-append}
 
 -- ONE ENTERED
 enter-insert : (o : Order) (w : Waiter) (l : List Waiter) → places.enter o w l ≡ insertBy (goesBefore o) w l

@@ -19,6 +19,7 @@ use Rattle.manager.specs.declared.Waiter.{Waiter}
 use Rattle.manager.specs.declared.Order.{Order}
 use Rattle.manager.proofs.Laws.Appended.{by-case}
 use Rattle.trace.specs.Receipts.{Receipts, Wait}
+use Rattle.trace.specs.Queue.{orders, standsBefore, inLine}
 use Rattle.trace.specs.Claims.{waiterOf, waitersOf}
 use Rattle.trace.proofs.Invariant.{WaitIs, Waits, tasksOf}
 use Rattle.trace.proofs.Queue.Line.{Behind, Sorted, in-append, sorted-line}
@@ -26,7 +27,6 @@ use Rattle.trace.proofs.Queue.Order.{stands-strict, in-all-waits, stand
 use Rattle.trace.proofs.Queue.Places.{every-in, in-replicate, adjacent-pad, pairwise-pad}
 use Rattle.trace.proofs.Queue.Tasks.{in-tasks, line-once}
 use Rattle.trace.proofs.Queue.Waiters.{line-some, in-waiters}
-use Rattle.trace.specs.Queue.{orders, standsBefore, inLine}
 
 -- EACH TASK ONCE
 once-pairwise : (q : List Wait) → Distinct (tasksOf q) → pairwise otherTask (waitersOf q) ≡ true

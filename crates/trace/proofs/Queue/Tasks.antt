@@ -13,13 +13,13 @@ use borrow.Author.Tests.{eq-eqb, ne-eqb}
 use Rattle.manager.proofs.Laws.Appended.{by-case}
 use Rattle.manager.proofs.Laws.Distinct.{on-in}
 use Rattle.manager.proofs.Laws.Distinct as distinct
+use Rattle.manager.specs.Lists.{In, Distinct}
 use Rattle.trace.specs.Loans.{Loan}
 use Rattle.trace.specs.Receipts.{Receipts, withLoans, Wait, without, waitOf}
+use Rattle.trace.specs.Queue.{insertBy, insertAll}
 use Rattle.trace.proofs.Invariant.{WaitIs, tasksOf}
 use Rattle.trace.proofs.Loans.Tests.{by-eqb}
 use Rattle.trace.proofs.Queue.Line.{keep, in-insert, in-keep, in-append, keep-all}
-use Rattle.trace.specs.Queue.{insertBy, insertAll}
-use Rattle.manager.specs.Lists.{In, Distinct}
 
 -- NUMBERS FROM 1 TO n, EACH ONCE, ARE AT MOST n
 pub few : (n : ℕ) (l : List ℕ) → Distinct l → ((a : ℕ) → In a l → (1 ≤ a) × (a ≤ n)) → length l ≤ n

@@ -21,7 +21,9 @@ use Rattle.manager.specs.declared.Order.{Order}
 use Rattle.manager.specs.declared.Order.the-variants.{Fifo, Priority}
 use Rattle.manager.specs.declared.Status.the-variants.{Timeout}
 use Rattle.manager.proofs.Laws.Appended.{by-case}
+use Rattle.manager.specs.Lists.{In, Distinct}
 use Rattle.trace.specs.Receipts.{Receipts, Wait, withWaits, without, later, allLater, allNoticed}
+use Rattle.trace.specs.Queue.{insertBy, insertAll, orders, standsBefore, dueIn, inLine, rank}
 use Rattle.trace.specs.Claims.{waiterOf, waitersOf}
 use Rattle.trace.proofs.Invariant.{WaitIs, Waits, tasksOf}
 use Rattle.trace.proofs.Loans.Tests.{by-eqb}
@@ -30,8 +32,6 @@ use Rattle.trace.proofs.Queue.Order.{stands-strict, in-all-waits}
 use Rattle.trace.proofs.Queue.Places.{some-in, in-some}
 use Rattle.trace.proofs.Queue.Tasks.{notOf, without-keep, keep-once, one-wait, wait-moved}
 use Rattle.trace.proofs.Queue.Waiters.{line-fits}
-use Rattle.trace.specs.Queue.{insertBy, insertAll, orders, standsBefore, dueIn, inLine, rank}
-use Rattle.manager.specs.Lists.{In, Distinct}
 
 -- a wait whose time runs out at this tick
 abbrev pub due : Wait → Bool

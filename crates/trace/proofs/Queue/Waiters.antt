@@ -15,6 +15,7 @@ use Rattle.manager.specs.declared.Manager.{Manager}
 use Rattle.manager.specs.declared.Waiter.{Waiter}
 use Rattle.manager.specs.declared.Order.{Order}
 use Rattle.manager.proofs.Laws.Appended.{by-case}
+use Rattle.manager.specs.Lists.{In}
 use Rattle.trace.specs.Receipts.{Receipts, RegionEntry, Wait}
 use Rattle.trace.specs.Queue.{insertBy, waitsIn, queueOf, orders, standsBefore, inLine}
 use Rattle.trace.specs.Claims.{waiterOf, waitersOf, waitersFor}
@@ -23,7 +24,6 @@ use Rattle.trace.proofs.Queue.Line.{keep, in-append, keep-append, lengt
 use Rattle.trace.proofs.Queue.Order.{stands-is, in-all-waits, queue-of}
 use Rattle.trace.proofs.Queue.Places.{keep-replicate, some-in}
 use Rattle.trace.proofs.Queue.Tasks.{few, fewer, length-tasks, task-in}
-use Rattle.manager.specs.Lists.{In}
 
 -- WAITS AS WAITERS, one by one
 pub waiters-append : (a b : List Wait) → waitersOf (a ++ b) ≡ waitersOf a ++ waitersOf b

@@ -21,7 +21,8 @@ use Rattle.manager.specs.declared.Order.{Order}
 use Rattle.manager.specs.declared.Call.{Call}
 use Rattle.manager.specs.declared.Call.the-variants.{CreateRegion}
 use Rattle.manager.specs.declared.Status.the-variants.{Successful}
-use Rattle.trace.specs.Receipts.{Receipts, RegionEntry, pagesIn, put}
+use Rattle.manager.proofs.Laws.Result.{Passed}
+use Rattle.trace.specs.Receipts.{Receipts, RegionEntry, pagesIn, update}
 use Rattle.trace.specs.Trace.{region, partition, Owned}
 use Rattle.trace.proofs.Invariant.{Only, regionFor, RegionSlot, live, Inv, Picture, with-waits}
 use Rattle.trace.proofs.Frame.{map-area}
@@ -30,11 +31,10 @@ use Rattle.trace.proofs.Areas.{areaFor, overlaps-clear, region-there, r
 use Rattle.trace.proofs.Loans.Tests.{by-eqb}
 use Rattle.trace.proofs.Regions.Checks.{note-done, Kept, kept-checked}
 use Rattle.trace.proofs.Regions.Live.{slot-none}
-use Rattle.trace.proofs.Regions.Picture.{put-here, words-same, registering}
-use Rattle.trace.proofs.Regions.Lending.{none-there, waits-put}
+use Rattle.trace.proofs.Regions.Picture.{update-here, words-same, registering}
+use Rattle.trace.proofs.Regions.Lending.{none-there, waits-registered}
 use Rattle.trace.proofs.Regions.Queue.{sound-inv}
 use Rattle.trace.proofs.Map.{opens, Steps}
-use Rattle.manager.proofs.Laws.Result.{Passed}
 
 -- what is found passes the test
 index-passes : {A : Type 0} (z : A) (t : A → Bool) (l : List A) → indexOf t l < length l → t (getD l (indexOf t l) z) ≡ true
@@ -74,7 +74,7 @@ module _ (m : List ℕ) (d : Manager) (t : Receipts) (v : Inv m d t) (name start
         slot-none m (regionOf d (idOf slot)) (t .regions (idOf slot)) (v .picture .regions (idOf slot))
         (eqb-true (regionOf d (idOf slot) .name) 0 (index-passes noRegion (λ r. eqb (r .name) 0) (d .regions) (omega (arith, v .picture .region-slots))))
 
-    slot-at : (j : ℕ) → RegionSlot memory (regionOf manager j) (put (idOf slot) (some asked) (t .regions) j)
+    slot-at : (j : ℕ) → RegionSlot memory (regionOf manager j) (update (idOf slot) (some asked) (t .regions) j)
     slot-at j =
         by-eqb j (idOf slot) (λ (b : Bool). RegionSlot memory (regionOf manager j) (cond b (some asked) (t .regions j)))
         (λ p. subst (λ (r : Region). RegionSlot memory r (some asked))
@@ -102,10 +102,10 @@ module _ (m : List ℕ) (d : Manager) (t : Receipts) (v : Inv m d t) (name start
         let u = registering (idOf slot) (some asked) t in
         let n = note-done asks memory manager t (idOf slot) Successful refl in
         let after : Inv memory manager u =
-        with-waits picture (waits-put t (idOf slot) (some asked) (none-there d t (v .waits) (idOf slot) not-there) d manager refl (v .waits)) in
+        with-waits picture (waits-registered t (idOf slot) (some asked) (none-there d t (v .waits) (idOf slot) not-there) d manager refl (v .waits)) in
         record {
           inv = rw n after;
-          stays = λ w h h′. map-stays memory manager u after (idOf slot) asked (put-here (idOf slot) (some asked) (t .regions)) m memory (step .only) w
+          stays = λ w h h′. map-stays memory manager u after (idOf slot) asked (update-here (idOf slot) (some asked) (t .regions)) m memory (step .only) w
               (subst (λ (x : Receipts). Owned x w) n h′);
         }
 

@@ -15,8 +15,9 @@ use Rattle.manager.specs.declared.Manager.{Manager}
 use Rattle.manager.specs.declared.Region.{Region}
 use Rattle.manager.specs.declared.Call.the-variants.{DeleteRegion}
 use Rattle.manager.specs.declared.Status.the-variants.{Successful}
-use Rattle.trace.specs.Receipts.{Receipts, RegionEntry, put}
+use Rattle.manager.proofs.Laws.Result.{Passed}
 use Rattle.trace.specs.Loans.{Loan}
+use Rattle.trace.specs.Receipts.{Receipts, RegionEntry, update}
 use Rattle.trace.specs.Replies.{lendsAny}
 use Rattle.trace.proofs.Map.{shows}
 use Rattle.trace.proofs.Invariant.{regionFor, RegionSlot, empty, Inv, Picture, with-waits}
@@ -25,10 +26,9 @@ use Rattle.trace.proofs.Clients.{RegionAt}
 use Rattle.trace.proofs.Loans.Tests.{by-eqb}
 use Rattle.trace.proofs.Regions.Checks.{note-done, Kept, kept-words, kept-checked}
 use Rattle.trace.proofs.Regions.Live.{slot-entry}
-use Rattle.trace.proofs.Regions.Lending.{NoWait, none-lent, waits-put}
+use Rattle.trace.proofs.Regions.Lending.{NoWait, none-lent, waits-registered}
 use Rattle.trace.proofs.Regions.Queue.{sound-inv}
 use Rattle.trace.proofs.Regions.Picture.{registering}
-use Rattle.manager.proofs.Laws.Result.{Passed}
 
 -- nothing is lent
 lends-none : (l : List Loan) → lendsAny l ≡ false → l ≡ []
@@ -45,7 +45,7 @@ module _ (m : List ℕ) (d : Manager) (t : Receipts) (v : Inv m d t) (id : ℕ) 
     nobody : NoWait t id
     nobody = none-lent d t (v .waits) id e q (lends-none (e .loans) (sym (shows m e (at .is) .any) ∙ h))
 
-    slot-at : (j : ℕ) → RegionSlot m (regionOf (withRegion d (slotOf id) noRegion) j) (put id none (t .regions) j)
+    slot-at : (j : ℕ) → RegionSlot m (regionOf (withRegion d (slotOf id) noRegion) j) (update id none (t .regions) j)
     slot-at j =
         by-eqb j id (λ (b : Bool). RegionSlot m (regionOf (withRegion d (slotOf id) noRegion) j) (cond b none (t .regions j)))
         (λ p. subst (λ (r : Region). RegionSlot m r none)
@@ -70,7 +70,7 @@ module _ (m : List ℕ) (d : Manager) (t : Receipts) (v : Inv m d t) (id : ℕ) 
     act-kept =
         kept-words (DeleteRegion id) m t (done m (withRegion d (slotOf id) noRegion) 0) refl
         (rw (note-done (DeleteRegion id) m (withRegion d (slotOf id) noRegion) t 0 Successful refl)
-        (with-waits picture (waits-put t id none nobody d (withRegion d (slotOf id) noRegion) refl (v .waits))))
+        (with-waits picture (waits-registered t id none nobody d (withRegion d (slotOf id) noRegion) refl (v .waits))))
 
   -- A DELETE KEEPS THE PICTURE
   pub keeps-delete : Kept (DeleteRegion id) m t (deleteRegion m d id)

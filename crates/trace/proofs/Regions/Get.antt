@@ -22,8 +22,10 @@ use Rattle.manager.specs.declared.Wait.the-variants.{No, Yes}
 use Rattle.manager.specs.declared.Call.{Call}
 use Rattle.manager.specs.declared.Call.the-variants.{GetSegment}
 use Rattle.manager.specs.declared.Status.the-variants.{Successful, Unsatisfied, Waiting}
+use Rattle.manager.proofs.Laws.Result.{Passed}
 use Rattle.trace.specs.Loans.{Loan, enter}
 use Rattle.trace.specs.Receipts.{Receipts, RegionEntry, Wait, pagesIn, addressIn, lend, pagesOver}
+use Rattle.trace.specs.Claims.{Full}
 use Rattle.trace.proofs.Invariant.{regionFor, RegionIs, WaitIs, Inv, with-waits}
 use Rattle.trace.proofs.Loans.Lawful.{found}
 use Rattle.trace.proofs.Segments.{regular, full-lends}
@@ -34,8 +36,6 @@ use Rattle.trace.proofs.Regions.Live.{slot-entry}
 use Rattle.trace.proofs.Regions.Picture.{on-region, any-queue, stepped}
 use Rattle.trace.proofs.Regions.Lending.{waits-lent, enter-some}
 use Rattle.trace.proofs.Regions.Queue.{sound-inv, wait-inv, live-id}
-use Rattle.trace.specs.Claims.{Full}
-use Rattle.manager.proofs.Laws.Result.{Passed}
 
 -- what a get does in a region, once its checks pass
 abbrev pub getting : List ℕ → Manager → asking.Wait → Waiter → Region → ℕ → Result

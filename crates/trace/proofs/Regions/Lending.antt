@@ -10,16 +10,16 @@ use native.Mathlib.Omega.{arith}
 use lib.Dec.{eqb}
 use borrow.Author.Tests.{eqb-true, eqb-false}
 use Rattle.manager.specs.declared.Manager.{Manager}
+use Rattle.manager.specs.Lists.{In}
 use Rattle.trace.specs.Loans.{Loan, loan, loan+, enter, amend, Lent}
-use Rattle.trace.specs.Receipts.{Receipts, RegionEntry, Wait, put, withLoans}
+use Rattle.trace.specs.Receipts.{Receipts, RegionEntry, Wait, update, withLoans}
+use Rattle.trace.specs.Queue.{urgentThan, waitsIn, queueOf, orderIn, orders, standsBefore, inLine}
 use Rattle.trace.proofs.Invariant.{WaitIs, Waits}
 use Rattle.trace.proofs.Loans.Tests.{by-eqb, by-leb}
 use Rattle.trace.proofs.Queue.Order.{in-waits}
 use Rattle.trace.proofs.Queue.Tasks.{wait-moved, wait-same}
 use Rattle.trace.proofs.Queue.Line.{in-line, line-same}
-use Rattle.trace.proofs.Regions.Picture.{put-here, put-else, lending, registering}
-use Rattle.trace.specs.Queue.{urgentThan, waitsIn, queueOf, orderIn, orders, standsBefore, inLine}
-use Rattle.manager.specs.Lists.{In}
+use Rattle.trace.proofs.Regions.Picture.{update-here, update-other, lending, registering}
 
 -- nobody waits for a region
 abbrev pub NoWait : Receipts → ℕ → Type 0
@@ -66,8 +66,8 @@ module _ (t : Receipts) (id : ℕ) (e : RegionEntry) (q : t .regions id ≡ some
           let s : w .id ≡ id = eqb-true (w .id) id f in
           let r : t .regions id ≡ some (a .entry) = subst (λ (j : ℕ). t .regions j ≡ some (a .entry)) s (a .found) in
           let g : a .entry ≡ e = cc in
-          wait-moved t (lending id e l t) w (w .since) l a (rw (s, put-here id (some (withLoans l e)) (t .regions), g)) (h s) (a .time)
-      go false f = wait-same t (lending id e l t) w a (put-else id (some (withLoans l e)) (t .regions) (w .id) (eqb-false (w .id) id f))
+          wait-moved t (lending id e l t) w (w .since) l a (rw (s, update-here id (some (withLoans l e)) (t .regions), g)) (h s) (a .time)
+      go false f = wait-same t (lending id e l t) w a (update-other id (some (withLoans l e)) (t .regions) (w .id) (eqb-false (w .id) id f))
 
   -- THE WAITS STAY, where something is lent to each region that somebody waits for
   pub waits-lent : (d : Manager) → Waits d t → ((w : Wait) → In w (t .waits) → w .id ≡ id → ¬ (l ≡ [])) → Waits d (lending id e l t)
@@ -102,17 +102,17 @@ amend-some a k (loan b n ∷ l) m x z =
 -- ---- another object under an id that nobody waits for
 
 module _ (t : Receipts) (id : ℕ) (o : Option RegionEntry) (nobody : NoWait t id) where
-  line-put : inLine (registering id o t) ≡ inLine t
+  line-registered : inLine (registering id o t) ≡ inLine t
   unfolding standsBefore In
-  line-put =
-      let other : (w : Wait) → ¬ (w .id ≡ id) → put id o (t .regions) (w .id) ≡ t .regions (w .id) = λ w. put-else id o (t .regions) (w .id) in
+  line-registered =
+      let other : (w : Wait) → ¬ (w .id ≡ id) → update id o (t .regions) (w .id) ≡ t .regions (w .id) = λ w. update-other id o (t .regions) (w .id) in
       line-same (λ w. ¬ (w .id ≡ id)) (standsBefore (orders (registering id o t))) (standsBefore (orders t)) (λ w x p r. rw (other w p, other x r)) [] (t .waits) (λ x m. absurd m) nobody
 
   -- THE WAITS STAY
-  pub waits-put : (d d′ : Manager) → d′ .waiters ≡ d .waiters → Waits d t → Waits d′ (registering id o t)
-  waits-put d d′ e v =
+  pub waits-registered : (d d′ : Manager) → d′ .waiters ≡ d .waiters → Waits d t → Waits d′ (registering id o t)
+  waits-registered d d′ e v =
       record {
-        each = λ w m. wait-same t (registering id o t) w (v .each w m) (put-else id o (t .regions) (w .id) (nobody w m));
+        each = λ w m. wait-same t (registering id o t) w (v .each w m) (update-other id o (t .regions) (w .id) (nobody w m));
         once = v .once;
-        queue = rw line-put (e ∙ v .queue);
+        queue = rw line-registered (e ∙ v .queue);
       }

@@ -14,35 +14,36 @@ use Rattle.manager.specs.declared.Manager.{Manager}
 use Rattle.manager.specs.declared.Region.{Region}
 use Rattle.manager.specs.declared.Waiter.{Waiter}
 use Rattle.trace.specs.Loans.{Loan}
-use Rattle.trace.specs.Receipts.{Receipts, RegionEntry, Wait, put, mapOption, onRegion, withWaits, withLoans}
+use Rattle.trace.specs.Receipts.{Receipts, RegionEntry, Wait, update, mapOption, onRegion, withWaits, withLoans}
 use Rattle.trace.specs.Trace.{Object, region, partition}
 use Rattle.trace.proofs.Invariant.{Only, regionFor, RegionSlot, live, Picture}
 use Rattle.trace.proofs.Frame.{map-area}
-use Rattle.trace.proofs.Areas.{areaFor, areaIn, Clear, sound-clear, region-kept, partition-kept}
+use Rattle.trace.proofs.Areas.{areaFor, areaIn, sound-clear, region-kept, partition-kept}
 use Rattle.trace.proofs.Loans.Tests.{by-eqb}
 use Rattle.trace.proofs.Map.{Steps}
 use Rattle.trace.proofs.Clients.{RegionAt, region-at}
+use Rattle.trace.proofs.Disjoint.{Clear}
 
 -- ---- an entry under an id
 
 module _ {A : Type 0} (id : ℕ) (e : Option A) (f : ℕ → Option A) where
-  pub put-here : put id e f id ≡ e
-  put-here = rw (eq-eqb id id refl)
+  pub update-here : update id e f id ≡ e
+  update-here = rw (eq-eqb id id refl)
 
-  pub put-else : (j : ℕ) → ¬ (j ≡ id) → put id e f j ≡ f j
-  put-else j h = rw (ne-eqb j id h)
+  pub update-other : (j : ℕ) → ¬ (j ≡ id) → update id e f j ≡ f j
+  update-other j h = rw (ne-eqb j id h)
 
-  pub put-again : (g : Option A) → put id e (put id g f) ≡ put id e f
-  put-again g =
+  pub update-again : (g : Option A) → update id e (update id g f) ≡ update id e f
+  update-again g =
       fun-ext (λ j. by-eqb j id (λ (b : Bool). cond b e (cond b g (f j)) ≡ cond b e (f j)) (λ h. refl) (λ h. refl))
 
-  pub put-same : f id ≡ e → put id e f ≡ f
-  put-same q =
+  pub update-same : f id ≡ e → update id e f ≡ f
+  update-same q =
       fun-ext (λ j. by-eqb j id (λ (b : Bool). cond b e (f j) ≡ f j) (λ h. rw h (sym q)) (λ h. refl))
 
 -- the receipts with another entry for a region, and with other loans of one
 abbrev pub registering : ℕ → Option RegionEntry → Receipts → Receipts
-registering id o t = record { regions = put id o (t .regions); partitions = t .partitions; waits = t .waits }
+registering id o t = record { regions = update id o (t .regions); partitions = t .partitions; waits = t .waits }
 
 abbrev pub lending : ℕ → RegionEntry → List Loan → Receipts → Receipts
 lending id e l t = registering id (some (withLoans l e)) t
@@ -52,13 +53,13 @@ module _ (id : ℕ) (e : RegionEntry) (t : Receipts) where
   with-regions f = record { regions = f; partitions = t .partitions; waits = t .waits }
 
   pub on-region : (g : RegionEntry → RegionEntry) → t .regions id ≡ some e → onRegion id g t ≡ registering id (some (g e)) t
-  on-region g q = ap (λ (o : Option RegionEntry). with-regions (put id (mapOption g o) (t .regions))) q
+  on-region g q = ap (λ (o : Option RegionEntry). with-regions (update id (mapOption g o) (t .regions))) q
 
   pub lending-again : (l k : List Loan) → lending id e k (lending id e l t) ≡ lending id e k t
-  lending-again l k = ap with-regions (put-again id (some (withLoans k e)) (t .regions) (some (withLoans l e)))
+  lending-again l k = ap with-regions (update-again id (some (withLoans k e)) (t .regions) (some (withLoans l e)))
 
   pub lending-same : (l : List Loan) → t .regions id ≡ some (withLoans l e) → lending id e l t ≡ t
-  lending-same l q = ap with-regions (put-same id (some (withLoans l e)) (t .regions) q)
+  lending-same l q = ap with-regions (update-same id (some (withLoans l e)) (t .regions) q)
 
 -- ---- the picture
 
@@ -90,7 +91,7 @@ module _ (m : List ℕ) (d : Manager) (t : Receipts) (v : Picture m d t) (id : �
     clear : (x : Object) → ¬ (region id ≡ x) → Clear (areaFor (regionFor e)) (areaIn d x)
     clear x n = subst (λ (r : Region). Clear (areaFor r) (areaIn d x)) (live-at .region) (sound-clear d (v .region-slots) (v .partition-slots) (v .areas) (region id) x n)
 
-    slot-at : (j : ℕ) → RegionSlot m′ (regionOf d j) (put id (some (withLoans l e)) (t .regions) j)
+    slot-at : (j : ℕ) → RegionSlot m′ (regionOf d j) (update id (some (withLoans l e)) (t .regions) j)
     slot-at j =
         by-eqb j id (λ (b : Bool). RegionSlot m′ (regionOf d j) (cond b (some (withLoans l e)) (t .regions j)))
         (λ h. rw (h, live-at .region) (live (withLoans l e) (step .is)))

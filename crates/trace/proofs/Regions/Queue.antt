@@ -12,13 +12,15 @@ use Rattle.manager.specs.Queue.{enqueue, waiting}
 use Rattle.manager.specs.Sound.{sound}
 use Rattle.manager.specs.declared.Manager.{Manager}
 use Rattle.manager.specs.declared.Region.{Region}
+use Rattle.manager.specs.Lists.{In}
 use Rattle.trace.specs.Loans.{Loan}
 use Rattle.trace.specs.Receipts.{Receipts, RegionEntry, Wait, withWaits}
+use Rattle.trace.specs.Queue.{waitsIn, queueOf, orderIn, urgentThan}
+use Rattle.trace.specs.Replies.{lendsAny}
 use Rattle.trace.specs.Claims.{waiterOf}
 use Rattle.trace.proofs.Invariant.{WaitIs, Waits, Inv}
 use Rattle.trace.proofs.Areas.{region-slot}
 use Rattle.trace.proofs.Clients.{region-at}
-use Rattle.trace.specs.Replies.{lendsAny}
 use Rattle.trace.proofs.Map.{shows}
 use Rattle.trace.proofs.Sound.{inv-sound}
 use Rattle.trace.proofs.Loans.Tests.{by-eqb}
@@ -27,8 +29,6 @@ use Rattle.trace.proofs.Queue.Enter.{waits-entered}
 use Rattle.trace.proofs.Queue.Sound.{Waitable, sound-queue}
 use Rattle.trace.proofs.Queue.Waiters.{few-waits, task-waits}
 use Rattle.trace.proofs.Regions.Live.{not-dead}
-use Rattle.trace.specs.Queue.{waitsIn, queueOf, orderIn, urgentThan}
-use Rattle.manager.specs.Lists.{In}
 
 -- ---- the queue is sound
 

@@ -17,10 +17,11 @@ use Rattle.manager.specs.declared.Region.{Region}
 use Rattle.manager.specs.declared.Call.{Call}
 use Rattle.manager.specs.declared.Call.the-variants.{ResizeSegment}
 use Rattle.manager.specs.declared.Status.the-variants.{Successful, Unsatisfied}
+use Rattle.manager.proofs.Laws.Result.{Passed}
 use Rattle.trace.specs.Loans.{Loan, amend, Lent}
 use Rattle.trace.specs.Receipts.{Receipts, RegionEntry, refit, pagesOver}
-use Rattle.trace.proofs.Invariant.{regionFor, RegionIs, Inv, with-waits}
 use Rattle.trace.specs.Replies.{mostIn}
+use Rattle.trace.proofs.Invariant.{regionFor, RegionIs, Inv, with-waits}
 use Rattle.trace.proofs.Segments.{regular, asks-some}
 use Rattle.trace.proofs.Map.{Steps, shows, lent-held}
 use Rattle.trace.proofs.Loans.Tests.{by-leb}
@@ -29,7 +30,6 @@ use Rattle.trace.proofs.Regions.Live.{slot-entry}
 use Rattle.trace.proofs.Regions.Picture.{on-region, stepped}
 use Rattle.trace.proofs.Regions.Lending.{waits-lent, amend-some}
 use Rattle.trace.proofs.Regions.Queue.{sound-inv}
-use Rattle.manager.proofs.Laws.Result.{Passed}
 
 -- what a resize does in a region, once its checks pass
 abbrev pub resized : List ℕ → Manager → ℕ → Region → ℕ → Bool → Result

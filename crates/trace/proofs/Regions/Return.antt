@@ -14,19 +14,19 @@ use Rattle.manager.specs.Regions.{returnSegment}
 use Rattle.manager.specs.declared.Manager.{Manager}
 use Rattle.manager.specs.declared.Region.{Region}
 use Rattle.manager.specs.declared.Call.the-variants.{ReturnSegment}
+use Rattle.manager.proofs.Laws.Result.{Passed}
 use Rattle.trace.specs.Loans.{Loan, Lent, amend}
 use Rattle.trace.specs.Receipts.{Receipts, RegionEntry, giveBack, onRegion, withLoans, note}
+use Rattle.trace.specs.Queue.{queueOf}
 use Rattle.trace.proofs.Invariant.{RegionIs, regionFor, Inv}
 use Rattle.trace.proofs.Frame.{only-trans}
 use Rattle.trace.proofs.Map.{Steps, shows, lent-held}
 use Rattle.trace.proofs.Regions.Checks.{Kept, kept-map, kept-checked}
 use Rattle.trace.proofs.Regions.Live.{slot-entry}
-use Rattle.trace.proofs.Regions.Picture.{put-here, lending, on-region, lending-again, stepped}
+use Rattle.trace.proofs.Regions.Picture.{update-here, lending, on-region, lending-again, stepped}
 use Rattle.trace.proofs.Regions.Lending.{waits-lent}
 use Rattle.trace.proofs.Regions.Queue.{sound-inv, few-queue}
 use Rattle.trace.proofs.Regions.Serve.{Outcome, Serving, something, served}
-use Rattle.trace.specs.Queue.{queueOf}
-use Rattle.manager.proofs.Laws.Result.{Passed}
 
 -- what a return does in a region, once its checks pass
 abbrev pub returning : List ℕ → Manager → ℕ → ℕ → Region → Served
@@ -48,7 +48,7 @@ module _ (m : List ℕ) (d : Manager) (t : Receipts) (v : Inv m d t) (id a : ℕ
     serving =
         record {
           picture = stepped m d t (v .picture) id e q released rest step;
-          entry = put-here id (some (withLoans rest e)) (t .regions);
+          entry = update-here id (some (withLoans rest e)) (t .regions);
           waits = rw (lending-again id e t rest something)
               (waits-lent t id e q something d (v .waits) (λ y i r n. let z : _≡_ {A = ℕ} 0 1 = cc in omega arith));
           queue = refl;

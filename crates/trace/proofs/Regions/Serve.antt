@@ -19,7 +19,8 @@ use Rattle.manager.specs.declared.Place.{Place}
 use Rattle.manager.specs.declared.Place.the-variants.{At, Nowhere}
 use Rattle.manager.specs.declared.Notice.{Notice}
 use Rattle.trace.specs.Loans.{Loan, loan, enter}
-use Rattle.trace.specs.Receipts.{Receipts, RegionEntry, Wait, pagesIn, addressIn, lend, onRegion, put, withWaits, without, noticed, allNoticed, pagesOver, withLoans}
+use Rattle.trace.specs.Receipts.{Receipts, RegionEntry, Wait, pagesIn, addressIn, lend, onRegion, update, withWaits, without, noticed, allNoticed, pagesOver, withLoans}
+use Rattle.trace.specs.Queue.{queueOf}
 use Rattle.trace.specs.Replies.{grantsIn, placeIn}
 use Rattle.trace.specs.Claims.{waiterOf}
 use Rattle.trace.proofs.Invariant.{regionFor, WaitIs, Waits, Inv, Picture, with-waits, OnlyMap, RegionIs}
@@ -28,9 +29,8 @@ use Rattle.trace.proofs.Clients.{RegionAt, region-at}
 use Rattle.trace.proofs.Segments.{regular, full-lends}
 use Rattle.trace.proofs.Map.{Steps, Gives, gave, none, shows}
 use Rattle.trace.proofs.Queue.Grant as queue
-use Rattle.trace.proofs.Regions.Picture.{put-here, lending, on-region, lending-again, lending-same, any-queue, stepped}
+use Rattle.trace.proofs.Regions.Picture.{update-here, lending, on-region, lending-again, lending-same, any-queue, stepped}
 use Rattle.trace.proofs.Regions.Lending.{none-queued, waits-lent}
-use Rattle.trace.specs.Queue.{queueOf}
 
 -- one turn
 module _ (f : ℕ) (m : List ℕ) (d : Manager) (id : ℕ) where
@@ -76,14 +76,14 @@ module _ (id : ℕ) (e : RegionEntry) where
     ended h =
         with-waits (v .picture)
         (subst (λ (u : Receipts). Waits d u) (lending-again id e t something l ∙ lending-same id e t l (v .entry))
-        (waits-lent (lending id e something t) id (withLoans something e) (put-here id (some (withLoans something e)) (t .regions)) l d (v .waits)
+        (waits-lent (lending id e something t) id (withLoans something e) (update-here id (some (withLoans something e)) (t .regions)) l d (v .waits)
         (⊎-elim (λ (x : ¬ (l ≡ [])) w i r. x) (λ (x : ws ≡ []) w i r. absurd (none-queued t id e (v .queue ∙ x) w i r)) h)))
 
   -- the first wait of a queue that is being served
   module _ (m : List ℕ) (d : Manager) (t : Receipts) (l : List Loan) (w : Wait) (ws : List Wait) (v : Serving id e m d t l (w ∷ ws)) where
     first : queue.Granted d (lending id e something t) id (withLoans something e) w ws
     first =
-        queue.granted d (lending id e something t) (v .waits) id (withLoans something e) (put-here id (some (withLoans something e)) (t .regions)) w ws (v .queue)
+        queue.granted d (lending id e something t) (v .waits) id (withLoans something e) (update-here id (some (withLoans something e)) (t .regions)) w ws (v .queue)
 
     first-is : WaitIs (lending id e something t) w
     first-is = v .waits .each w (first .waits)
@@ -91,9 +91,9 @@ module _ (id : ℕ) (e : RegionEntry) where
     -- he asks for pages that the region has
     asker : (u : WaitIs (lending id e something t) w) → u .entry ≡ withLoans something e
     asker u =
-        let p : put id (some (withLoans something e)) (t .regions) id ≡ some (u .entry) =
-        subst (λ (j : ℕ). put id (some (withLoans something e)) (t .regions) j ≡ some (u .entry)) (first .region) (u .found) in
-        let q : put id (some (withLoans something e)) (t .regions) id ≡ some (withLoans something e) = put-here id (some (withLoans something e)) (t .regions) in
+        let p : update id (some (withLoans something e)) (t .regions) id ≡ some (u .entry) =
+        subst (λ (j : ℕ). update id (some (withLoans something e)) (t .regions) j ≡ some (u .entry)) (first .region) (u .found) in
+        let q : update id (some (withLoans something e)) (t .regions) id ≡ some (withLoans something e) = update-here id (some (withLoans something e)) (t .regions) in
         cc
 
     fits : pagesOver e (w .size) ≤ pagesIn e
@@ -123,7 +123,7 @@ module _ (id : ℕ) (e : RegionEntry) where
         record {
           picture = any-queue m′ d (lending id e (lent p) t) (dequeue d (firstOf id (d .waiters)) .waiters) (without (w .task) (t .waits))
               (stepped m d t (v .picture) id (withLoans l e) (v .entry) m′ (lent p) s);
-          entry = put-here id (some (withLoans (lent p) e)) (t .regions);
+          entry = update-here id (some (withLoans (lent p) e)) (t .regions);
           waits = rw (lending-again id e left (lent p) something) (first .after);
           queue = first .rest;
         }
@@ -172,7 +172,7 @@ module _ (id : ℕ) (e : RegionEntry) where
   served zero m d t l (w ∷ ws) v h = absurd (omega arith)
   served (suc f) m d t l [] v h =
       rw (serve-nobody f m d id
-      (queue.none-first d (lending id e something t) (v .waits) id (withLoans something e) (put-here id (some (withLoans something e)) (t .regions)) (v .queue)))
+      (queue.none-first d (lending id e something t) (v .waits) id (withLoans something e) (update-here id (some (withLoans something e)) (t .regions)) (v .queue)))
       (record { grants = refl; only = only-refl _ _ m; inv = ended m d t l [] v (inr refl) })
   served (suc f) m d t l (w ∷ ws) v h =
       took-turn m d t l w ws v f (λ m′ d′ t′ l′ v′. served f m′ d′ t′ l′ ws v′ (omega arith))

@@ -16,15 +16,15 @@ use Rattle.manager.specs.declared.Call.the-variants.{GetSegment, ReturnSegment,
 use Rattle.manager.specs.declared.Place.{Place}
 use Rattle.manager.specs.declared.Wait.the-variants.{No}
 use Rattle.manager.specs.declared.Status.the-variants.{Successful, Unsatisfied}
+use Rattle.manager.specs.Lists.{In}
 use Rattle.trace.specs.Loans.{Lent, amend}
 use Rattle.trace.specs.Receipts.{Receipts, RegionEntry, PartitionEntry, Wait, Reply, unit, pagesIn, addressIn, pageIn, pageLoans, buffersIn, pagesOver, reading}
+use Rattle.trace.specs.Queue.{queueOf}
 use Rattle.trace.specs.Replies.{no, yes, tells, informs, resizes, decided, grantsIn, informationIn, front, byReceipts, placeIn, mostIn}
 use Rattle.trace.specs.Claims.{Grants, Full, Takes}
 use Rattle.trace.proofs.Segments.{law, Regular, Places, takes, full, places, lent-some, pages-lent, room-lent, regular-returned}
 use Rattle.trace.proofs.Grants.{grants-are}
 use Rattle.trace.proofs.Loans.Tests.{by-leb}
-use Rattle.trace.specs.Queue.{queueOf}
-use Rattle.manager.specs.Lists.{In}
 
 -- ---- the answers about a region
 

@@ -18,6 +18,7 @@ use Rattle.manager.specs.declared.Manager.{Manager}
 use Rattle.manager.specs.declared.Partition.{Partition}
 use Rattle.manager.specs.declared.Call.the-variants.{CreatePartition, IdentPartition, DeletePartition, GetBuffer, ReturnBuffer}
 use Rattle.manager.specs.declared.Status.the-variants.{InvalidAddress, ResourceInUse, Unsatisfied}
+use Rattle.manager.specs.Lists.{In}
 use Rattle.trace.specs.Receipts.{Receipts, PartitionEntry, replyOf}
 use Rattle.trace.specs.Replies.{yes, decided, listed, lentAny, front, newPartitionId, partitionIdOf, byReceipts}
 use Rattle.trace.proofs.Invariant.{PartitionIs, Inv}
@@ -28,7 +29,6 @@ use Rattle.trace.proofs.Queue.Line.{true-false}
 use Rattle.trace.proofs.Regions.Queue.{sound-inv}
 use Rattle.trace.proofs.Replies.Checks.{Answers, same, test, acted, agree, answers, at-partition}
 use Rattle.trace.proofs.Replies.Ids.{past-slots, new-partition, partition-id, area-asked}
-use Rattle.manager.specs.Lists.{In}
 
 -- ---- a number is on a list
 

@@ -24,9 +24,11 @@ use Rattle.manager.specs.declared.Wait as asking
 use Rattle.manager.specs.declared.Wait.the-variants.{No, Yes}
 use Rattle.manager.specs.declared.Call.the-variants.{GetSegment, ReturnSegment, Tick}
 use Rattle.manager.specs.declared.Status.the-variants.{InvalidSize, InvalidAddress}
+use Rattle.manager.specs.Lists.{In}
 use Rattle.trace.specs.Receipts.{Receipts, RegionEntry, Wait, Reply, replyOf, addressIn, pagesOver}
-use Rattle.trace.specs.Claims.{waitersOf}
+use Rattle.trace.specs.Queue.{inLine}
 use Rattle.trace.specs.Replies.{yes, tells, noPlace, waitsAlready, waitingChecks, byReceipts}
+use Rattle.trace.specs.Claims.{waitersOf}
 use Rattle.trace.proofs.Invariant.{regionFor, tasksOf, Inv}
 use Rattle.trace.proofs.Queue.Line.{true-false, in-append}
 use Rattle.trace.proofs.Queue.Places.{in-some, in-replicate}
@@ -39,8 +41,6 @@ use Rattle.trace.proofs.Regions.Get.{getting}
 use Rattle.trace.proofs.Regions.Return.{returning, outcome}
 use Rattle.trace.proofs.Replies.Checks.{Agree, rest, same, test, acted, agree, answers, at-region}
 use Rattle.trace.proofs.Map.{shows, none-at, lent-held}
-use Rattle.trace.specs.Queue.{inLine}
-use Rattle.manager.specs.Lists.{In}
 
 -- ---- a task waits
 

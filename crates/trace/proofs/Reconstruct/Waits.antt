@@ -32,7 +32,7 @@ use Rattle.trace.proofs.Areas.{region-slot}
 use Rattle.trace.proofs.Loans.Addresses.{address-none}
 use Rattle.trace.proofs.Loans.Words.{loansOf}
 use Rattle.trace.proofs.Loans.Lawful.{found}
-use Rattle.trace.proofs.Recover.Region.{entryOf, slotEntry, unit-same, region-parts}
+use Rattle.trace.proofs.Reconstruct.Region.{entryOf, slotEntry, unit-same, region-parts}
 use Rattle.trace.proofs.Segments.{law}
 
 -- a waiter as a wait, and the used places of a queue

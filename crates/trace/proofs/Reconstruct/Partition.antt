@@ -14,13 +14,13 @@ use Rattle.manager.specs.Record.{noPartition}
 use Rattle.manager.specs.Partition.{deadPartition, buffers, chain}
 use Rattle.manager.specs.Sound.{emptyPartition, livePartition, soundPartition}
 use Rattle.manager.specs.declared.Partition.{Partition}
-use Rattle.trace.specs.Receipts.{PartitionEntry, buffersFrom, strike}
-use Rattle.trace.proofs.Invariant.{PartitionIs, PartitionSlot, empty, live}
 use Rattle.manager.proofs.Laws.Partition.Live.{live-laid, live-chain}
 use Rattle.manager.proofs.Laws.Partition.Chain.{linked-on}
 use Rattle.manager.proofs.Laws.Distinct.{on-in}
-use Rattle.trace.proofs.Buffers.{chain-once, in-or-not, within-strike, strike-other, strike-keeps, strike-distinct, strike-length, length-buffers, distinct-buffers, buffer-within, within-buffer}
 use Rattle.manager.specs.Lists.{In, Distinct}
+use Rattle.trace.specs.Receipts.{PartitionEntry, buffersFrom, strike}
+use Rattle.trace.proofs.Invariant.{PartitionIs, PartitionSlot, empty, live}
+use Rattle.trace.proofs.Buffers.{chain-once, in-or-not, within-strike, strike-other, strike-keeps, strike-distinct, strike-length, length-buffers, distinct-buffers, buffer-within, within-buffer}
 
 -- ---- several numbers struck
 

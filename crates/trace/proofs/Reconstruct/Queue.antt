@@ -19,13 +19,13 @@ use Rattle.manager.specs.declared.Manager.{Manager}
 use Rattle.manager.specs.declared.Waiter.{Waiter}
 use Rattle.manager.specs.declared.Order.{Order}
 use Rattle.trace.specs.Receipts.{Receipts, Wait}
+use Rattle.trace.specs.Queue.{insertBy, insertAll, orderIn, orders, standsBefore, inLine}
 use Rattle.trace.specs.Claims.{waitersOf}
 use Rattle.trace.proofs.Invariant.{WaitIs, tasksOf, Waits}
 use Rattle.trace.proofs.Queue.Line.{Behind, Sorted, Strict}
 use Rattle.trace.proofs.Queue.Order.{stands-strict, stands-is}
-use Rattle.trace.proofs.Recover.Region.{entryOf, slotEntry}
-use Rattle.trace.proofs.Recover.Waits.{waiter-parts, wait-is, each-wait, waitFor, waitsOf, waits-cons, waits-skip, every-here, every-tail, adjacent-next, adjacent-tail, all-unused, queue-back, tasks-once}
-use Rattle.trace.specs.Queue.{insertBy, insertAll, orderIn, orders, standsBefore, inLine}
+use Rattle.trace.proofs.Reconstruct.Region.{entryOf, slotEntry}
+use Rattle.trace.proofs.Reconstruct.Waits.{waiter-parts, wait-is, each-wait, waitFor, waitsOf, waits-cons, waits-skip, every-here, every-tail, adjacent-next, adjacent-tail, all-unused, queue-back, tasks-once}
 
 -- ---- a line that is in order already
 
