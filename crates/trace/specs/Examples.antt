@@ -10,6 +10,7 @@ use Rattle.arith.specs.Layout.{largest, pageCount}
 use Rattle.manager.specs.Status.{numberOf}
 use Rattle.manager.specs.Record.{mostWords}
 use Rattle.manager.specs.Lists.{every}
+use Rattle.manager.specs.Lists as lists
 use Rattle.manager.specs.Map.{draw}
 use Rattle.manager.specs.Examples.{Step, step, Row, layout, calls, words, same, told, table}
 use Rattle.manager.specs.declared.Order.the-variants.{Fifo}
@@ -17,7 +18,7 @@ use Rattle.trace.specs.Loans.{enter, amend, inPages}
 use Rattle.trace.specs.Pages.{drawn, lowestRun, readingOf}
 use Rattle.trace.specs.Receipts.{Receipts, RegionEntry, Reply, blank, pagesIn, addressIn, pageLoans, note, allNoticed, without, waitOf, strike, buffersFrom, reading}
 use Rattle.trace.specs.Queue.{insertBy, insertAll, waitsIn}
-use Rattle.trace.specs.Replies.{decided, firstId, anyId, pagesAt, grantsIn, waitsAlready, listed, byReceipts}
+use Rattle.trace.specs.Replies.{decided, firstId, anyId, pagesAt, grantsIn, byReceipts}
 
 -- an answer: status, value, and the notices (task, status, address)
 abbrev right : Reply → ℕ → ℕ → List ℕ → Bool
@@ -46,5 +47,5 @@ holds (calls ss) = follows blank ss (λ t. true)
 holds (words ss ws) = follows blank ss (λ t. same (drawnWords (t .regions 1)) ws)
 
 pub examples : every holds table ≡ true
-unfolding readingOf largest pageCount every draw enter amend inPages drawn note allNoticed without waitOf strike buffersFrom insertBy insertAll waitsIn decided firstId anyId pagesAt lowestRun grantsIn waitsAlready listed byReceipts
+unfolding readingOf largest pageCount every draw enter amend inPages drawn note allNoticed without waitOf strike buffersFrom insertBy insertAll waitsIn decided firstId anyId pagesAt lowestRun grantsIn lists.some byReceipts
 examples = refl

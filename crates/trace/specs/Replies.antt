@@ -9,6 +9,7 @@ use lib.Dec.{eqb, leb, ltb}
 use Rattle.arith.specs.Round.{roundUp}
 use Rattle.arith.specs.Layout.{pageCount}
 use Rattle.manager.specs.Record.{slots, tasks, noInformation}
+use Rattle.manager.specs.Lists as lists
 use Rattle.manager.specs.Result.{Check, check}
 use Rattle.manager.specs.Serve.{onPlace}
 use Rattle.manager.specs.declared.Notice.{Notice}
@@ -133,9 +134,8 @@ grantsIn e l (w ∷ ws) =
     onPlace (placeIn e l (w .size)) (λ p. grantTo w (addressIn e p) ∷ grantsIn e (enter (addressIn e p) (pagesOver e (w .size)) l) ws) []
 
 -- a task waits
-unfoldable pub waitsAlready : ℕ → List Wait → Bool
-waitsAlready task [] = false
-waitsAlready task (w ∷ ws) = eqb (w .task) task || waitsAlready task ws
+abbrev pub waitsAlready : ℕ → List Wait → Bool
+waitsAlready task ws = lists.some (λ w. eqb (w .task) task) ws
 
 -- "if waiting is allowed 10, 19, 14"
 abbrev pub waitingChecks : Receipts → asking.Wait → ℕ → ℕ → List Check
@@ -160,9 +160,8 @@ resizes false v = record { status = Unsatisfied; value = v; information = noInfo
 
 -- ---- BUFFERS OF A PARTITION
 
-unfoldable pub listed : ℕ → List ℕ → Bool
-listed a [] = false
-listed a (x ∷ l) = eqb x a || listed a l
+abbrev pub listed : ℕ → List ℕ → Bool
+listed a l = lists.some (eqb a) l
 
 abbrev pub lentAny : List ℕ → Bool
 lentAny [] = false

@@ -1,6 +1,6 @@
 -- What a get, a return and a tick answer, by the receipts: where the queue has a say. Assumes nothing.
 use mathlib.Core.Path.{_≡_, refl, sym, ap, _∙_, subst}
-use mathlib.Core.Bool.{Bool, true, false, _||_}
+use mathlib.Core.Bool.{true, false}
 use mathlib.Core.List.{List, [], _∷_}
 use mathlib.Core.Logic.{inl, inr}
 use Prim.Native.Nat.{ℕ, _-_}
@@ -31,8 +31,8 @@ use Rattle.trace.specs.Replies.{yes, tells, noPlace, waitsAlready, waiti
 use Rattle.trace.specs.Claims.{waitersOf}
 use Rattle.trace.proofs.Invariant.{regionFor, tasksOf, Inv}
 use Rattle.trace.proofs.Queue.Line.{true-false, in-append}
-use Rattle.trace.proofs.Queue.Places.{in-some, in-replicate}
-use Rattle.trace.proofs.Queue.Tasks.{in-tasks}
+use Rattle.trace.proofs.Queue.Places.{in-some, in-replicate, some-in}
+use Rattle.trace.proofs.Queue.Tasks.{in-tasks, task-in}
 use Rattle.trace.proofs.Queue.Ticks.{tick-notices}
 use Rattle.trace.proofs.Queue.Order.{in-all-waits}
 use Rattle.trace.proofs.Queue.Waiters.{task-waits, in-waiters}
@@ -46,21 +46,12 @@ use Rattle.trace.proofs.Map.{shows, none-at, lent-held}
 
 module _ (task : ℕ) where
   already-within : (ws : List Wait) → waitsAlready task ws ≡ true → In task (tasksOf ws)
-  unfolding waitsAlready In tasksOf
-  already-within [] e = absurd (true-false false e refl)
-  already-within (w ∷ ws) e =
-      by-case (eqb (w .task) task) (λ b. (b || waitsAlready task ws) ≡ true → In task (tasksOf (w ∷ ws)))
-      (λ f g. inl (eqb-true (w .task) task f)) (λ f g. inr (already-within ws g)) e
+  already-within ws e =
+      let r = in-some (λ w. eqb (w .task) task) ws e in
+      subst (λ (a : ℕ). In a (tasksOf ws)) (eqb-true (r .0 .task) task (r .2)) (in-tasks (r .0) ws (r .1))
 
   within-already : (ws : List Wait) → In task (tasksOf ws) → waitsAlready task ws ≡ true
-  unfolding waitsAlready In tasksOf
-  within-already [] h = absurd h
-  within-already (w ∷ ws) (inl e) = rw (eq-eqb (w .task) task e)
-  within-already (w ∷ ws) (inr h) = or-true (eqb (w .task) task) (within-already ws h)
-    where
-      or-true : (b : Bool) → waitsAlready task ws ≡ true → (b || waitsAlready task ws) ≡ true
-      or-true true e = refl
-      or-true false e = e
+  within-already ws h = let r = task-in task ws h in some-in (λ w. eqb (w .task) task) ws (r .0) (r .1) (eq-eqb (r .0 .task) task (r .2))
 
 module _ (m : List ℕ) (d : Manager) (t : Receipts) (v : Inv m d t) where
   -- A TASK WAITS IN THE RECORD EXACTLY WHERE IT WAITS BY THE RECEIPTS
