@@ -16,14 +16,15 @@ use Rattle.manager.specs.Result.{refused}
 use Rattle.manager.specs.Status.{numberOf}
 use Rattle.manager.proofs.Laws.Appended.{by-case}
 use Rattle.manager.specs.Region.{dead, heldAt}
-use Rattle.manager.proofs.Laws.Distinct.{On}
+use Rattle.manager.proofs.Laws.Distinct.{on-in, On}
 use Rattle.manager.specs.Sound.{sound}
 use Rattle.manager.specs.Access.{wordsIn, readSegment, writeSegment}
 use Rattle.manager.specs.declared.Manager.{Manager}
 use Rattle.manager.specs.declared.Status.{Status}
 use Rattle.manager.specs.declared.Status.the-variants.{Successful, InternalError}
 use Rattle.effects.specs.Effects.{writeAnswers, WriteEffects, ReadEffects}
-use Rattle.effects.proofs.Answers.{Passed, by-answer, other-status, unchanged, rightly}
+use Rattle.manager.proofs.Laws.Result.{Passed, by-answer}
+use Rattle.effects.proofs.Answers.{other-status, unchanged, rightly}
 use Rattle.effects.proofs.Words.{stored}
 
 module _ (m : List ℕ) (d : Manager) (id address : ℕ) where
@@ -33,7 +34,7 @@ module _ (m : List ℕ) (d : Manager) (id address : ℕ) where
         → WriteEffects m d id address first words (refused m d s)
     refuses s l n c =
         record {
-          numbered = l;
+          numbered = on-in _ _ .0 l;
           checks = c;
           refusal = λ f. refl;
           keeps = refl;
@@ -54,10 +55,10 @@ module _ (m : List ℕ) (d : Manager) (id address : ℕ) where
     pub write-effects : WriteEffects m d id address first words (writeSegment m d id address first words)
     unfolding writeSegment every some Passed
     write-effects =
-        by-answer (WriteEffects m d id address first words) fits m d _ _ refl (λ e. refuses InternalError refl refl (λ f. e, λ f. refl)) fails
+        by-answer m d _ _ (WriteEffects m d id address first words) fits refl (λ e. refuses InternalError refl refl (λ f. e, λ f. refl)) fails
         (λ ok p.
         record {
-          numbered = refl;
+          numbered = on-in _ _ .0 refl;
           checks = rightly m d Successful ok (other-status Successful InternalError refl);
           refusal = λ f. absurd (false≢true f);
           keeps = refl;

@@ -14,37 +14,13 @@ use Rattle.manager.specs.Status.{numberOf}
 use Rattle.manager.specs.Result.{Result, Check, checked, replied, refused}
 use Rattle.manager.specs.Regions.{answered}
 use Rattle.manager.specs.Sound.{sound}
-use Rattle.manager.proofs.Laws.Distinct.{On}
+use Rattle.manager.proofs.Laws.Result.{Passed, by-answer}
+use Rattle.manager.proofs.Laws.Distinct.{On, on-in}
 use Rattle.manager.specs.declared.Manager.{Manager}
 use Rattle.manager.specs.declared.Call.{Call}
 use Rattle.manager.specs.declared.Status.{Status}
 use Rattle.manager.specs.declared.Status.the-variants.{Successful, InternalError, Waiting}
 use Rattle.effects.specs.Effects.{answersOf, refusedValue, Bookkeeping, Only, Whole, CallEffects}
-
--- every check of a list passes
-unfoldable pub Passed : List Check → Type 0
-Passed [] = Unit {0}
-Passed (c ∷ cs) = (c .fails ≡ false) × Passed cs
-
--- a list of checks: one of them refuses with a status that passes the test t, or all pass
-by-checks : (P : Result → Type 0) (t : Status → Bool) (cs : List Check) (refuse : Status → Result) (act : Result)
-    → every (λ c. t (c .status)) cs ≡ true → ((s : Status) → t s ≡ true → P (refuse s)) → (Passed cs → P act) → P (checked cs refuse act)
-unfolding checked Passed every
-by-checks P t [] refuse act h f g = g tt
-by-checks P t (c ∷ cs) refuse act h f g =
-    by-case (c .fails) (λ b. P (cond b (refuse (c .status)) (checked cs refuse act)))
-    (λ e. f (c .status) (and-first (t (c .status)) (every (λ k. t (k .status)) cs) h))
-    (λ e. by-checks P t cs refuse act (and-second (t (c .status)) (every (λ k. t (k .status)) cs) h) f (λ p. g (e, p)))
-
--- and in front of them the check of the records
-pub by-answer : (P : Result → Type 0) (t : Status → Bool) (m : List ℕ) (d : Manager) (cs : List Check) (act : Result)
-    → every (λ c. t (c .status)) cs ≡ true → (sound m d ≡ false → P (refused m d InternalError))
-    → (sound m d ≡ true → (s : Status) → t s ≡ true → P (refused m d s)) → (sound m d ≡ true → Passed cs → P act)
-    → P (answered m d cs act)
-unfolding checked
-by-answer P t m d cs act h f g k =
-    by-case (sound m d) (λ b. P (cond (not b) (refused m d InternalError) (checked cs (refused m d) act)))
-    (λ e. by-checks P t cs (refused m d) act h (g e) (k e)) f
 
 -- a status by its number
 pub other-status : (s t : Status) → eqb (numberOf s) (numberOf t) ≡ false → ¬ (s ≡ t)
@@ -71,7 +47,7 @@ module _ (m : List ℕ) (d : Manager) (c : Call) where
   unsound : On 25 (answersOf c) → sound m d ≡ false → CallEffects m d c (refused m d InternalError)
   unsound l e =
       record {
-        numbered = l;
+        numbered = on-in _ _ .0 l;
         checks = (λ f. e, λ f. refl);
         refusal = λ f. refl;
         waits = λ f. absurd (other-status InternalError Waiting refl f);
@@ -83,7 +59,7 @@ module _ (m : List ℕ) (d : Manager) (c : Call) where
       → refusedValue m d c s ≡ v → CallEffects m d c (replied m d s v)
   refuses ok s v l a b e =
       record {
-        numbered = l;
+        numbered = on-in _ _ .0 l;
         checks = rightly m d s ok (other-status s InternalError b);
         refusal = λ f. rw e;
         waits = λ f. absurd (other-status s Waiting a f);
@@ -102,7 +78,7 @@ module _ (m : List ℕ) (d : Manager) (c : Call) where
       → CallEffects m d c s
   acts ok s e l h =
       record {
-        numbered = rw e l;
+        numbered = rw e (on-in 0 (answersOf c) .0 l);
         checks = rightly m d (s .status) ok (other-status (s .status) InternalError (rw e));
         refusal = λ f. absurd (false≢true (rw e at f));
         waits = λ f. absurd (other-status (s .status) Waiting (rw e) f);
@@ -112,4 +88,4 @@ module _ (m : List ℕ) (d : Manager) (c : Call) where
   -- EVERY DIRECTIVE: its checks have statuses of its own, and its action is right
   pub effects : (cs : List Check) (act : Result) → On 25 (answersOf c) → every (λ k. fits (k .status)) cs ≡ true
       → (sound m d ≡ true → Passed cs → CallEffects m d c act) → CallEffects m d c (answered m d cs act)
-  effects cs act l h k = by-answer (CallEffects m d c) fits m d cs act h (unsound l) fails k
+  effects cs act l h k = by-answer m d cs act (CallEffects m d c) fits h (unsound l) fails k

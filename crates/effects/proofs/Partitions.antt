@@ -26,7 +26,8 @@ use Rattle.manager.specs.declared.Manager.{Manager}
 use Rattle.manager.specs.declared.Partition.{Partition}
 use Rattle.manager.specs.declared.Call.the-variants.{CreatePartition, IdentPartition, DeletePartition, GetBuffer, ReturnBuffer}
 use Rattle.effects.specs.Effects.{LinkWord, Only, CallEffects}
-use Rattle.effects.proofs.Answers.{Passed, unchanged, acts, effects}
+use Rattle.manager.proofs.Laws.Result.{Passed}
+use Rattle.effects.proofs.Answers.{unchanged, acts, effects}
 
 -- no link of a buffer on the chain is no link of each
 not-links : (m : List ℕ) (p : Partition) (j : ℕ) → ¬ LinkWord m p j → (x : ℕ) → isFree m p x ≡ true → (j ≡ x / 4 → ⊥) × (j ≡ x / 4 + 1 → ⊥)

@@ -31,7 +31,9 @@ use Rattle.manager.specs.declared.Wait.the-variants.{No, Yes}
 use Rattle.manager.specs.declared.Call.the-variants.{CreateRegion, IdentRegion, DeleteRegion, GetSegment, ReturnSegment, SegmentSize, ResizeSegment, RegionInformation, Tick}
 use Rattle.manager.specs.declared.Status.the-variants.{Unsatisfied, InternalError, Waiting}
 use Rattle.effects.specs.Effects.{MapWord, Only, Whole, CallEffects}
-use Rattle.effects.proofs.Answers.{Passed, unchanged, rightly, other-status, refuses, acts, effects}
+use Rattle.manager.proofs.Laws.Distinct.{on-in}
+use Rattle.manager.proofs.Laws.Result.{Passed}
+use Rattle.effects.proofs.Answers.{unchanged, rightly, other-status, refuses, acts, effects}
 use Rattle.effects.proofs.Words.{only-then, drawn-only, Mapped, sited-mapped, drawn-mapped, served-only}
 
 -- the pages of a new map
@@ -98,7 +100,7 @@ module _ (m : List ℕ) (d : Manager) where
     unfolding enqueue some
     waits w ok =
         record {
-          numbered = refl;
+          numbered = on-in _ _ .0 refl;
           checks = rightly m d Waiting ok (other-status Waiting InternalError refl);
           refusal = λ f. absurd (false≢true f);
           waits = λ f. refl;

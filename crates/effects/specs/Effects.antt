@@ -13,7 +13,7 @@ use Rattle.manager.specs.Record.{slots, regionOf, partitionOf, withQueue}
 use Rattle.manager.specs.Result.{Result, replied, refused}
 use Rattle.manager.specs.Region.{pagesOf, mapAt, heldAt}
 use Rattle.manager.specs.Partition.{isFree}
-use Rattle.manager.proofs.Laws.Distinct.{On}
+use Rattle.manager.specs.Lists.{In}
 use Rattle.manager.specs.Sound.{sound}
 use Rattle.manager.specs.Access.{wordsIn}
 use Rattle.manager.specs.Perform.{Implementation}
@@ -114,7 +114,7 @@ pub record Whole (d : Manager) : Type 0 where
 -- WHAT A CALL MAY DO
 pub record CallEffects (m : List ℕ) (d : Manager) (c : Call) (s : Result) : Type 0 where
   -- each directive ends with one of the numbered answers
-  pub numbered : On (numberOf (s .status)) (answersOf c)
+  pub numbered : In (numberOf (s .status)) (answersOf c)
   -- it checks its records itself: 25 exactly when they are not sound
   pub checks : (s .status ≡ InternalError) ↔ (sound m d ≡ false)
   -- a refusal changes no word and no field; it has no notice, no information, and the value 0 or that old length
@@ -126,7 +126,7 @@ pub record CallEffects (m : List ℕ) (d : Manager) (c : Call) (s : Result) : Ty
 
 -- WHAT A WRITE OF A HELD SEGMENT MAY DO: the same, and the words that it writes are those that it names
 pub record WriteEffects (m : List ℕ) (d : Manager) (id address first : ℕ) (words : List ℕ) (s : Result) : Type 0 where
-  pub numbered : On (numberOf (s .status)) writeAnswers
+  pub numbered : In (numberOf (s .status)) writeAnswers
   pub checks : (s .status ≡ InternalError) ↔ (sound m d ≡ false)
   pub refusal : refusing (s .status) ≡ true → s ≡ refused m d (s .status)
   -- it changes no field of the record, whatever it answers

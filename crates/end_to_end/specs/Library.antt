@@ -28,36 +28,36 @@ replyWords r =
     ∷ allWords noticeWords (pad tasks noNotice (r .notices))
 
 -- what a caller keeps: the words of the record and the memory; and the receipts beside them
-pub record Kept : Type 0 where
+pub record Caller : Type 0 where
   pub state : List ℕ
   pub memory : List ℕ
   pub receipts : Receipts
 
 -- a record of zeros over any memory
-abbrev pub zeroed : List ℕ → Kept
+abbrev pub zeroed : List ℕ → Caller
 zeroed m = record { state = replicate recordWords 0; memory = m; receipts = blank }
 
 -- a call, with room for its answer
-abbrev pub afterCall : Call → List ℕ → Kept → Kept
+abbrev pub afterCall : Call → List ℕ → Caller → Caller
 afterCall c answer k =
     let o = called (k .state) (k .memory) answer c in
     record { state = o .state; memory = o .memory; receipts = note c (byReceipts (length (k .memory)) (k .receipts) c) (k .receipts) }
 
 -- a write of a held segment; the record's words are not lent to it
-abbrev pub afterWrite : ℕ → ℕ → ℕ → List ℕ → Kept → Kept
+abbrev pub afterWrite : ℕ → ℕ → ℕ → List ℕ → Caller → Caller
 afterWrite id address first words k =
     record { state = k .state; memory = segmentWritten (k .state) (k .memory) id address first words .memory; receipts = k .receipts }
 
 -- EVERY LIST OF CALLS OF THE LIBRARY, and what clients write between them
-pub data Calls : Kept → Kept → Type 0 where
-  end : {k : Kept} → Calls k k
-  call : {k l : Kept} (c : Call) (answer : List ℕ) → answerSize ≤ length answer → Calls (afterCall c answer k) l → Calls k l
-  write : {k l : Kept} (id address first : ℕ) (words : List ℕ) → Calls (afterWrite id address first words k) l → Calls k l
-  clients : {k l : Kept} (m′ : List ℕ) → ClientsWrite (k .receipts) (k .memory) m′
+pub data Calls : Caller → Caller → Type 0 where
+  end : {k : Caller} → Calls k k
+  call : {k l : Caller} (c : Call) (answer : List ℕ) → answerSize ≤ length answer → Calls (afterCall c answer k) l → Calls k l
+  write : {k l : Caller} (id address first : ℕ) (words : List ℕ) → Calls (afterWrite id address first words k) l → Calls k l
+  clients : {k l : Caller} (m′ : List ℕ) → ClientsWrite (k .receipts) (k .memory) m′
       → Calls (record { state = k .state; memory = m′; receipts = k .receipts }) l → Calls k l
 
 -- what is answered next: a call, with room for its answer; a write; a read
-pub record Answers (k : Kept) : Type 0 where
+pub record Answers (k : Caller) : Type 0 where
   pub status : (c : Call) (answer : List ℕ) → answerSize ≤ length answer
       → called (k .state) (k .memory) answer c .status ≡ numberOf (byReceipts (length (k .memory)) (k .receipts) c .status)
   pub answer : (c : Call) (answer : List ℕ) → answerSize ≤ length answer
@@ -68,4 +68,4 @@ pub record Answers (k : Kept) : Type 0 where
 
 -- END TO END
 abbrev pub LibraryByReceipts : Type 0
-LibraryByReceipts = (m : List ℕ) → 1 ≤ length m → length m ≤ mostWords → (k : Kept) → Calls (zeroed m) k → Answers k
+LibraryByReceipts = (m : List ℕ) → 1 ≤ length m → length m ≤ mostWords → (k : Caller) → Calls (zeroed m) k → Answers k

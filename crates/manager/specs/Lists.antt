@@ -1,7 +1,9 @@
--- Tests over a whole list: what the definitions of document 01 say of every slot, place or area. Assumes nothing.
+-- Tests over a whole list: what the definitions of document 01 say of every slot, place or area; and what is on a list. Assumes nothing.
 use Prim.Native.Nat.{ℕ, zero, suc}
+use mathlib.Core.Path.{_≡_}
 use mathlib.Core.Bool.{Bool, true, false, cond, _&&_, _||_}
 use mathlib.Core.List.{List, [], _∷_}
+use mathlib.Core.Logic.{_⊎_}
 
 module _ {A : Type 0} where
   -- every element passes the test
@@ -29,3 +31,13 @@ module _ {A : Type 0} where
   adjacent t [] = true
   adjacent t (x ∷ []) = true
   adjacent t (x ∷ y ∷ xs) = t x y && adjacent t (y ∷ xs)
+
+  -- an element is on a list
+  unfoldable pub In : A → List A → Type 0
+  In x [] = ⊥
+  In x (y ∷ l) = (y ≡ x) ⊎ In x l
+
+  -- no element is on it twice
+  unfoldable pub Distinct : List A → Type 0
+  Distinct [] = Unit {0}
+  Distinct (x ∷ l) = (¬ In x l) × Distinct l

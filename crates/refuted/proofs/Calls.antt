@@ -18,9 +18,11 @@ use Rattle.manager.specs.Perform.{perform}
 use Rattle.manager.specs.declared.Call.the-variants.{CreateRegion, IdentRegion, DeleteRegion, GetSegment, ReturnSegment, CreatePartition, GetBuffer, ReturnBuffer, Tick}
 use Rattle.manager.specs.declared.Order.the-variants.{Fifo}
 use Rattle.manager.specs.declared.Wait.the-variants.{No, Yes}
-use Rattle.trace.specs.Loans.{enter, amend, inPages, loanPages, runs, most, sum}
+use Rattle.trace.specs.Loans.{enter, amend, inPages, loanPages, most, sum}
+use Rattle.trace.specs.Pages.{runs, mostPagesAt, lowestRun, readingOf}
 use Rattle.trace.specs.Receipts.{buffersFrom, strike, allLater, without, waitOf, allNoticed, note}
-use Rattle.trace.specs.Replies.{waitsIn, behind, arranged, dueIn, dueFrom, decided, firstId, anyId, pagesAt, mostPagesAt, lowestRun, grantsIn, waitsAlready, listed, byReceipts}
+use Rattle.trace.specs.Queue.{insertBy, insertAll, waitsIn, standsBefore, dueIn}
+use Rattle.trace.specs.Replies.{decided, firstId, anyId, pagesAt, grantsIn, byReceipts}
 use Rattle.trace.specs.Trace.{Ask, call, after}
 
 abbrev pub create : Ask
@@ -67,7 +69,7 @@ unfolding createRegion identRegion deleteRegion getSegment returnSegment segment
 directives = tt
 
 unfoldable pub receipts : Unit {0}
-unfolding enter amend inPages loanPages runs most sum buffersFrom strike allLater without waitOf allNoticed note waitsIn behind arranged dueIn dueFrom decided firstId anyId pagesAt mostPagesAt lowestRun grantsIn waitsAlready listed byReceipts after
+unfolding readingOf enter amend inPages loanPages runs most sum buffersFrom strike allLater without waitOf allNoticed note insertBy insertAll waitsIn standsBefore dueIn decided firstId anyId pagesAt mostPagesAt lowestRun grantsIn byReceipts after
 receipts = tt
 
 unfoldable pub everything : Unit {0}

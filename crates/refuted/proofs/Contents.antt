@@ -51,7 +51,7 @@ not-spoilsOther : ¬ Demand3 spoilsOther
 unfolding everything Lent
 not-spoilsOther h =
     let z : _≡_ {A = ℕ} 9 0 =
-        claimed spoilsOther h (create ∷ get 64 ∷ []) .stays (get 64) 16
-        (region 1, 64, 64, segment {id = 1} {a = 64} (lends (loan 64 1 ∷ [])) refl 1 (inl (refl, refl)), omega arith, omega arith)
-        (region 1, 64, 64, segment {id = 1} {a = 64} (lends (loan 64 1 ∷ loan 128 1 ∷ [])) refl 1 (inl (refl, refl)), omega arith, omega arith) in
+    claimed spoilsOther h (create ∷ get 64 ∷ []) .stays (get 64) 16
+    (region 1, 64, 64, segment {id = 1} {a = 64} (lends (loan 64 1 ∷ [])) refl 1 (inl (refl, refl)), omega arith, omega arith)
+    (region 1, 64, 64, segment {id = 1} {a = 64} (lends (loan 64 1 ∷ loan 128 1 ∷ [])) refl 1 (inl (refl, refl)), omega arith, omega arith) in
     omega arith

@@ -4,15 +4,16 @@ use mathlib.Core.Path.{_≡_, refl, sym, subst}
 use mathlib.Core.Bool.{true, false, cond, not}
 use mathlib.Core.List.{List}
 use mathlib.Core.Option.{Option, some}
-use Prim.Native.Nat.{ℕ, zero, suc, _+_, _*_, _/_, _≤_, _<_}
+use Prim.Native.Nat.{ℕ, _+_, _*_, _/_, _≤_}
 use native.Mathlib.Omega.{arith}
 use lib.ListN.{length}
 use lib.Seq.{sets}
 use lib.Dec.{eqb, ltb}
-use borrow.Author.Tests.{eqb-false, ltb-false, not-true}
+use borrow.Author.Tests.{ltb-false, not-true}
 use Rattle.manager.specs.Record.{regionOf}
 use Rattle.manager.specs.Lists.{every}
 use Rattle.manager.proofs.Laws.Lists.{and-first}
+use Rattle.manager.proofs.Laws.Result.{Passed}
 use Rattle.manager.specs.Result.{Result, refused}
 use Rattle.manager.specs.Region.{dead, heldAt}
 use Rattle.manager.specs.Sound.{sound}
@@ -20,13 +21,15 @@ use Rattle.manager.specs.Access.{writeSegment}
 use Rattle.manager.specs.declared.Manager.{Manager}
 use Rattle.manager.specs.declared.Region.{Region}
 use Rattle.manager.specs.declared.Status.{Status}
+use Rattle.trace.specs.Loans.{Lent}
 use Rattle.trace.specs.Receipts.{Receipts, RegionEntry, isSuccess, isWaiting, unit, pageIn}
 use Rattle.trace.specs.Trace.{Object, region, Loaned, segment, ClientsWrite}
 use Rattle.trace.proofs.Invariant.{Inside, Only, regionFor, RegionIs, RegionSlot, Inv, empty, live}
 use Rattle.trace.proofs.Frame.{only-sets}
 use Rattle.trace.proofs.Clients.{segment-in, clients-keep}
-use Rattle.trace.proofs.Held.{regular, held-loan, holds-loan}
-use Rattle.trace.proofs.Regions.Checks.{Passed, refusing, by-answer}
+use Rattle.trace.proofs.Segments.{regular, loan-holds}
+use Rattle.trace.proofs.Map.{lent-held}
+use Rattle.trace.proofs.Regions.Checks.{refusing, by-sound}
 
 -- a change of nothing, and a change of one loan's words, are writes that clients may make
 pub clients-none : (t : Receipts) (m : List ℕ) → ClientsWrite t m m
@@ -54,16 +57,14 @@ writes-refused m d t at words s r =
       memory = rw (not-true (isSuccess s) (and-first (not (isSuccess s)) (not (isWaiting s)) r));
     }
 
--- words stored in the loan at an address
-module _ (m : List ℕ) (d : Manager) (t : Receipts) (id : ℕ) (e : RegionEntry) (found : t .regions id ≡ some e) (is : RegionIs m e) (a : ℕ) where
-  pub stored : (k first : ℕ) (words : List ℕ) → heldAt m (regionFor e) a ≡ k → 0 < k → first + length words ≤ k * unit e / 4
-      → ClientsWrite t m (sets m (a / 4 + first) words)
-  stored k first words h u l =
-      let x = held-loan m e is a (rw h u) in
-      let w = segment-in m e is a (k * unit e) (record { p = pageIn e a; k = k; lent = rw h at (x .lent); at = x .at; bytes = refl }) in
-      clients-loan t m (sets m (a / 4 + first) words) (region id) a (k * unit e)
-      (segment e found k (rw h at (holds-loan e (regular m e is) a (heldAt m (regionFor e) a) x)))
-      (only-sets a (k * unit e) m (a / 4 + first) words (omega (arith, w .whole)) (omega (arith, w .whole)))
+-- words stored in a loan
+stored : (m : List ℕ) (t : Receipts) (id : ℕ) (e : RegionEntry) → t .regions id ≡ some e → RegionIs m e → (a k first : ℕ) (words : List ℕ)
+    → Lent (e .loans) a k → first + length words ≤ k * unit e / 4 → ClientsWrite t m (sets m (a / 4 + first) words)
+stored m t id e found is a k first words x l =
+    let h = loan-holds e (regular m e is) a k x in
+    let w = segment-in m e is a (k * unit e) (record { p = pageIn e a; k = k; lent = h .lent; at = h .at; bytes = refl }) in
+    clients-loan t m (sets m (a / 4 + first) words) (region id) a (k * unit e) (segment e found k x)
+    (only-sets a (k * unit e) m (a / 4 + first) words (omega (arith, w .whole)) (omega (arith, w .whole)))
 
 module _ (m : List ℕ) (d : Manager) (t : Receipts) (v : Inv m d t) where
   -- what the last of the checks lets pass
@@ -72,20 +73,15 @@ module _ (m : List ℕ) (d : Manager) (t : Receipts) (v : Inv m d t) where
       → ClientsWrite t m (sets m (a / 4 + first) words)
   passed id a first words r o f empty x y z = absurd (let q : _≡_ {A = ℕ} 0 1 = cc in omega arith)
   passed id a first words r o f (live e is) x y z =
-      stored m d t id e f is a (heldAt m (regionFor e) a) first words refl
-      (pos (heldAt m (regionFor e) a) (eqb-false (heldAt m (regionFor e) a) 0 y))
+      stored m t id e f is a (heldAt m (regionFor e) a) first words (lent-held m e is a y)
       (ltb-false (heldAt m (regionFor e) a * unit e / 4) (first + length words) z)
-    where
-      pos : (k : ℕ) → (k ≡ 0 → ⊥) → 0 < k
-      pos zero n = absurd (n refl)
-      pos (suc k) n = omega arith
 
   module _ (ok : sound m d ≡ true) where
     -- A WRITE IS ONE THAT CLIENTS MAY MAKE, and what it stores goes by its status
     pub writes : (id a first : ℕ) (words : List ℕ) → Writes m d t (a / 4 + first) words (writeSegment m d id a first words)
     unfolding writeSegment every Passed
     writes id a first words =
-        by-answer m d _ _ ok (Writes m d t (a / 4 + first) words) refl (writes-refused m d t (a / 4 + first) words)
+        by-sound m d _ _ ok (Writes m d t (a / 4 + first) words) refl (writes-refused m d t (a / 4 + first) words)
         (λ c. record {
           clients = passed id a first words (regionOf d id) (t .regions id) refl (v .picture .regions id) (c .0) (c .1 .0) (c .1 .1 .0);
           manager = refl;

@@ -8,13 +8,14 @@ use native.Mathlib.Nat.{mul-le-mul-right}
 use native.Mathlib.Omega.{arith}
 use Rattle.manager.specs.Record.{partitionOf, regionOf}
 use Rattle.manager.specs.declared.Manager.{Manager}
-use Rattle.trace.specs.Receipts.{Receipts, RegionEntry, PartitionEntry, unit, pagesIn, addressIn, pageLoans}
+use Rattle.trace.specs.Receipts.{Receipts, RegionEntry, PartitionEntry, unit, addressIn}
 use Rattle.trace.specs.Trace.{Object, region, partition, Loaned, segment, buffer}
 use Rattle.trace.proofs.Invariant.{Inv, RegionIs, PartitionIs}
 use Rattle.trace.proofs.Frame.{buffers-apart}
-use Rattle.trace.proofs.Areas.{areaIn, sound-clear, clear-parts, same-object}
+use Rattle.trace.proofs.Areas.{areaIn, sound-clear, same-object}
 use Rattle.trace.proofs.Clients.{SegmentLoan, BufferLoan, segment-loan, buffer-loan, region-at, partition-at, loan-in}
-use Rattle.trace.proofs.Loans.Book.{no-overlap}
+use Rattle.trace.proofs.Segments.{law}
+use Rattle.trace.proofs.Disjoint.{clear-parts}
 
 -- one byte range is the other, or one ends before the other starts
 abbrev pub Alike : ℕ → ℕ → ℕ → ℕ → Type 0
@@ -22,7 +23,7 @@ Alike a n b k = ((a ≡ b) × (n ≡ k)) ⊎ ((a + n ≤ b) ⊎ (b + k ≤ a))
 
 -- two loans of one region
 pub segments-apart : (m : List ℕ) (e : RegionEntry) → RegionIs m e → (a n b k : ℕ) → SegmentLoan e a n → SegmentLoan e b k → Alike a n b k
-segments-apart m e is a n b k x y = go (no-overlap (pagesIn e) 0 (pageLoans e) (is .ordered) (x .p) (x .k) (y .p) (y .k) (x .lent) (y .lent))
+segments-apart m e is a n b k x y = go (law e .no-overlap (is .fits) (x .p) (x .k) (y .p) (y .k) (x .lent) (y .lent))
   where
     go : ((x .p ≡ y .p) × (x .k ≡ y .k)) ⊎ ((x .p + x .k ≤ y .p) ⊎ (y .p + y .k ≤ x .p)) → Alike a n b k
     go (inl f) = inl (x .at ∙ ap (addressIn e) (f .0) ∙ sym (y .at), x .bytes ∙ ap (λ (j : ℕ). j * unit e) (f .1) ∙ sym (y .bytes))

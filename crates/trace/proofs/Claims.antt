@@ -3,14 +3,13 @@
 use mathlib.Core.Path.{_≡_, refl, sym, ap, _∙_, subst}
 use mathlib.Core.Bool.{true}
 use mathlib.Core.List.{List, []}
-use mathlib.Core.Logic.{_⊎_, inl, inr, _↔_, ⊎-elim}
+use mathlib.Core.Logic.{_↔_, ⊎-elim}
 use mathlib.Core.Option.{some}
 use Prim.Native.Nat.{ℕ, zero, suc, _+_, _*_, _/_, _≤_, _<_}
 use native.Mathlib.Nat.{mul-le-mul}
 use native.Mathlib.Omega.{arith}
 use lib.ListN.{length, take, drop, length-take, length-drop}
-use Rattle.arith.proofs.Laws.Round.{pages-some}
-use Rattle.manager.specs.Record.{slots, regionOf, partitionOf}
+use Rattle.manager.specs.Record.{regionOf, partitionOf}
 use Rattle.manager.specs.Region.{segments}
 use Rattle.manager.specs.Partition.{isBuffer, follow, linked, nextOf}
 use Rattle.manager.proofs.Laws.Partition.Chain.{linked-buffer, linked-rest, linked-last}
@@ -21,24 +20,24 @@ use Rattle.manager.specs.declared.Call.the-variants.{GetSegment, ReturnSegment,
 use Rattle.manager.specs.declared.Wait.the-variants.{No}
 use Rattle.manager.specs.declared.Partition.{Partition}
 use Rattle.manager.specs.declared.Status.the-variants.{InternalError}
+use Rattle.manager.specs.Lists.{In}
 use Rattle.trace.specs.Loans.{Lent, loanPages, sum}
-use Rattle.trace.specs.Receipts.{RegionEntry, PartitionEntry, Wait, Reply, replyOf, unit, firstIn, pageIn, pageLoans, buffersIn, buffersFrom, Within}
-use Rattle.trace.specs.Replies.{pagesOver, byReceipts, readByReceipts, queueOf, dueFrom}
+use Rattle.trace.specs.Receipts.{RegionEntry, PartitionEntry, Wait, Reply, replyOf, unit, firstIn, pageIn, pageLoans, buffersIn, buffersFrom}
+use Rattle.trace.specs.Queue.{queueOf, inLine, dueIn}
+use Rattle.trace.specs.Replies.{byReceipts, readByReceipts}
 use Rattle.trace.specs.Trace.{State, answer}
 use Rattle.trace.specs.Claims.{freePages, Chained, null, link, RegionClaims, PartitionClaims}
 use Rattle.trace.proofs.Invariant.{regionFor, PartitionIs, Inv}
 use Rattle.trace.proofs.Frame.{unit-least, inside-parts, partition-shaped, buffer-lies, chained-buffer}
 use Rattle.trace.proofs.Buffers.{buffer-within, within-buffer}
 use Rattle.trace.proofs.Clients.{RegionAt, region-at, partition-at, SegmentLoan, segment-in, segment-some}
-use Rattle.trace.proofs.Held.{Regular, regular, loan-holds}
+use Rattle.trace.proofs.Segments.{law, Regular, regular, loan-holds, pages-lent}
+use Rattle.trace.proofs.Map.{drawing}
 use Rattle.trace.proofs.Loans.Addresses.{address-pages}
-use Rattle.trace.proofs.Queue.Line.{In, in-line}
-use Rattle.trace.proofs.Queue.Order.{goes, orders, in-waits, queue-of}
-use Rattle.trace.proofs.Queue.Tasks.{all-in}
-use Rattle.trace.proofs.Regions.Live.{law, map-drawing}
-use Rattle.trace.proofs.Regions.Queue.{queue-inv}
+use Rattle.trace.proofs.Queue.Order.{in-waits, queue-of, in-all-waits}
+use Rattle.trace.proofs.Queue.Waiters.{waiters-for}
 use Rattle.trace.proofs.Partitions.Slot.{buffers-in, unlent-once}
-use Rattle.trace.proofs.Replies.Consequences.{pages-lent, unsatisfied-by, lowest-by, information-by, size-by, resize-by, return-by, buffer-unsatisfied, buffer-front}
+use Rattle.trace.proofs.Replies.Consequences.{unsatisfied-by, lowest-by, information-by, size-by, resize-by, return-by, buffer-unsatisfied, buffer-front}
 use Rattle.trace.proofs.Replies.Undamaged.{not-damaged, reply-sound}
 
 -- ---- a chain by word 0
@@ -71,7 +70,7 @@ module _ (i : Implementation) (s : State) (v : Inv (s .memory) (s .manager) (s .
   sound-claim c e = not-damaged _ (reply-sound (length (s .memory)) (s .receipts) c) (sym (status-by c) ∙ e)
 
   -- A TICK
-  pub tick-claim : answer i s Tick .notices ≡ dueFrom slots 1 (s .receipts)
+  pub tick-claim : answer i s Tick .notices ≡ dueIn (inLine (s .receipts))
   unfolding byReceipts
   tick-claim = notices-by Tick
 
@@ -83,14 +82,13 @@ module _ (i : Implementation) (s : State) (v : Inv (s .memory) (s .manager) (s .
     loans : Regular e
     loans = regular (s .memory) e (at .is)
 
-    -- a wait of its queue asks for a page
-    queue-asks : (w : Wait) → In w (queueOf id e (s .receipts)) → 0 < pagesOver e (w .size)
+    -- a wait of its queue asks for something
+    queue-asks : (w : Wait) → In w (queueOf id e (s .receipts)) → 0 < w .size
     unfolding In
     queue-asks w h =
         let t = s .receipts in
-        let y : In w (t .waits) =
-        elim (in-line (goes (orders t)) w [] (t .waits) .0 (in-waits id w _ .0 (rw (queue-of id e t q) at h) .0)) [ inl z ↦ absurd z | inr z ↦ z ] in
-        pages-some (w .size) (unit e) (loans .some-unit) (all-in t (t .waits) (v .waits .all) w y .size-some)
+        let y : In w (t .waits) = in-all-waits t w .0 (in-waits id w (inLine t) .0 (rw (queue-of id e t q) at h) .0) in
+        v .waits .each w y .size-some
 
     -- a read of a loan has words
     read-some : (a k : ℕ) → Lent (e .loans) a k → ¬ (i .read (s .memory) (s .manager) id a ≡ [])
@@ -111,11 +109,11 @@ module _ (i : Implementation) (s : State) (v : Inv (s .memory) (s .manager) (s .
         let t = s .receipts in
         record {
           placed = λ a k x. loan-holds e loans a k x .at;
-          ordered = loans .ordered;
+          ordered = loans .fits;
           map = at .is .map;
           counted =
               ap (λ (l : List ℕ). sum l + freePages (segments (s .memory) (regionFor e))) (ap loanPages (loans .placed) ∙ address-pages (firstIn e) (unit e) (pageLoans e))
-              ∙ law (regionFor e) .counted (map-drawing (s .memory) e (at .is));
+              ∙ law e .counted (drawing (s .memory) e (at .is));
           unsatisfied = λ size task priority ticks z h. rw (status-by (GetSegment id size No task priority ticks))
               (unsatisfied-by n t id e q loans size task priority ticks z h);
           lowest = λ size task priority ticks z h. rw (status-by (GetSegment id size No task priority ticks), value-by (GetSegment id size No task priority ticks))
@@ -124,7 +122,7 @@ module _ (i : Implementation) (s : State) (v : Inv (s .memory) (s .manager) (s .
           information = ap (λ (r : Reply). r .information) (replies (RegionInformation id) ∙ information-by n t id e q loans);
           size = λ a k x. ap (λ (r : Reply). r .value) (replies (SegmentSize id a) ∙ size-by n t id e q loans a k x);
           resize = λ a k size x z. rw (status-by (ResizeSegment id a size), value-by (ResizeSegment id a size)) (resize-by n t id e q loans a k x size z);
-          queue = queue-inv (s .memory) (s .manager) t v id e q;
+          queue = waiters-for (s .manager) t (v .waits) id e q;
           return = λ a k x. rw (status-by (ReturnSegment id a), notices-by (ReturnSegment id a)) (return-by n t id e q loans a k x queue-asks);
         }
 
@@ -141,7 +139,7 @@ module _ (i : Implementation) (s : State) (v : Inv (s .memory) (s .manager) (s .
     not-null a b z = omega (arith, buffer-lies (s .memory) partition e is a b .low, partition-shaped (s .memory) partition e is .start-in)
 
     -- its buffers, as its entry asks for them
-    asked-within : (a : ℕ) → Within a (buffersFrom (buffersIn e) (e .size) (e .start)) ↔ (isBuffer partition a ≡ true)
+    asked-within : (a : ℕ) → In a (buffersFrom (buffersIn e) (e .size) (e .start)) ↔ (isBuffer partition a ≡ true)
     asked-within a =
         let h = partition-shaped (s .memory) partition e is in
         rw (← buffers-in (s .memory) partition e is, ← is .size, ← is .start) (within-buffer partition h a, buffer-within partition h a)
@@ -160,7 +158,7 @@ module _ (i : Implementation) (s : State) (v : Inv (s .memory) (s .manager) (s .
           once = is .once;
           each = λ a. (
             λ w. is .either a (asked-within a .0 w),
-            λ w. asked-within a .1 (⊎-elim (λ (l : Within a (e .lent)). is .buffer a l) (λ (l : Within a (e .unlent)). chained-buffer (s .memory) partition e is a l) w),
+            λ w. asked-within a .1 (⊎-elim (λ (l : In a (e .lent)). is .buffer a l) (λ (l : In a (e .unlent)). chained-buffer (s .memory) partition e is a l) w),
           );
           either = is .apart;
           counted = counted;

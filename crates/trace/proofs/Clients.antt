@@ -16,14 +16,15 @@ use Rattle.manager.specs.declared.Area.{Area}
 use Rattle.manager.specs.declared.Manager.{Manager}
 use Rattle.manager.specs.declared.Region.{Region}
 use Rattle.manager.specs.declared.Partition.{Partition}
+use Rattle.manager.specs.Lists.{In}
 use Rattle.trace.specs.Loans.{Lent}
-use Rattle.trace.specs.Receipts.{Receipts, RegionEntry, PartitionEntry, unit, pagesIn, addressIn, pageIn, pageLoans, Within}
+use Rattle.trace.specs.Receipts.{Receipts, RegionEntry, PartitionEntry, unit, pagesIn, addressIn, pageIn, pageLoans}
 use Rattle.trace.specs.Trace.{Object, region, partition, Loaned, segment, buffer, Owned, ClientsWrite}
-use Rattle.trace.proofs.Invariant.{Inside, Only, regionFor, RegionIs, RegionSlot, PartitionIs, PartitionSlot, Inv, empty, live}
-use Rattle.trace.proofs.Loans.Drawn.{lent-within, lent-some}
+use Rattle.trace.proofs.Invariant.{Inside, regionFor, RegionIs, RegionSlot, PartitionIs, PartitionSlot, Inv, empty, live, OnlyMap}
 use Rattle.trace.proofs.Frame.{unit-whole, whole-times, page-upto, first-from, region-unit, region-inside, region-before, region-same, partition-shaped, buffer-lies, buffers-apart, chained-buffer, link-next, link-before, buffer-inside, partition-same}
-use Rattle.trace.proofs.Held.{regular, loan-holds}
-use Rattle.trace.proofs.Areas.{areaFor, areaIn, sound-clear, clear-words, same-object}
+use Rattle.trace.proofs.Segments.{law, regular, loan-holds}
+use Rattle.trace.proofs.Areas.{areaFor, areaIn, sound-clear, same-object}
+use Rattle.trace.proofs.Disjoint.{clear-words}
 
 -- ---- what stands in a live slot
 
@@ -54,7 +55,7 @@ pub record SegmentLoan (e : RegionEntry) (a n : ℕ) : Type 0 where
   pub bytes : n ≡ k * unit e
 
 pub record BufferLoan (e : PartitionEntry) (a n : ℕ) : Type 0 where
-  pub lent : Within a (e .lent)
+  pub lent : In a (e .lent)
   pub bytes : n ≡ e .size
 
 pub segment-loan : (m : List ℕ) (t : Receipts) (id a n : ℕ) (e : RegionEntry) → RegionIs m e → t .regions id ≡ some e → Loaned t (region id) a n → SegmentLoan e a n
@@ -66,7 +67,7 @@ segment-loan m t id a n e is f (segment e′ g k l) =
 pub buffer-loan : (t : Receipts) (id a n : ℕ) (e : PartitionEntry) → t .partitions id ≡ some e → Loaned t (partition id) a n → BufferLoan e a n
 buffer-loan t id a n e f (buffer e′ g l) =
     let h : e′ ≡ e = cc in
-    record { lent = subst (λ (x : PartitionEntry). Within a (x .lent)) h l; bytes = ap (λ (x : PartitionEntry). x .size) h }
+    record { lent = subst (λ (x : PartitionEntry). In a (x .lent)) h l; bytes = ap (λ (x : PartitionEntry). x .size) h }
 
 -- of whole words, in an area
 pub record LoanIn (a : Area) (address bytes : ℕ) : Type 0 where
@@ -81,12 +82,12 @@ module _ (m : List ℕ) (e : RegionEntry) (is : RegionIs m e) (a n : ℕ) (l : S
   segment-behind = omega (arith, l .at)
 
   pub segment-some : 0 < l .k
-  segment-some = lent-some (pagesIn e) 0 (pageLoans e) (l .p) (l .k) (is .ordered) (l .lent)
+  segment-some = law e .lent-some (is .fits) (l .p) (l .k) (l .lent)
 
   pub segment-in : LoanIn (areaFor (regionFor e)) a n
   segment-in =
       let w : unit e % 4 ≡ 0 = omega (arith, unit-whole e) in
-      let u = page-upto (e .start) (e .bytes) (unit e) (region-unit m e is) (is .some-page) (l .p + l .k) (lent-within (pagesIn e) 0 (pageLoans e) (l .p) (l .k) (is .ordered) (l .lent)) in
+      let u = page-upto (e .start) (e .bytes) (unit e) (region-unit m e is) (is .some-page) (l .p + l .k) (law e .lent-within (is .fits) (l .p) (l .k) (l .lent)) in
       record {
         from = omega (arith, l .at, first-from (e .start) (e .bytes) (unit e) (region-unit m e is));
         upto = omega (arith, l .at, l .bytes, u);
@@ -138,12 +139,12 @@ module _ (m : List ℕ) (d : Manager) (t : Receipts) (v : Inv m d t) where
       omega (arith, segment-behind m e (r .is) (h .1) (h .2) l, region-before m e (r .is) w hi, h .4)
 
   -- NOR IS A WORD OF A BUFFER THAT IS NOT LENT
-  pub buffer-not-owned : (id : ℕ) (e : PartitionEntry) → t .partitions id ≡ some e → (a w : ℕ) → Within a (e .unlent) → Inside a (partitionOf d id .size) w → ¬ Owned t w
+  pub buffer-not-owned : (id : ℕ) (e : PartitionEntry) → t .partitions id ≡ some e → (a w : ℕ) → In a (e .unlent) → Inside a (partitionOf d id .size) w → ¬ Owned t w
   buffer-not-owned id e f a w u i h =
       let s = partition-at m (partitionOf d id) (t .partitions id) e (v .picture .partitions id) f in
       let c = chained-buffer m (partitionOf d id) e s a u in
       let l = buffer-loan t id (h .1) (h .2) e f (owned-of (partition id) w (buffer-inside m (partitionOf d id) e s a w c i) h) in
-      ⊎-elim (λ (g : h .1 ≡ a). s .apart (h .1) (l .lent) (subst (λ (b : ℕ). Within b (e .unlent)) (sym g) u))
+      ⊎-elim (λ (g : h .1 ≡ a). s .apart (h .1) (l .lent) (subst (λ (b : ℕ). In b (e .unlent)) (sym g) u))
       (⊎-elim (λ (g : h .1 + partitionOf d id .size ≤ a). omega (arith, i .low, i .high, h .4, h .5, l .bytes, s .size))
       (λ (g : a + partitionOf d id .size ≤ h .1). omega (arith, i .low, i .high, h .4, h .5)))
       (buffers-apart m (partitionOf d id) e s (h .1) a (s .buffer (h .1) (l .lent)) c)
@@ -183,13 +184,9 @@ module _ (m : List ℕ) (d : Manager) (t : Receipts) (v : Inv m d t) where
 abbrev pub Stays : Receipts → Receipts → List ℕ → List ℕ → Type 0
 Stays t u m m′ = (w : ℕ) → Owned t w → Owned u w → getD m′ w 0 ≡ getD m w 0
 
--- only map words of an entry's region differ
-abbrev pub OnlyMap : RegionEntry → List ℕ → List ℕ → Type 0
-OnlyMap e m m′ = Only (4 * mapAt (regionFor e)) (4 * pagesIn e) m m′
-
 -- no word is a link word of one of some buffers
 abbrev pub NoLink : List ℕ → ℕ → Type 0
-NoLink l w = (a : ℕ) → Within a l → ((w ≡ a / 4) → ⊥) × ((w ≡ a / 4 + 1) → ⊥)
+NoLink l w = (a : ℕ) → In a l → ((w ≡ a / 4) → ⊥) × ((w ≡ a / 4 + 1) → ⊥)
 
 module _ (m : List ℕ) (d : Manager) (t : Receipts) (v : Inv m d t) where
   -- THE WORDS OF A MAP ARE NOT OF CLIENTS: so a change of a map moves none of theirs

@@ -8,17 +8,16 @@ use Prim.Native.Nat.{ℕ, suc, _+_, _*_, _/_, _%_, _≤_, _<_}
 use native.Mathlib.Nat.{mul-le-mul-right}
 use native.Mathlib.Omega.{arith}
 use lib.ListN.{length, getD, take, drop, set, length-take, length-drop, length-set}
-use lib.Seq.{sets, length-sets, sets-eq, getD-set-other, getD-take, getD-drop, ext-getD, take-at, drop-at, length-take-le}
+use lib.Seq.{sets, sets-eq, getD-set-other, getD-take, getD-drop, ext-getD, take-at, drop-at, length-take-le}
 use lib.Dec.{eqb, leb}
 use borrow.Author.Tests.{eqb-false, leb-true, ne-eqb, le-leb, not-true}
 use Rattle.arith.proofs.Laws.Round.{round-multiple}
 use Rattle.arith.specs.Layout.{mapStart, firstPage, pageCount}
 use Rattle.arith.proofs.Laws.Layout.{map-ge, count-map, count-end}
 use Rattle.manager.proofs.Laws.Lists.{and-first, and-second}
-use Rattle.manager.specs.Map.{draw}
-use Rattle.manager.specs.Region.{pagesOf, baseOf, mapAt, mapWords, withSegments}
+use Rattle.manager.specs.Region.{pagesOf, baseOf, mapAt, mapWords}
 use Rattle.manager.specs.Partition.{isBuffer, chain}
-use Rattle.manager.proofs.Laws.Distinct.{On, same-or-not}
+use Rattle.manager.proofs.Laws.Distinct.{On, same-or-not, on-in}
 use Rattle.manager.proofs.Laws.Partition.Buffers.{Shaped, Laid, Buffer, buffer-of, Placed, placed, apart}
 use Rattle.manager.proofs.Laws.Partition.Chain.{linked-on}
 use Rattle.manager.proofs.Laws.Partition.Links.{Same, follow-same, linked-same}
@@ -26,12 +25,9 @@ use Rattle.manager.proofs.Laws.Partition.Live.{live-laid, live-size, live-chain
 use Rattle.manager.specs.Sound.{inside}
 use Rattle.manager.specs.declared.Region.{Region}
 use Rattle.manager.specs.declared.Partition.{Partition}
-use Rattle.trace.specs.Loans.{Loan, Ordered, drawn}
-use Rattle.trace.specs.Receipts.{RegionEntry, PartitionEntry, unit, pagesIn, firstIn, pageLoans, Within}
-use Rattle.trace.proofs.Invariant.{Inside, Only, regionFor, atAddresses, lentPages, RegionIs, PartitionIs}
-use Rattle.trace.proofs.Loans.Addresses.{pages-back}
-use Rattle.trace.proofs.Loans.Words.{size as drawn-size}
-use Rattle.trace.proofs.Buffers.{within-on, on-within}
+use Rattle.manager.specs.Lists.{In}
+use Rattle.trace.specs.Receipts.{RegionEntry, PartitionEntry, unit, pagesIn}
+use Rattle.trace.proofs.Invariant.{Inside, Only, regionFor, RegionIs, PartitionIs, OnlyMap}
 
 -- ---- words inside an area, and changes of nothing else
 
@@ -153,14 +149,6 @@ map-length m r h = omega (arith, length-take (pagesOf r) (drop (mapAt r) m), len
 pub map-words-only : (m : List ℕ) (r : Region) (ws : List ℕ) → length ws ≡ pagesOf r → Only (4 * mapAt r) (4 * pagesOf r) m (sets m (mapAt r) ws)
 map-words-only m r ws e = only-sets (4 * mapAt r) (4 * pagesOf r) m (mapAt r) ws (omega arith) (omega arith)
 
--- and so only words of the area
-pub map-only : (m : List ℕ) (r : Region) (ws : List ℕ) → 0 < r .page → 1 ≤ pagesOf r → length ws ≡ pagesOf r
-    → Only (r .start) (r .length) m (sets m (mapAt r) ws)
-map-only m r ws hp some e =
-    only-sets (r .start) (r .length) m (mapAt r) ws
-    (omega (arith, map-at (r .start), map-ge (r .start)))
-    (omega (arith, map-at (r .start), count-map (r .start) (r .length) (r .page) hp, count-end (r .start) (r .length) (r .page) hp some))
-
 -- what a live region's entry says of its numbers
 module _ (m : List ℕ) (e : RegionEntry) (is : RegionIs m e) where
   pub region-unit : 0 < unit e
@@ -171,6 +159,15 @@ module _ (m : List ℕ) (e : RegionEntry) (is : RegionIs m e) where
 
   pub region-before : (w : ℕ) → w < mapAt (regionFor e) + pagesIn e → 4 * w + 4 ≤ baseOf (regionFor e)
   region-before w h = map-before (e .start) (e .bytes) (unit e) region-unit (is .some-page) w h
+
+  -- a change of its map is one of its area
+  pub map-area : (m₁ m′ : List ℕ) → OnlyMap e m₁ m′ → Only (e .start) (e .bytes) m₁ m′
+  map-area m₁ m′ o =
+      record {
+        size = o .size;
+        same = λ w n. o .same w (λ (i : Inside (4 * mapAt (regionFor e)) (4 * pagesIn e) w).
+            n (region-inside w (omega (arith, i .low)) (omega (arith, i .high))));
+      }
 
   -- the map lies in the memory
   pub region-fits : mapAt (regionFor e) + pagesIn e ≤ length m
@@ -187,28 +184,8 @@ module _ (m : List ℕ) (e : RegionEntry) (is : RegionIs m e) where
         page-most = is .page-most;
         some-page = is .some-page;
         placed = is .placed;
-        ordered = is .ordered;
+        fits = is .fits;
         map = map-same m m′ (regionFor e) s h ∙ is .map;
-      }
-
-  -- loans given by pages are these by pages
-  pub lent-pages : (l : List Loan) → pageLoans (lentPages l e) ≡ l
-  lent-pages l = pages-back (firstIn e) (unit e) region-unit l
-
-  -- A LIVE REGION WITH OTHER LOANS, and the map drawn from them
-  pub region-redrawn : (l : List Loan) → Ordered (pagesIn e) 0 l → RegionIs (withSegments m (regionFor e) (drawn (pagesIn e) 0 l)) (lentPages l e)
-  region-redrawn l o =
-      record {
-        named = is .named;
-        inside = inside-same m (withSegments m (regionFor e) (drawn (pagesIn e) 0 l)) (e .start) (e .bytes) (length-sets m (mapAt (regionFor e)) (draw (drawn (pagesIn e) 0 l))) (is .inside);
-        page-some = is .page-some;
-        page-most = is .page-most;
-        some-page = is .some-page;
-        placed = ap (atAddresses e) (sym (lent-pages l));
-        ordered = subst (λ (k : List Loan). Ordered (pagesIn e) 0 k) (sym (lent-pages l)) o;
-        map =
-            map-stored m (regionFor e) (draw (drawn (pagesIn e) 0 l)) (drawn-size (pagesIn e) l o) region-fits
-            ∙ ap (λ (k : List Loan). draw (drawn (pagesIn e) 0 k)) (sym (lent-pages l));
       }
 
 -- ---- a partition: the link words of its chained buffers
@@ -235,9 +212,9 @@ module _ (m : List ℕ) (p : Partition) (e : PartitionEntry) (is : PartitionIs m
   buffer-lies a h = placed p partition-shaped a (buffer-is a h)
 
   -- a buffer on the chain is a buffer
-  pub chained-buffer : (a : ℕ) → Within a (e .unlent) → isBuffer p a ≡ true
+  pub chained-buffer : (a : ℕ) → In a (e .unlent) → isBuffer p a ≡ true
   chained-buffer a w =
-      linked-on m p (p .free) 0 (p .front) a (live-chain m p (is .sound)) (within-on a (chain m p) (rw (← is .chained) at w))
+      linked-on m p (p .free) 0 (p .front) a (live-chain m p (is .sound)) (on-in a (chain m p) .1 (rw (← is .chained) at w))
 
   -- two buffers share no byte
   pub buffers-apart : (a b : ℕ) → isBuffer p a ≡ true → isBuffer p b ≡ true → (a ≡ b) ⊎ ((a + p .size ≤ b) ⊎ (b + p .size ≤ a))
@@ -257,9 +234,9 @@ module _ (m : List ℕ) (p : Partition) (e : PartitionEntry) (is : PartitionIs m
   link-before a h = omega (arith, buffer-lies a h .aligned, partition-shaped .big)
 
   -- A LIVE PARTITION RESTS ON THE LINK WORDS OF ITS CHAINED BUFFERS
-  pub partition-same : (m′ : List ℕ) → length m′ ≡ length m → ((a : ℕ) → Within a (e .unlent) → Same m m′ a) → PartitionIs m′ p e
+  pub partition-same : (m′ : List ℕ) → length m′ ≡ length m → ((a : ℕ) → In a (e .unlent) → Same m m′ a) → PartitionIs m′ p e
   partition-same m′ s h =
-      let h′ : (a : ℕ) → On a (chain m p) → Same m m′ a = λ a w. h a (rw (is .chained) at (on-within a (chain m p) w)) in
+      let h′ : (a : ℕ) → On a (chain m p) → Same m m′ a = λ a w. h a (rw (is .chained) at (on-in a (chain m p) .0 w)) in
       record {
         named = is .named;
         name = is .name;

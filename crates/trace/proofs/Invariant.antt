@@ -2,24 +2,24 @@
 -- (regions, partitions, areas, queue). Everything that the manager keeps is determined by the receipts, but for what clients wrote.
 use mathlib.Core.Path.{_≡_}
 use mathlib.Core.Bool.{true}
-use mathlib.Core.List.{List, [], _∷_, _++_}
+use mathlib.Core.List.{List, [], _∷_}
 use mathlib.Core.Logic.{_⊎_}
 use mathlib.Core.Option.{Option, none, some}
-use Prim.Native.Nat.{ℕ, zero, suc, _+_, _*_, _≤_, _<_}
+use Prim.Native.Nat.{ℕ, _+_, _*_, _≤_, _<_}
 use lib.ListN.{length, getD}
-use Rattle.arith.specs.Round.{pagesFor}
-use Rattle.manager.specs.Record.{slots, tasks, noRegion, noPartition, noWaiter, idOf, regionOf, partitionOf}
+use Rattle.manager.specs.Record.{slots, tasks, noRegion, noPartition, noWaiter, regionOf, partitionOf}
 use Rattle.manager.specs.Result.{pad}
 use Rattle.manager.specs.Map.{draw}
-use Rattle.manager.specs.Region.{mapWords}
+use Rattle.manager.specs.Region.{mapAt, mapWords}
 use Rattle.manager.specs.Partition.{isBuffer, buffers, chain}
 use Rattle.manager.specs.Sound.{soundLength, inside, livePartition, soundAreas}
 use Rattle.manager.specs.declared.Manager.{Manager}
 use Rattle.manager.specs.declared.Region.{Region}
 use Rattle.manager.specs.declared.Partition.{Partition}
-use Rattle.trace.specs.Loans.{Loan, Ordered, drawn}
-use Rattle.trace.specs.Receipts.{Receipts, RegionEntry, PartitionEntry, Wait, unit, pagesIn, firstIn, pageLoans, withLoans, Within, Distinct}
-use Rattle.trace.specs.Replies.{queueOf}
+use Rattle.manager.specs.Lists.{In, Distinct}
+use Rattle.trace.specs.Loans.{Loan}
+use Rattle.trace.specs.Receipts.{Receipts, RegionEntry, PartitionEntry, Wait, unit, pagesIn, firstIn, pageLoans, reading, pagesOver}
+use Rattle.trace.specs.Queue.{inLine}
 use Rattle.trace.specs.Claims.{waitersOf}
 use Rattle.trace.proofs.Loans.Addresses.{atPages}
 
@@ -37,14 +37,15 @@ pub record Only (a n : ℕ) (m m′ : List ℕ) : Type 0 where
 abbrev pub regionFor : RegionEntry → Region
 regionFor e = record { name = e .name; start = e .start; length = e .bytes; page = unit e; order = e .order }
 
--- loans by their pages, at the addresses of an entry's pages; and the entry with these loans
+-- loans by their pages, at the addresses of an entry's pages
 abbrev pub atAddresses : RegionEntry → List Loan → List Loan
 atAddresses e l = atPages (firstIn e) (unit e) l
 
-abbrev pub lentPages : List Loan → RegionEntry → RegionEntry
-lentPages l e = withLoans (atAddresses e l) e
+-- only map words of an entry's region differ
+abbrev pub OnlyMap : RegionEntry → List ℕ → List ℕ → Type 0
+OnlyMap e m m′ = Only (4 * mapAt (regionFor e)) (4 * pagesIn e) m m′
 
--- a live region, and its picture: its loans are at addresses of its pages, in order, and the map is drawn from them
+-- a live region, and its picture: its loans are at addresses of its pages, they fit, and the map is drawn from them
 pub record RegionIs (m : List ℕ) (e : RegionEntry) : Type 0 where
   pub named : ¬ (e .name ≡ 0)
   pub inside : inside m (e .start) (e .bytes) ≡ true
@@ -52,8 +53,8 @@ pub record RegionIs (m : List ℕ) (e : RegionEntry) : Type 0 where
   pub page-most : e .page ≤ 4096
   pub some-page : 1 ≤ pagesIn e
   pub placed : e .loans ≡ atAddresses e (pageLoans e)
-  pub ordered : Ordered (pagesIn e) 0 (pageLoans e)
-  pub map : mapWords m (regionFor e) ≡ draw (drawn (pagesIn e) 0 (pageLoans e))
+  pub fits : reading e .Fits (pagesIn e) (pageLoans e)
+  pub map : mapWords m (regionFor e) ≡ draw (reading e .drawn (pagesIn e) (pageLoans e))
 
 pub data RegionSlot (m : List ℕ) : Region → Option RegionEntry → Type 0 where
   empty : RegionSlot m noRegion none
@@ -69,9 +70,9 @@ pub record PartitionIs (m : List ℕ) (p : Partition) (e : PartitionEntry) : Typ
   pub sound : livePartition m p ≡ true
   pub chained : chain m p ≡ e .unlent
   pub once : Distinct (e .lent)
-  pub buffer : (a : ℕ) → Within a (e .lent) → isBuffer p a ≡ true
-  pub either : (a : ℕ) → isBuffer p a ≡ true → Within a (e .lent) ⊎ Within a (e .unlent)
-  pub apart : (a : ℕ) → Within a (e .lent) → ¬ Within a (e .unlent)
+  pub buffer : (a : ℕ) → In a (e .lent) → isBuffer p a ≡ true
+  pub either : (a : ℕ) → isBuffer p a ≡ true → In a (e .lent) ⊎ In a (e .unlent)
+  pub apart : (a : ℕ) → In a (e .lent) → ¬ In a (e .unlent)
   pub counted : length (e .lent) + length (e .unlent) ≡ buffers p
 
 pub data PartitionSlot (m : List ℕ) : Partition → Option PartitionEntry → Type 0 where
@@ -83,35 +84,24 @@ pub record WaitIs (t : Receipts) (w : Wait) : Type 0 where
   pub entry : RegionEntry
   pub found : t .regions (w .id) ≡ some entry
   pub lending : ¬ (entry .loans ≡ [])
+  pub id-some : 1 ≤ w .id
   pub task-some : 1 ≤ w .task
   pub task-most : w .task ≤ tasks
   pub size-some : 1 ≤ w .size
-  pub size-most : pagesFor (w .size) (unit entry) ≤ pagesIn entry
+  pub size-most : pagesOver entry (w .size) ≤ pagesIn entry
   pub priority-some : 1 ≤ w .priority
   pub priority-most : w .priority ≤ 255
   pub time : (w .ticks ≡ 0) ⊎ (w .since < w .ticks)
-
-unfoldable pub AllWaits : Receipts → List Wait → Type 0
-AllWaits t [] = Unit {0}
-AllWaits t (w ∷ ws) = WaitIs t w × AllWaits t ws
 
 unfoldable pub tasksOf : List Wait → List ℕ
 tasksOf [] = []
 tasksOf (w ∷ ws) = w .task ∷ tasksOf ws
 
--- all waits as the record keeps them: region by region, each in its order
-abbrev pub queueAt : ℕ → Option RegionEntry → Receipts → List Wait
-queueAt id none t = []
-queueAt id (some e) t = queueOf id e t
-
-unfoldable pub queuesFrom : ℕ → ℕ → Receipts → List Wait
-queuesFrom zero i t = []
-queuesFrom (suc n) i t = queueAt (idOf i) (t .regions (idOf i)) t ++ queuesFrom n (suc i) t
-
+-- the waits, and their picture: the record keeps them as they stand in line
 pub record Waits (d : Manager) (t : Receipts) : Type 0 where
-  pub all : AllWaits t (t .waits)
+  pub each : (w : Wait) → In w (t .waits) → WaitIs t w
   pub once : Distinct (tasksOf (t .waits))
-  pub queue : d .waiters ≡ pad tasks noWaiter (waitersOf (queuesFrom slots 0 t))
+  pub queue : d .waiters ≡ pad tasks noWaiter (waitersOf (inLine t))
 
 -- the picture of the objects: the memory and the record as the receipts say
 pub record Picture (m : List ℕ) (d : Manager) (t : Receipts) : Type 0 where

@@ -3,8 +3,10 @@ pub mod Start
 pub mod Loans
 pub mod Buffers
 pub mod Frame
+pub mod Disjoint
 pub mod Areas
-pub mod Held
+pub mod Segments
+pub mod Map
 pub mod Grants
 pub mod Sound
 pub mod Clients
@@ -13,8 +15,8 @@ pub mod Apart
 pub mod Queue
 pub mod Regions
 pub mod Partitions
-pub mod Recover
+pub mod Reconstruct
 pub mod Claims
 pub mod Theorem
-pub mod Kept
+pub mod Preservation
 pub mod Replies

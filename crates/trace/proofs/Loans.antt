@@ -5,6 +5,5 @@ pub mod Drawn
 pub mod Get
 pub mod Change
 pub mod Words
-pub mod Book
 pub mod Lawful
 pub mod Pages

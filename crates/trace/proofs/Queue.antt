@@ -3,7 +3,7 @@ pub mod Line
 pub mod Order
 pub mod Places
 pub mod Tasks
-pub mod Shown
+pub mod Waiters
 pub mod Enter
 pub mod Grant
 pub mod Ticks

@@ -1,7 +1,6 @@
 -- EVERY CALL IS ANSWERED AS THE RECEIPTS SAY, in every state that they picture. Assumes nothing.
 pub mod Checks
 pub mod Ids
-pub mod Held
 pub mod Regions
 pub mod Waits
 pub mod Partitions

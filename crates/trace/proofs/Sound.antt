@@ -11,11 +11,12 @@ use Rattle.manager.specs.Sound.{soundPage, liveRegion, soundRegion, soundPartit
 use Rattle.manager.specs.declared.Manager.{Manager}
 use Rattle.manager.specs.declared.Region.{Region}
 use Rattle.manager.specs.declared.Partition.{Partition}
-use Rattle.trace.specs.Receipts.{Receipts, RegionEntry, PartitionEntry, unit, pagesIn, pageLoans}
+use Rattle.trace.specs.Receipts.{Receipts, RegionEntry, PartitionEntry, unit, pagesIn}
 use Rattle.trace.proofs.Invariant.{regionFor, RegionIs, RegionSlot, PartitionSlot, Inv, empty, live}
 use Rattle.trace.proofs.Frame.{unit-least, unit-most, unit-whole}
-use Rattle.trace.proofs.Areas.{at-every}
-use Rattle.trace.proofs.Loans.Words.{sound as drawn-sound}
+use Rattle.trace.proofs.Loans.Lawful.{drawn-is}
+use Rattle.trace.proofs.Segments.{law}
+use Rattle.trace.proofs.Disjoint.{at-every}
 
 -- a page size as create leaves it
 pub unit-sound : (e : RegionEntry) → 1 ≤ e .page → e .page ≤ 4096 → soundPage (unit e) ≡ true
@@ -27,7 +28,7 @@ pub region-live : (m : List ℕ) (e : RegionEntry) → RegionIs m e → liveRegi
 unfolding liveRegion
 region-live m e is =
     rw (is .inside, unit-sound e (is .page-some) (is .page-most), le-leb 1 (pagesIn e) (is .some-page), is .map)
-    (drawn-sound (pagesIn e) 0 (pageLoans e) (is .ordered))
+    (law e .sound (drawn-is _ _ (law e) (is .fits)))
 
 pub region-sound : (m : List ℕ) (r : Region) (o : Option RegionEntry) → RegionSlot m r o → soundRegion m r ≡ true
 unfolding soundRegion

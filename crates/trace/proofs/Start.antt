@@ -6,15 +6,16 @@ use mathlib.Core.Option.{none}
 use Prim.Native.Nat.{ℕ, zero, suc, _≤_}
 use lib.ListN.{length, getD, replicate}
 use borrow.Author.Tests.{le-leb}
-use Rattle.manager.specs.Lists.{every, pairwise}
+use Rattle.manager.specs.Lists.{every, pairwise, In, Distinct}
 use Rattle.manager.specs.Record.{slots, mostWords, noRegion, noPartition, slotOf, fresh}
 use Rattle.manager.specs.Region.{regionAreas, partitionAreas}
 use Rattle.manager.specs.Sound.{soundAreas}
 use Rattle.manager.specs.declared.Region.{Region}
 use Rattle.manager.specs.declared.Partition.{Partition}
-use Rattle.trace.specs.Receipts.{blank, Distinct}
+use Rattle.trace.specs.Receipts.{blank}
+use Rattle.trace.specs.Queue.{insertAll}
 use Rattle.trace.specs.Claims.{waitersOf}
-use Rattle.trace.proofs.Invariant.{RegionSlot, PartitionSlot, Inv, Waits, AllWaits, tasksOf, queuesFrom, empty}
+use Rattle.trace.proofs.Invariant.{RegionSlot, PartitionSlot, Inv, Waits, tasksOf, empty}
 
 -- any place of a list of one value has it
 pub getD-same : {A : Type 0} (n i : ℕ) (z : A) → getD (replicate n z) i z ≡ z
@@ -27,8 +28,8 @@ unfolding pairwise every regionAreas partitionAreas
 fresh-areas = refl
 
 fresh-waits : Waits fresh blank
-unfolding AllWaits Distinct tasksOf queuesFrom waitersOf
-fresh-waits = record { all = tt; once = tt; queue = refl }
+unfolding In Distinct tasksOf insertAll waitersOf
+fresh-waits = record { each = λ w m. absurd m; once = tt; queue = refl }
 
 -- THE INVARIANT AT THE START
 pub start-inv : (m : List ℕ) → 1 ≤ length m → length m ≤ mostWords → Inv m fresh blank

@@ -11,9 +11,8 @@ use Prim.Native.Nat.{ℕ, _+_, _-_, _*_, _/_, _≤_, _<_}
 use lib.ListN.{length, getD, take, drop}
 use lib.Seq.{sets}
 use lib.Dec.{eqb}
-use Rattle.arith.specs.Round.{pagesFor}
 use Rattle.arith.specs.Layout.{mapStart}
-use Rattle.manager.specs.Record.{slots, mostWords, partitionOf}
+use Rattle.manager.specs.Record.{mostWords, partitionOf}
 use Rattle.manager.specs.Map.{Segment, free, held, draw, decode}
 use Rattle.manager.specs.Perform.{Implementation}
 use Rattle.manager.specs.declared.Waiter.{Waiter}
@@ -22,9 +21,12 @@ use Rattle.manager.specs.declared.Call.{Call}
 use Rattle.manager.specs.declared.Call.the-variants.{GetSegment, ReturnSegment, SegmentSize, ResizeSegment, RegionInformation, GetBuffer, Tick}
 use Rattle.manager.specs.declared.Wait.the-variants.{No}
 use Rattle.manager.specs.declared.Status.the-variants.{Successful, Unsatisfied, InternalError}
-use Rattle.trace.specs.Loans.{Loan, Lent, Run, Lowest, Room, Ordered, drawn, loanPages, sum, enter, amend}
-use Rattle.trace.specs.Receipts.{Receipts, RegionEntry, PartitionEntry, Wait, replyOf, isSuccess, unit, pagesIn, addressIn, pageIn, byPage, pageLoans, buffersIn, buffersFrom, Within, Distinct}
-use Rattle.trace.specs.Replies.{queueOf, dueFrom, informationIn, grantTo, byReceipts, writeByReceipts, readByReceipts}
+use Rattle.manager.specs.Lists.{In, Distinct}
+use Rattle.trace.specs.Loans.{Loan, Lent, loanPages, sum, enter, amend}
+use Rattle.trace.specs.Reading.{NoPlace}
+use Rattle.trace.specs.Receipts.{reading, pagesOver, Receipts, RegionEntry, PartitionEntry, Wait, replyOf, isSuccess, unit, pagesIn, addressIn, pageIn, byPage, pageLoans, buffersIn, buffersFrom}
+use Rattle.trace.specs.Queue.{queueOf, inLine, dueIn}
+use Rattle.trace.specs.Replies.{informationIn, grantTo, byReceipts, writeByReceipts, readByReceipts}
 use Rattle.trace.specs.Trace.{Ask, call, read, write, State, answer, answerWrite, after, Object, Loaned, Owned, Runs, start}
 
 -- a wait as the record keeps it: with the ticks that it has left
@@ -43,13 +45,19 @@ unfoldable pub waitersFor : ℕ → List Waiter → List Waiter
 waitersFor id [] = []
 waitersFor id (w ∷ ws) = cond (not (eqb (w .task) 0) && eqb (w .region) id) (w ∷ waitersFor id ws) (waitersFor id ws)
 
--- GRANTS BY THE RECEIPTS, with the loans l: to the first waits in order, each at the lowest run at that moment, up to the first wait that
--- has none
+-- OF A REGION WITH THE LOANS l, at addresses: no place would serve a get of so many bytes; page p is the one that it takes
+abbrev pub Full : RegionEntry → List Loan → ℕ → Type 0
+Full e l size = NoPlace (reading e) (pagesIn e) (byPage e l) (pagesOver e size)
+
+abbrev pub Takes : RegionEntry → List Loan → ℕ → ℕ → Type 0
+Takes e l size p = reading e .Chosen (pagesIn e) (byPage e l) (pagesOver e size) p
+
+-- GRANTS BY THE RECEIPTS: to the first waits in order, each at the place that a get takes at that moment, up to the first wait that has none
 pub data Grants (e : RegionEntry) : List Loan → List Wait → List Notice → Type 0 where
   all : {l : List Loan} → Grants e l [] []
-  stop : {l : List Loan} {w : Wait} {ws : List Wait} → ((p : ℕ) → ¬ Run (pagesIn e) (byPage e l) (pagesFor (w .size) (unit e)) p) → Grants e l (w ∷ ws) []
-  grant : {l : List Loan} {w : Wait} {ws : List Wait} {ns : List Notice} {p : ℕ} → Lowest (pagesIn e) (byPage e l) (pagesFor (w .size) (unit e)) p
-      → Grants e (enter (addressIn e p) (pagesFor (w .size) (unit e)) l) ws ns
+  stop : {l : List Loan} {w : Wait} {ws : List Wait} → Full e l (w .size) → Grants e l (w ∷ ws) []
+  grant : {l : List Loan} {w : Wait} {ws : List Wait} {ns : List Notice} (p : ℕ) → Takes e l (w .size) p
+      → Grants e (enter (addressIn e p) (pagesOver e (w .size)) l) ws ns
       → Grants e l (w ∷ ws) (grantTo w (addressIn e p) ∷ ns)
 
 -- a region's map words in the memory: where they lie, and how many they are, follows from what create asked for
@@ -67,21 +75,20 @@ pub record RegionClaims (i : Implementation) (s : State) (id : ℕ) (e : RegionE
   -- "Where an object's pages or buffers lie follows from what create asked for": each loan is at the address of a page
   pub placed : (a k : ℕ) → Lent (e .loans) a k → a ≡ addressIn e (pageIn e a)
   -- its loans lie in its pages, and no two share one
-  pub ordered : Ordered (pagesIn e) 0 (pageLoans e)
+  pub ordered : reading e .Fits (pagesIn e) (pageLoans e)
   -- "The drawn map has a held segment for each loan and a free one for each unbroken run of unheld pages, taken whole": the region's map
   -- is the drawn one
-  pub map : mapIn (s .memory) e ≡ draw (drawn (pagesIn e) 0 (pageLoans e))
+  pub map : mapIn (s .memory) e ≡ draw (reading e .drawn (pagesIn e) (pageLoans e))
   -- pages held by the receipts and pages free in the map make up the region
   pub counted : sum (loanPages (e .loans)) + freePages (decode (mapIn (s .memory) e)) ≡ pagesIn e
   -- "A get is valid if its checks ahead of 13, the one for 25 aside, refuse nothing": one that won't wait is answered 13 exactly when no
-  -- run of adjoining unheld pages is long enough
-  pub unsatisfied : (size task priority ticks : ℕ) → 0 < size → pagesFor size (unit e) ≤ pagesIn e
+  -- place would serve it: no run of adjoining unheld pages is long enough
+  pub unsatisfied : (size task priority ticks : ℕ) → 0 < size → pagesOver e size ≤ pagesIn e
+      → (answer i s (GetSegment id size No task priority ticks) .status ≡ Unsatisfied) ↔ Full e (e .loans) size
+  -- else the address is that of the place that its region's kind chooses: of pages, the lowest that fits
+  pub lowest : (size task priority ticks : ℕ) → 0 < size → pagesOver e size ≤ pagesIn e
       → (answer i s (GetSegment id size No task priority ticks) .status ≡ Unsatisfied)
-      ↔ ((p : ℕ) → ¬ Run (pagesIn e) (pageLoans e) (pagesFor size (unit e)) p)
-  -- else the address is the lowest that fits
-  pub lowest : (size task priority ticks : ℕ) → 0 < size → pagesFor size (unit e) ≤ pagesIn e
-      → (answer i s (GetSegment id size No task priority ticks) .status ≡ Unsatisfied)
-      ⊎ ((p : ℕ) × Lowest (pagesIn e) (pageLoans e) (pagesFor size (unit e)) p
+      ⊎ ((p : ℕ) × Takes e (e .loans) size p
       × (answer i s (GetSegment id size No task priority ticks) .status ≡ Successful)
       × (answer i s (GetSegment id size No task priority ticks) .value ≡ addressIn e p))
   -- "a read is empty only where the receipts have no loan at that address in that region"
@@ -94,11 +101,11 @@ pub record RegionClaims (i : Implementation) (s : State) (id : ℕ) (e : RegionE
   pub resize : (a k size : ℕ) → Lent (e .loans) a k → 0 < size
       → (answer i s (ResizeSegment id a size) .value ≡ k * unit e)
       × ((answer i s (ResizeSegment id a size) .status ≡ Unsatisfied)
-      ↔ (¬ Room (pagesIn e) (pageLoans e) (pageIn e a) k (pagesFor size (unit e))))
+      ↔ (¬ reading e .Room (pagesIn e) (pageLoans e) (pageIn e a) k (pagesOver e size)))
   -- the queue is the waits of the receipts, in order
   pub queue : waitersFor id (s .manager .waiters) ≡ waitersOf (queueOf id e (s .receipts))
-  -- after a return the grants go to the first waits in that order, each to the lowest run at that moment, and stop exactly at the first
-  -- that has none ("the stop rule")
+  -- after a return the grants go to the first waits in that order, each to the place that a get takes at that moment, and stop exactly
+  -- at the first that has none ("the stop rule")
   pub return : (a k : ℕ) → Lent (e .loans) a k
       → (answer i s (ReturnSegment id a) .status ≡ Successful)
       × Grants e (amend a 0 (e .loans)) (queueOf id e (s .receipts)) (answer i s (ReturnSegment id a) .notices)
@@ -116,8 +123,8 @@ pub record PartitionClaims (i : Implementation) (s : State) (id : ℕ) (e : Part
   -- no buffer is lent twice
   pub once : Distinct (e .lent)
   -- held and chained buffers make up the partition, and none is both
-  pub each : (a : ℕ) → Within a (buffersFrom (buffersIn e) (e .size) (e .start)) ↔ (Within a (e .lent) ⊎ Within a (e .unlent))
-  pub either : (a : ℕ) → Within a (e .lent) → ¬ Within a (e .unlent)
+  pub each : (a : ℕ) → In a (buffersFrom (buffersIn e) (e .size) (e .start)) ↔ (In a (e .lent) ⊎ In a (e .unlent))
+  pub either : (a : ℕ) → In a (e .lent) → ¬ In a (e .unlent)
   pub counted : length (e .lent) + length (e .unlent) ≡ buffersIn e
   -- a get is answered 13 exactly when every buffer is held; else the address is the front of the chain as the receipts have it
   pub unsatisfied : (answer i s (GetBuffer id) .status ≡ Unsatisfied) ↔ (length (e .lent) ≡ buffersIn e)
@@ -156,7 +163,7 @@ pub record Claims (i : Implementation) (s : State) : Type 0 where
   pub sound : (c : Call) → ¬ (answer i s c .status ≡ InternalError)
   pub sound-write : (id address first : ℕ) (words : List ℕ) → ¬ (answerWrite i s id address first words .status ≡ InternalError)
   -- a tick sends 6 to exactly those waits whose ticks have run out by the ticks counted since they began, and serves nobody ("ticks left")
-  pub tick : answer i s Tick .notices ≡ dueFrom slots 1 (s .receipts)
+  pub tick : answer i s Tick .notices ≡ dueIn (inLine (s .receipts))
 
 -- "Demand 3 is a single claim about the list and the writes between its calls, and not one for each call": after every list of calls and
 -- writes, from a fresh start over any memory of allowed length

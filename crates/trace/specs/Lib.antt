@@ -1,5 +1,8 @@
 pub mod Loans
+pub mod Reading
+pub mod Pages
 pub mod Receipts
+pub mod Queue
 pub mod Replies
 pub mod Examples
 pub mod Trace

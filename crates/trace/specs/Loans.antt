@@ -1,13 +1,12 @@
--- Document 01, "Receipts, for demand 3": the loans of one region, and what is read off them alone: which pages are held, the runs of
--- unheld pages, and the drawn map. The receipts keep a loan at the address that was answered. Which pages it covers is read off the same
--- list with each address turned into the number of its page (`inPages`). Nothing here looks at a map or at a memory. Assumes nothing.
+-- Document 01, "Receipts, for demand 3": the loans of one region, and which pages they hold. The receipts keep a loan at the address that was
+-- answered. Which pages it covers is read off the same list with each address turned into the number of its page (`inPages`). Nothing here
+-- looks at a map or at a memory. Assumes nothing.
 use mathlib.Core.Path.{_≡_}
 use mathlib.Core.Bool.{cond}
 use mathlib.Core.List.{List, [], _∷_}
 use mathlib.Core.Logic.{_⊎_}
 use Prim.Native.Nat.{ℕ, zero, suc, _+_, _-_, _/_, _≤_, _<_, max}
 use lib.Dec.{leb, eqb}
-use Rattle.manager.specs.Map.{Segment, free, held}
 
 -- a loan of pages: where it starts (an address, or a page's number), and how many pages it has
 pub data Loan : Type 0 where
@@ -50,15 +49,6 @@ unfoldable pub loanPages : List Loan → List ℕ
 loanPages [] = []
 loanPages (loan a n ∷ l) = n ∷ loanPages l
 
--- the pages of each unbroken run of unheld pages, from page `at` to page n, taken whole; a gap of no page is no run
-abbrev pub size+ : ℕ → List ℕ → List ℕ
-size+ zero s = s
-size+ (suc g) s = suc g ∷ s
-
-unfoldable pub runs : ℕ → ℕ → List Loan → List ℕ
-runs n at [] = size+ (n - at) []
-runs n at (loan a k ∷ l) = size+ (a - at) (runs n (a + k) l)
-
 -- of a list of sizes: the largest (0: there is none), and all together
 unfoldable pub most : List ℕ → ℕ
 most [] = 0
@@ -68,34 +58,8 @@ unfoldable pub sum : List ℕ → ℕ
 sum [] = 0
 sum (n ∷ ns) = n + sum ns
 
--- a free segment for an unbroken run of unheld pages, taken whole; none where there is no such page
-abbrev pub run+ : ℕ → List Segment → List Segment
-run+ zero s = s
-run+ (suc g) s = free (suc g) ∷ s
-
--- THE DRAWN MAP, from page `at` to page n: "a held segment for each loan and a free one for each unbroken run of unheld pages, taken
--- whole"
-unfoldable pub drawn : ℕ → ℕ → List Loan → List Segment
-drawn n at [] = run+ (n - at) []
-drawn n at (loan a k ∷ l) = run+ (a - at) (held k ∷ drawn n (a + k) l)
-
--- the loans lie in order between page `at` and page n, each of a page or more, and none starts before the one before it has ended
-unfoldable pub Ordered : ℕ → ℕ → List Loan → Type 0
-Ordered n at [] = at ≤ n
-Ordered n at (loan a k ∷ l) = (at ≤ a) × (0 < k) × Ordered n (a + k) l
-
 -- a run: k adjoining pages from p on, one or more, of n pages, none of them held
 pub record Run (n : ℕ) (l : List Loan) (k p : ℕ) : Type 0 where
   pub some : 0 < k
   pub upto : p + k ≤ n
   pub unheld : (q : ℕ) → p ≤ q → q < p + k → ¬ Held l q
-
--- the lowest run of k pages
-pub record Lowest (n : ℕ) (l : List Loan) (k p : ℕ) : Type 0 where
-  pub run : Run n l k p
-  pub first : (q : ℕ) → Run n l k q → p ≤ q
-
--- the loan of m pages at page p can have k: the pages that it lacks are pages of the region, and unheld
-pub record Room (n : ℕ) (l : List Loan) (p m k : ℕ) : Type 0 where
-  pub upto : p + k ≤ n
-  pub unheld : (q : ℕ) → p + m ≤ q → q < p + k → ¬ Held l q

@@ -1,10 +1,8 @@
 -- Document 01, "Receipts, for demand 3": written from the arguments and answers of the calls, never from the record or the memory.
 -- Assumes nothing.
-use mathlib.Core.Path.{_≡_}
 use mathlib.Core.Bool.{Bool, cond}
 use mathlib.Core.List.{List, [], _∷_, _++_}
 use mathlib.Core.Option.{Option, none, some}
-use mathlib.Core.Logic.{_⊎_}
 use Prim.Native.Nat.{ℕ, zero, suc, _+_, _-_, _*_, _/_}
 use lib.Dec.{eqb}
 use Rattle.arith.specs.Round.{roundUp, pagesFor}
@@ -18,6 +16,8 @@ use Rattle.manager.specs.declared.Information.{Information}
 use Rattle.manager.specs.declared.Order.{Order}
 use Rattle.manager.specs.declared.Status.{Status}
 use Rattle.trace.specs.Loans.{Loan, enter, amend, inPages}
+use Rattle.trace.specs.Reading.{Reading}
+use Rattle.trace.specs.Pages.{readingOf}
 
 -- an object under its id: what was asked for, and its loans, each at the address that was answered, in the order of the addresses
 pub record RegionEntry : Type 0 where
@@ -72,6 +72,13 @@ addressIn e p = firstIn e + p * unit e
 abbrev pub pageIn : RegionEntry → ℕ → ℕ
 pageIn e a = (a - firstIn e) / unit e
 
+-- what they say of its kind, and the pages that are given for so many bytes: "rounded up by the region's rule"
+abbrev pub reading : RegionEntry → Reading
+reading e = readingOf (e .order)
+
+abbrev pub pagesOver : RegionEntry → ℕ → ℕ
+pagesOver e size = reading e .rounded (pagesFor size (unit e))
+
 -- loans at addresses of a region, by their pages; and all its loans so
 abbrev pub byPage : RegionEntry → List Loan → List Loan
 byPage e l = inPages (firstIn e) (unit e) l
@@ -88,8 +95,8 @@ buffersFrom zero size a = []
 buffersFrom (suc n) size a = a ∷ buffersFrom n size (a + size)
 
 -- an entry under an id
-abbrev pub put : {A : Type 0} → ℕ → Option A → (ℕ → Option A) → ℕ → Option A
-put id e f j = cond (eqb j id) e (f j)
+abbrev pub update : {A : Type 0} → ℕ → Option A → (ℕ → Option A) → ℕ → Option A
+update id e f j = cond (eqb j id) e (f j)
 
 -- a change of the entry under an id, where there is one
 abbrev pub mapOption : {A : Type 0} → (A → A) → Option A → Option A
@@ -97,26 +104,16 @@ mapOption f none = none
 mapOption f (some x) = some (f x)
 
 abbrev pub onRegion : ℕ → (RegionEntry → RegionEntry) → Receipts → Receipts
-onRegion id f t = record { regions = put id (mapOption f (t .regions id)) (t .regions); partitions = t .partitions; waits = t .waits }
+onRegion id f t = record { regions = update id (mapOption f (t .regions id)) (t .regions); partitions = t .partitions; waits = t .waits }
 
 abbrev pub onPartition : ℕ → (PartitionEntry → PartitionEntry) → Receipts → Receipts
-onPartition id f t = record { regions = t .regions; partitions = put id (mapOption f (t .partitions id)) (t .partitions); waits = t .waits }
+onPartition id f t = record { regions = t .regions; partitions = update id (mapOption f (t .partitions id)) (t .partitions); waits = t .waits }
 
 abbrev pub withLoans : List Loan → RegionEntry → RegionEntry
 withLoans l e = record { name = e .name; start = e .start; bytes = e .bytes; page = e .page; order = e .order; loans = l }
 
 abbrev pub withBuffers : List ℕ → List ℕ → PartitionEntry → PartitionEntry
 withBuffers l u e = record { name = e .name; start = e .start; bytes = e .bytes; size = e .size; lent = l; unlent = u }
-
--- a number is on a list
-unfoldable pub Within : ℕ → List ℕ → Type 0
-Within a [] = ⊥
-Within a (x ∷ xs) = (x ≡ a) ⊎ Within a xs
-
--- no number is on it twice
-unfoldable pub Distinct : List ℕ → Type 0
-Distinct [] = Unit {0}
-Distinct (x ∷ xs) = (¬ Within x xs) × Distinct xs
 
 -- one number struck from a list
 unfoldable pub strike : ℕ → List ℕ → List ℕ
@@ -126,10 +123,10 @@ strike a (x ∷ xs) = cond (eqb x a) xs (x ∷ strike a xs)
 -- "get enters a loan at the answered address, of the size rounded up by the region's rule"; "resize gives the loan at its address the
 -- new size, rounded alike; return strikes that loan": the one at exactly that address
 abbrev pub lend : ℕ → ℕ → RegionEntry → RegionEntry
-lend a size e = withLoans (enter a (pagesFor size (unit e)) (e .loans)) e
+lend a size e = withLoans (enter a (pagesOver e size) (e .loans)) e
 
 abbrev pub refit : ℕ → ℕ → RegionEntry → RegionEntry
-refit a size e = withLoans (amend a (pagesFor size (unit e)) (e .loans)) e
+refit a size e = withLoans (amend a (pagesOver e size) (e .loans)) e
 
 abbrev pub giveBack : ℕ → RegionEntry → RegionEntry
 giveBack a e = withLoans (amend a 0 (e .loans)) e
@@ -164,21 +161,21 @@ allLater (w ∷ ws) = later w ∷ allLater ws
 abbrev pub entered : Call → ℕ → Receipts → Receipts
 entered (CreateRegion name start bytes page order) v t =
     record {
-      regions = put v (some (record { name = name; start = start; bytes = bytes; page = page; order = order; loans = [] })) (t .regions);
+      regions = update v (some (record { name = name; start = start; bytes = bytes; page = page; order = order; loans = [] })) (t .regions);
       partitions = t .partitions;
       waits = t .waits;
     }
-entered (DeleteRegion id) v t = record { regions = put id none (t .regions); partitions = t .partitions; waits = t .waits }
+entered (DeleteRegion id) v t = record { regions = update id none (t .regions); partitions = t .partitions; waits = t .waits }
 entered (GetSegment id size wait task priority ticks) v t = onRegion id (lend v size) t
 entered (ReturnSegment id address) v t = onRegion id (giveBack address) t
 entered (ResizeSegment id address size) v t = onRegion id (refit address size) t
 entered (CreatePartition name start bytes size) v t =
     record {
       regions = t .regions;
-      partitions = put v (some (record { name = name; start = start; bytes = bytes; size = size; lent = []; unlent = buffersFrom (bytes / size) size start })) (t .partitions);
+      partitions = update v (some (record { name = name; start = start; bytes = bytes; size = size; lent = []; unlent = buffersFrom (bytes / size) size start })) (t .partitions);
       waits = t .waits;
     }
-entered (DeletePartition id) v t = record { regions = t .regions; partitions = put id none (t .partitions); waits = t .waits }
+entered (DeletePartition id) v t = record { regions = t .regions; partitions = update id none (t .partitions); waits = t .waits }
 entered (GetBuffer id) v t = onPartition id (λ e. withBuffers (v ∷ e .lent) (strike v (e .unlent)) e) t
 entered (ReturnBuffer id address) v t = onPartition id (λ e. withBuffers (strike address (e .lent)) (e .unlent ++ (address ∷ [])) e) t
 entered Tick v t = withWaits (allLater (t .waits)) t

@@ -1,14 +1,15 @@
 -- Document 01 by the receipts: what every call is answered, from its arguments, the receipts and the memory's length. No word of the
 -- memory and no field of the record is looked at. Assumes nothing.
 use mathlib.Core.Bool.{Bool, true, false, cond, not, _&&_, _||_}
-use mathlib.Core.List.{List, [], _∷_, _++_}
+use mathlib.Core.List.{List, [], _∷_}
 use mathlib.Core.Option.{Option, none, some}
-use Prim.Native.Nat.{ℕ, zero, suc, _+_, _-_, _*_, _/_, _%_}
+use Prim.Native.Nat.{ℕ, zero, suc, _+_, _*_, _/_, _%_}
 use lib.ListN.{length, take, drop}
 use lib.Dec.{eqb, leb, ltb}
-use Rattle.arith.specs.Round.{roundUp, pagesFor}
+use Rattle.arith.specs.Round.{roundUp}
 use Rattle.arith.specs.Layout.{pageCount}
 use Rattle.manager.specs.Record.{slots, tasks, noInformation}
+use Rattle.manager.specs.Lists as lists
 use Rattle.manager.specs.Result.{Check, check}
 use Rattle.manager.specs.Serve.{onPlace}
 use Rattle.manager.specs.declared.Notice.{Notice}
@@ -16,54 +17,18 @@ use Rattle.manager.specs.declared.Information.{Information}
 use Rattle.manager.specs.declared.Call.{Call}
 use Rattle.manager.specs.declared.Call.the-variants.{CreateRegion, IdentRegion, DeleteRegion, GetSegment, ReturnSegment, SegmentSize, ResizeSegment, RegionInformation, CreatePartition, IdentPartition, DeletePartition, GetBuffer, ReturnBuffer, Tick}
 use Rattle.manager.specs.declared.Place.{Place}
-use Rattle.manager.specs.declared.Place.the-variants.{At, Nowhere}
 use Rattle.manager.specs.declared.Wait as asking
 use Rattle.manager.specs.declared.Wait.the-variants.{No, Yes}
-use Rattle.manager.specs.declared.Order.{Order}
-use Rattle.manager.specs.declared.Order.the-variants.{Fifo, Priority}
 use Rattle.manager.specs.declared.Status.{Status}
-use Rattle.manager.specs.declared.Status.the-variants.{Successful, InvalidName, InvalidId, TooMany, Timeout, InvalidSize, InvalidAddress, InvalidNumber, ResourceInUse, Unsatisfied, IncorrectState, InvalidPriority, Waiting}
-use Rattle.trace.specs.Loans.{Loan, loan, loanPages, runs, most, sum, enter, amend}
-use Rattle.trace.specs.Receipts.{Receipts, RegionEntry, Wait, Reply, unit, pagesIn, addressIn, pageIn, byPage, pageLoans}
-
--- THE QUEUE BY THE RECEIPTS: a region's waits, by arrival, or by priority and equal ones by arrival
-unfoldable pub waitsIn : ℕ → List Wait → List Wait
-waitsIn id [] = []
-waitsIn id (w ∷ ws) = cond (eqb (w .id) id) (w ∷ waitsIn id ws) (waitsIn id ws)
-
-abbrev pub urgentThan : Order → Wait → Wait → Bool
-urgentThan Fifo w x = false
-urgentThan Priority w x = ltb (w .priority) (x .priority)
-
-unfoldable pub behind : Order → Wait → List Wait → List Wait
-behind o w [] = w ∷ []
-behind o w (x ∷ xs) = cond (urgentThan o w x) (w ∷ x ∷ xs) (x ∷ behind o w xs)
-
-unfoldable pub arranged : Order → List Wait → List Wait → List Wait
-arranged o q [] = q
-arranged o q (w ∷ ws) = arranged o (behind o w q) ws
-
-abbrev pub queueOf : ℕ → RegionEntry → Receipts → List Wait
-queueOf id e t = arranged (e .order) [] (waitsIn id (t .waits))
-
--- TIME-OUTS BY THE RECEIPTS: the waits whose ticks run out at this tick, by the ticks counted since they began; regions in order
-unfoldable pub dueIn : List Wait → List Notice
-dueIn [] = []
-dueIn (w ∷ ws) =
-    cond (eqb (w .ticks) (w .since + 1)) (record { task = w .task; status = Timeout; address = 0 } ∷ dueIn ws) (dueIn ws)
-
-abbrev pub dueOf : ℕ → Option RegionEntry → Receipts → List Notice
-dueOf id none t = []
-dueOf id (some e) t = dueIn (queueOf id e t)
-
-unfoldable pub dueFrom : ℕ → ℕ → Receipts → List Notice
-dueFrom zero id t = []
-dueFrom (suc n) id t = dueOf id (t .regions id) t ++ dueFrom n (suc id) t
+use Rattle.manager.specs.declared.Status.the-variants.{Successful, InvalidName, InvalidId, TooMany, InvalidSize, InvalidAddress, InvalidNumber, ResourceInUse, Unsatisfied, IncorrectState, InvalidPriority, Waiting}
+use Rattle.trace.specs.Loans.{Loan, loan, loanPages, most, sum, enter, amend}
+use Rattle.trace.specs.Receipts.{Receipts, RegionEntry, Wait, Reply, unit, reading, pagesOver, pagesIn, addressIn, pageIn, byPage, pageLoans}
+use Rattle.trace.specs.Queue.{queueOf, inLine, dueIn}
 
 -- INFORMATION BY THE RECEIPTS: count, largest and total bytes over the runs of unheld pages, then over the loans
 abbrev pub informationIn : RegionEntry → Information
 informationIn e =
-    let frees = runs (pagesIn e) 0 (pageLoans e) in
+    let frees = reading e .runs (pagesIn e) (pageLoans e) in
     let helds = loanPages (e .loans) in
     record {
       «free_count» = length frees;
@@ -152,41 +117,25 @@ unfoldable pub pagesAt : ℕ → List Loan → ℕ
 pagesAt a [] = 0
 pagesAt a (loan b k ∷ l) = cond (eqb b a) k (pagesAt a l)
 
--- where the next loan starts, or the region of n pages ends
-abbrev pub upTo : ℕ → List Loan → ℕ
-upTo n [] = n
-upTo n (loan a k ∷ l) = a
+-- where a get of so many bytes is placed, with the loans l at addresses; and the most pages that the loan at an address can have
+abbrev pub placeIn : RegionEntry → List Loan → ℕ → Place
+placeIn e l size = reading e .place (pagesIn e) (byPage e l) (pagesOver e size)
 
--- the most pages, of n, that the loan at page p can have: its own, and the unheld ones up to the next loan
-unfoldable pub mostPagesAt : ℕ → ℕ → List Loan → ℕ
-mostPagesAt n p [] = 0
-mostPagesAt n p (loan a k ∷ l) = cond (eqb a p) (upTo n l - a) (mostPagesAt n p l)
+abbrev pub mostIn : RegionEntry → ℕ → ℕ
+mostIn e a = reading e .most (pagesIn e) (pageLoans e) (pageIn e a)
 
--- the lowest run of k unheld pages, of n, from page `at` on: the first gap between loans that has k pages
-unfoldable pub lowestRun : ℕ → ℕ → ℕ → List Loan → Place
-lowestRun n k at [] = cond (leb k (n - at)) (At at) Nowhere
-lowestRun n k at (loan a m ∷ l) = cond (leb k (a - at)) (At at) (lowestRun n k (a + m) l)
-
-abbrev pub pagesOver : RegionEntry → ℕ → ℕ
-pagesOver e size = pagesFor size (unit e)
-
--- with the loans l, at addresses
-abbrev pub runIn : RegionEntry → ℕ → List Loan → Place
-runIn e size l = lowestRun (pagesIn e) (pagesOver e size) 0 (byPage e l)
-
--- GRANTS: to the first waits in order, each at the lowest run at that moment, up to the first wait that has none
+-- GRANTS: to the first waits in order, each where a get of its size is placed at that moment, up to the first wait that has no place
 abbrev pub grantTo : Wait → ℕ → Notice
 grantTo w a = record { task = w .task; status = Successful; address = a }
 
 unfoldable pub grantsIn : RegionEntry → List Loan → List Wait → List Notice
 grantsIn e l [] = []
 grantsIn e l (w ∷ ws) =
-    onPlace (runIn e (w .size) l) (λ p. grantTo w (addressIn e p) ∷ grantsIn e (enter (addressIn e p) (pagesOver e (w .size)) l) ws) []
+    onPlace (placeIn e l (w .size)) (λ p. grantTo w (addressIn e p) ∷ grantsIn e (enter (addressIn e p) (pagesOver e (w .size)) l) ws) []
 
 -- a task waits
-unfoldable pub waitsAlready : ℕ → List Wait → Bool
-waitsAlready task [] = false
-waitsAlready task (w ∷ ws) = eqb (w .task) task || waitsAlready task ws
+abbrev pub waitsAlready : ℕ → List Wait → Bool
+waitsAlready task ws = lists.some (λ w. eqb (w .task) task) ws
 
 -- "if waiting is allowed 10, 19, 14"
 abbrev pub waitingChecks : Receipts → asking.Wait → ℕ → ℕ → List Check
@@ -199,10 +148,10 @@ waitingChecks t Yes task priority =
     ∷ check (waitsAlready task (t .waits)) IncorrectState
     ∷ []
 
--- no run: 13, or the task now waits
-abbrev pub noRun : asking.Wait → Reply
-noRun No = no Unsatisfied
-noRun Yes = no Waiting
+-- no place: 13, or the task now waits
+abbrev pub noPlace : asking.Wait → Reply
+noPlace No = no Unsatisfied
+noPlace Yes = no Waiting
 
 -- "the value is the old length, with 13 too"
 abbrev pub resizes : Bool → ℕ → Reply
@@ -211,9 +160,8 @@ resizes false v = record { status = Unsatisfied; value = v; information = noInfo
 
 -- ---- BUFFERS OF A PARTITION
 
-unfoldable pub listed : ℕ → List ℕ → Bool
-listed a [] = false
-listed a (x ∷ l) = eqb x a || listed a l
+abbrev pub listed : ℕ → List ℕ → Bool
+listed a l = lists.some (eqb a) l
 
 abbrev pub lentAny : List ℕ → Bool
 lentAny [] = false
@@ -249,7 +197,7 @@ byReceipts n t (GetSegment id size wait task priority ticks) =
     decided (check (eqb size 0) InvalidSize ∷ [])
     (living (t .regions id) (λ e.
     decided (check (ltb (pagesIn e) (pagesOver e size)) InvalidSize ∷ waitingChecks t wait task priority)
-    (onPlace (runIn e size (e .loans)) (λ p. yes (addressIn e p)) (noRun wait))))
+    (onPlace (placeIn e (e .loans) size) (λ p. yes (addressIn e p)) (noPlace wait))))
 -- return: 4, 9; then the queue is served
 byReceipts n t (ReturnSegment id a) =
     living (t .regions id) (λ e.
@@ -265,7 +213,7 @@ byReceipts n t (ResizeSegment id a size) =
     decided (check (eqb size 0) InvalidSize ∷ [])
     (living (t .regions id) (λ e.
     decided (check (eqb (pagesAt a (e .loans)) 0) InvalidAddress ∷ [])
-    (resizes (leb (pagesOver e size) (mostPagesAt (pagesIn e) (pageIn e a) (pageLoans e))) (pagesAt a (e .loans) * unit e))))
+    (resizes (leb (pagesOver e size) (mostIn e a)) (pagesAt a (e .loans) * unit e))))
 -- information: 4
 byReceipts n t (RegionInformation id) = living (t .regions id) (λ e. informs (informationIn e))
 -- create partition: 3, start 9, alignment 9, past memory 9, length or size 0 (8), length below size 8, size not a multiple of 4 or
@@ -295,7 +243,7 @@ byReceipts n t (GetBuffer id) = living (t .partitions id) (λ e. front (e .unlen
 byReceipts n t (ReturnBuffer id a) =
     living (t .partitions id) (λ e. decided (check (not (listed a (e .lent))) InvalidAddress ∷ []) (yes 0))
 -- a tick: no check of its own; the time-outs
-byReceipts n t Tick = tells (dueFrom slots 1 t)
+byReceipts n t Tick = tells (dueIn (inLine t))
 
 -- a write of a held segment: 4, 9, then 8. A read: the words of the loan at the address, none where there is no such loan
 abbrev pub writeByReceipts : Receipts → ℕ → ℕ → ℕ → List ℕ → Reply

@@ -10,8 +10,9 @@ use Rattle.manager.specs.Result.{Result}
 use Rattle.manager.specs.Perform.{Implementation}
 use Rattle.manager.specs.declared.Manager.{Manager}
 use Rattle.manager.specs.declared.Call.{Call}
+use Rattle.manager.specs.Lists.{In}
 use Rattle.trace.specs.Loans.{Lent}
-use Rattle.trace.specs.Receipts.{Receipts, RegionEntry, PartitionEntry, blank, unit, Within, replyOf, note}
+use Rattle.trace.specs.Receipts.{Receipts, RegionEntry, PartitionEntry, blank, unit, replyOf, note}
 
 -- one of a list of calls: a directive, or a read or write of a held segment
 pub data Ask : Type 0 where
@@ -54,7 +55,7 @@ pub data Object : Type 0 where
 -- the bytes of an object's loan: from an address on, so many
 pub data Loaned (t : Receipts) : Object → ℕ → ℕ → Type 0 where
   segment : {id a : ℕ} (e : RegionEntry) → t .regions id ≡ some e → (k : ℕ) → Lent (e .loans) a k → Loaned t (region id) a (k * unit e)
-  buffer : {id a : ℕ} (e : PartitionEntry) → t .partitions id ≡ some e → Within a (e .lent) → Loaned t (partition id) a (e .size)
+  buffer : {id a : ℕ} (e : PartitionEntry) → t .partitions id ≡ some e → In a (e .lent) → Loaned t (partition id) a (e .size)
 
 -- word i is of what clients hold
 abbrev pub Owned : Receipts → ℕ → Type 0

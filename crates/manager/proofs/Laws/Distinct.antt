@@ -1,16 +1,17 @@
--- Numbers on a list, and lists without repeats: as many as there are numbers of a kind at most. Assumes nothing.
+-- Numbers on a list, and lists without repeats, by tests: as many as there are numbers of a kind at most. Each test says what `In` and
+-- `Distinct` say. Assumes nothing.
 use Prim.Native.Nat.{ℕ, zero, suc, _≤_, _<_}
 use mathlib.Core.Path.{_≡_, refl, sym, _∙_}
 use mathlib.Core.Bool.{Bool, true, false, not, cond, _&&_, false≢true}
 use mathlib.Core.List.{List, [], _∷_}
-use mathlib.Core.Logic.{_⊎_, inl, inr, ⊎-elim}
+use mathlib.Core.Logic.{_⊎_, inl, inr, _↔_, ⊎-elim}
 use native.Mathlib.Omega.{arith}
 use lib.ListN.{length}
 use lib.Dec.{eqb}
 use borrow.Author.Tests.{eqb-true, eqb-false, eq-eqb, ne-eqb}
-use Rattle.manager.specs.Lists.{some}
+use Rattle.manager.specs.Lists.{some, In, Distinct}
 
--- a number is on a list, or is not
+-- whether a number is on a list
 abbrev pub On : ℕ → List ℕ → Type 0
 On x l = some (eqb x) l ≡ true
 
@@ -79,6 +80,25 @@ module _ (x : ℕ) (l : List ℕ) where
   pub distinct-tail : distinct (x ∷ l) ≡ true → distinct l ≡ true
   unfolding distinct
   distinct-tail p = rw (distinct-head p) at p
+
+-- THE TESTS SAY WHAT IS MEANT
+pub on-in : (x : ℕ) (l : List ℕ) → On x l ↔ In x l
+unfolding In
+on-in x [] = (λ h. absurd (on-nil x h), λ h. absurd h)
+on-in x (y ∷ l) =
+    let ih = on-in x l in (
+      λ h. ⊎-elim (λ (e : x ≡ y). inl (sym e)) (λ (k : On x l). inr (ih .0 k)) (on-cases x y l h),
+      λ h. ⊎-elim (λ (e : y ≡ x). on-head x y l (sym e)) (λ (k : In x l). on-tail x y l (ih .1 k)) h,
+    )
+
+pub distinct-is : (l : List ℕ) → (distinct l ≡ true) ↔ Distinct l
+unfolding Distinct distinct
+distinct-is [] = (λ h. tt, λ h. refl)
+distinct-is (x ∷ l) =
+    let ih = distinct-is l in (
+      λ h. (λ k. on-off x l (on-in x l .1 k) (distinct-head x l h), ih .0 (distinct-tail x l h)),
+      λ h. distinct-cons x l (off-by x l (λ k. h .0 (on-in x l .0 k))) (ih .1 (h .1)),
+    )
 
 -- a list without the first x on it
 unfoldable pub remove : ℕ → List ℕ → List ℕ

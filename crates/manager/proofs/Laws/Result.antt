@@ -3,13 +3,19 @@
 -- `search (needs, checking)` walks a chain from the tests on a path of the code. Assumes nothing.
 use Prim.Native.Nat.{ℕ}
 use mathlib.Core.Path.{_≡_, refl, sym, _∙_}
-use mathlib.Core.Bool.{Bool, true, false, not}
+use mathlib.Core.Bool.{Bool, true, false, not, cond}
 use mathlib.Core.List.{List, [], _∷_}
+use Rattle.manager.specs.Lists.{every}
+use Rattle.manager.proofs.Laws.Lists.{and-first, and-second}
+use Rattle.manager.proofs.Laws.Appended.{by-case}
+use Rattle.manager.specs.Regions.{answered}
+use Rattle.manager.specs.Sound.{sound}
 use borrow.Author.Tests.{eq-eqb, ne-eqb, lt-ltb, le-ltb, le-leb, lt-leb}
-use Rattle.manager.specs.Result.{Result, Performs, Check, check, checked, answerOf, replied}
+use Rattle.manager.specs.Result.{Result, Performs, Check, check, checked, answerOf, replied, refused}
 use Rattle.manager.specs.declared.Manager.{Manager}
 use Rattle.manager.specs.declared.Answer.{Answer}
 use Rattle.manager.specs.declared.Status.{Status}
+use Rattle.manager.specs.declared.Status.the-variants.{InternalError}
 
 -- the result of a chain
 module _ (b : Bool) (s : Status) (cs : List Check) (refuse : Status → Result) (act : Result) where
@@ -24,6 +30,35 @@ module _ (b : Bool) (s : Status) (cs : List Check) (refuse : Status → Result) 
 pub checked-all : (refuse : Status → Result) (act : Result) → checked [] refuse act ≡ act
 unfolding checked
 checked-all refuse act = refl
+
+-- EVERY CHECK PASSES AND THE DIRECTIVE ACTS, OR ONE REFUSES: what holds of the action and of each refusal holds of the answer. `t` is what
+-- is known of the statuses of the checks
+unfoldable pub Passed : List Check → Type 0
+Passed [] = Unit {0}
+Passed (c ∷ cs) = (c .fails ≡ false) × Passed cs
+
+pub by-checks : (P : Result → Type 0) (t : Status → Bool) (cs : List Check) (refuse : Status → Result) (act : Result)
+    → every (λ c. t (c .status)) cs ≡ true → ((s : Status) → t s ≡ true → P (refuse s)) → (Passed cs → P act) → P (checked cs refuse act)
+unfolding checked Passed every
+by-checks P t [] refuse act h f g = g tt
+by-checks P t (c ∷ cs) refuse act h f g =
+    by-case (c .fails) (λ b. P (cond b (refuse (c .status)) (checked cs refuse act)))
+    (λ e. f (c .status) (and-first (t (c .status)) (every (λ k. t (k .status)) cs) h))
+    (λ e. by-checks P t cs refuse act (and-second (t (c .status)) (every (λ k. t (k .status)) cs) h) f (λ p. g (e, p)))
+
+-- in front of them stands the check of the records: unsound ones are answered 25, and of sound ones it passes
+module _ (m : List ℕ) (d : Manager) (cs : List Check) (act : Result) where
+  pub answered-sound : sound m d ≡ true → answered m d cs act ≡ checked cs (refused m d) act
+  unfolding checked
+  answered-sound e = rw e
+
+  pub by-answer : (P : Result → Type 0) (t : Status → Bool) → every (λ c. t (c .status)) cs ≡ true
+      → (sound m d ≡ false → P (refused m d InternalError)) → (sound m d ≡ true → (s : Status) → t s ≡ true → P (refused m d s))
+      → (sound m d ≡ true → Passed cs → P act) → P (answered m d cs act)
+  unfolding checked
+  by-answer P t h f g k =
+      by-case (sound m d) (λ b. P (cond (not b) (refused m d InternalError) (checked cs (refused m d) act)))
+      (λ e. by-checks P t cs (refused m d) act h (g e) (k e)) f
 
 -- what a call performs
 module _ (m : List ℕ) (a : Answer) where

@@ -38,7 +38,7 @@ module _ (m : List ℕ) (d : Manager) (ok : sound m d ≡ true) where
   sound-queue = and-second (soundAreas d) _ (and-second (every (soundPartition m) (d .partitions)) _ (and-second (every (soundRegion m) (d .regions)) _ tail))
 
 -- of one slot
-live-of : (m : List ℕ) (r : Region) → soundRegion m r ≡ true → dead r ≡ false → liveRegion m r ≡ true
+pub live-of : (m : List ℕ) (r : Region) → soundRegion m r ≡ true → dead r ≡ false → liveRegion m r ≡ true
 unfolding soundRegion
 live-of m r e f = rw f at e
 

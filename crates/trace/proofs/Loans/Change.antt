@@ -12,10 +12,10 @@ use borrow.Author.Tests.{eq-eqb, ne-eqb}
 use Rattle.manager.specs.Map.{held}
 use Rattle.manager.specs.Paged.{free+, held+, lead, rest, heldFrom, reachFrom, changeFrom}
 use Rattle.manager.proofs.Laws.Paged.{free-join}
-use Rattle.trace.specs.Loans.{Loan, loan, loan+, amend, Lent, Held, drawn, Ordered, Room}
-use Rattle.trace.specs.Replies.{upTo, mostPagesAt}
+use Rattle.trace.specs.Loans.{Loan, loan, loan+, amend, Lent, Held}
+use Rattle.trace.specs.Pages.{drawn, Ordered, Room, upTo, mostPagesAt}
 use Rattle.trace.proofs.Loans.Tests.{by-leb, by-eqb}
-use Rattle.trace.proofs.Loans.Drawn.{next, onward, drawn-next, lead-onward, rest-onward, ordered-next, ordered-end, ordered-from, held-after, next-held, lent-after}
+use Rattle.trace.proofs.Loans.Drawn.{onward, drawn-next, lead-onward, rest-onward, ordered-next, ordered-end, ordered-from, held-after, next-held, lent-after}
 
 -- ---- past the free pages in front
 
@@ -41,7 +41,7 @@ change-gap n p k at (suc g) (loan a m ∷ l) = refl
 
 -- the most that a loan of m pages at page a can have, with the loans l behind it
 abbrev pub mostAt : ℕ → ℕ → ℕ → List Loan → ℕ
-mostAt n a m l = m + (next n l - (a + m))
+mostAt n a m l = m + (upTo n l - (a + m))
 
 module _ (n p at a m : ℕ) (l : List Loan) (o : Ordered n at (loan a m ∷ l)) where
   there : at + (a - at) ≡ a
@@ -55,15 +55,15 @@ module _ (n p at a m : ℕ) (l : List Loan) (o : Ordered n at (loan a m ∷ l)) 
   pub reach-first : reachFrom p at (drawn n at (loan a m ∷ l)) ≡ cond (eqb a p) (mostAt n a m l) (reachFrom p (a + m) (drawn n (a + m) l))
   unfolding reachFrom
   reach-first =
-      let e : lead (drawn n (a + m) l) ≡ next n l - (a + m) = ap lead (drawn-next n (a + m) l) ∙ lead-onward (next n l - (a + m)) n l in
+      let e : lead (drawn n (a + m) l) ≡ upTo n l - (a + m) = ap lead (drawn-next n (a + m) l) ∙ lead-onward (upTo n l - (a + m)) n l in
       rw (drawn-next n at (loan a m ∷ l), reach-gap n p at (a - at) (loan a m ∷ l), there, e)
 
   change-first : (k : ℕ) → changeFrom p k at (drawn n at (loan a m ∷ l))
       ≡ free+ (a - at) (cond (eqb a p) (held+ k (free+ (mostAt n a m l - k) (onward n l))) (held m ∷ changeFrom p k (a + m) (drawn n (a + m) l)))
   unfolding changeFrom
   change-first k =
-      let e : lead (drawn n (a + m) l) ≡ next n l - (a + m) = ap lead (drawn-next n (a + m) l) ∙ lead-onward (next n l - (a + m)) n l in
-      let r : rest (drawn n (a + m) l) ≡ onward n l = ap rest (drawn-next n (a + m) l) ∙ rest-onward (next n l - (a + m)) n l in
+      let e : lead (drawn n (a + m) l) ≡ upTo n l - (a + m) = ap lead (drawn-next n (a + m) l) ∙ lead-onward (upTo n l - (a + m)) n l in
+      let r : rest (drawn n (a + m) l) ≡ onward n l = ap rest (drawn-next n (a + m) l) ∙ rest-onward (upTo n l - (a + m)) n l in
       rw (drawn-next n at (loan a m ∷ l), change-gap n p k at (a - at) (loan a m ∷ l), there, e, r)
 
   -- a loan behind the first does not start where that does
@@ -97,21 +97,21 @@ held-some n at (loan a m ∷ l) p o x =
 room-here : (n at a m : ℕ) (l : List Loan) → Ordered n at (loan a m ∷ l) → (k : ℕ) → (k ≤ mostAt n a m l) ↔ Room n (loan a m ∷ l) a m k
 unfolding Ordered Held
 room-here n at a m l o k =
-    let le : a + m ≤ next n l = ordered-next n (a + m) l (o .2) in
-    let end : next n l ≤ n = ordered-end n (a + m) l (o .2) in (
+    let le : a + m ≤ upTo n l = ordered-next n (a + m) l (o .2) in
+    let end : upTo n l ≤ n = ordered-end n (a + m) l (o .2) in (
       λ h. record {
         upto = omega arith;
         unheld = λ q b u x. elim x [ inl y ↦ omega arith | inr y ↦ omega (arith, held-after n (a + m) l q (o .2) y) ];
       },
       λ r. by-leb k (mostAt n a m l) (λ (t : Bool). k ≤ mostAt n a m l) (λ h. h)
-          (λ h. absurd (r .unheld (next n l) le (omega arith) (inr (next-held n (a + m) l (o .2) (omega (arith, r .upto)))))),
+          (λ h. absurd (r .unheld (upTo n l) le (omega arith) (inr (next-held n (a + m) l (o .2) (omega (arith, r .upto)))))),
     )
 
 room-behind : (n at a m : ℕ) (l : List Loan) → Ordered n at (loan a m ∷ l) → (p j k : ℕ) → Lent l p j → Room n l p j k ↔ Room n (loan a m ∷ l) p j k
 unfolding Ordered Held
 room-behind n at a m l o p j k i =
-    let le : a + m ≤ next n l = ordered-next n (a + m) l (o .2) in
-    let from : next n l ≤ p = lent-after n (a + m) l p j (o .2) i in (
+    let le : a + m ≤ upTo n l = ordered-next n (a + m) l (o .2) in
+    let from : upTo n l ≤ p = lent-after n (a + m) l p j (o .2) i in (
       λ r. record { upto = r .upto; unheld = λ q b u x. elim x [ inl y ↦ omega arith | inr y ↦ r .unheld q b u y ] },
       λ r. record { upto = r .upto; unheld = λ q b u x. r .unheld q b u (inr x) },
     )
@@ -128,15 +128,11 @@ reach-is n at (loan a j ∷ l) p m k o (inr x) =
     rw (reach-first n p at a j l o, ne-eqb a p (lent-behind n p at a j l o m x)) (λ h. b .0 (ih .0 h), λ r. ih .1 (b .1 r))
 
 -- and that is the most by the loans
-next-is : (n : ℕ) (l : List Loan) → next n l ≡ upTo n l
-next-is n [] = refl
-next-is n (loan a k ∷ l) = refl
-
 pub most-from : (n p at : ℕ) (l : List Loan) → Ordered n at l → reachFrom p at (drawn n at l) ≡ mostPagesAt n p l
 unfolding mostPagesAt reachFrom Ordered
 most-from n p at [] o = ap (reachFrom p at) (drawn-next n at []) ∙ reach-gap n p at (n - at) []
 most-from n p at (loan q k ∷ l) o =
-    let g : k + (next n l - (q + k)) ≡ upTo n l - q = omega (arith, ordered-next n (q + k) l (o .2), next-is n l) in
+    let g : k + (upTo n l - (q + k)) ≡ upTo n l - q = omega (arith, ordered-next n (q + k) l (o .2)) in
     reach-first n p at q k l o ∙ rw (g, most-from n p (q + k) l (o .2))
 
 -- ---- return and resize
@@ -153,12 +149,12 @@ module _ (n at a m : ℕ) (l : List Loan) (o : Ordered n at (loan a m ∷ l)) wh
   drawn-here : (k : ℕ) → k ≤ mostAt n a m l → free+ (a - at) (held+ k (free+ (mostAt n a m l - k) (onward n l))) ≡ drawn n at (loan+ a k l)
   unfolding Ordered
   drawn-here zero h =
-      let le : a + m ≤ next n l = ordered-next n (a + m) l (o .2) in
-      let same : a - at + (mostAt n a m l - 0) ≡ next n l - at = omega arith in
+      let le : a + m ≤ upTo n l = ordered-next n (a + m) l (o .2) in
+      let same : a - at + (mostAt n a m l - 0) ≡ upTo n l - at = omega arith in
       free-join (a - at) (mostAt n a m l - 0) (onward n l) ∙ rw (same, drawn-next n at l)
   drawn-here (suc k) h =
-      let le : a + m ≤ next n l = ordered-next n (a + m) l (o .2) in
-      let same : mostAt n a m l - suc k ≡ next n l - (a + suc k) = omega arith in
+      let le : a + m ≤ upTo n l = ordered-next n (a + m) l (o .2) in
+      let same : mostAt n a m l - suc k ≡ upTo n l - (a + suc k) = omega arith in
       rw (drawn-next n at (loan a (suc k) ∷ l), same, drawn-next n (a + suc k) l)
 
   ordered-here : (k : ℕ) → k ≤ mostAt n a m l → Ordered n at (loan+ a k l)

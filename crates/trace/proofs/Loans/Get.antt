@@ -13,10 +13,10 @@ use Rattle.manager.specs.Map.{Segment, held}
 use Rattle.manager.specs.Paged.{free+, placeFrom, take}
 use Rattle.manager.specs.declared.Place.{Place}
 use Rattle.manager.specs.declared.Place.the-variants.{At, Nowhere}
-use Rattle.trace.specs.Loans.{Loan, loan, enter, Held, drawn, Ordered, Run}
-use Rattle.trace.specs.Replies.{lowestRun}
+use Rattle.trace.specs.Loans.{Loan, loan, enter, Held, Run}
+use Rattle.trace.specs.Pages.{drawn, Ordered, lowestRun, upTo}
 use Rattle.trace.proofs.Loans.Tests.{by-leb}
-use Rattle.trace.proofs.Loans.Drawn.{next, onward, drawn-next, ordered-end, ordered-from, held-after}
+use Rattle.trace.proofs.Loans.Drawn.{onward, drawn-next, ordered-end, ordered-from, held-after}
 
 -- what a get of k pages has to come to, from page `at` on: the lowest run, lent, or nothing where there is none
 pub data Got (n at : ℕ) (l : List Loan) (k : ℕ) : Place → List Segment → Type 0 where
@@ -37,7 +37,7 @@ take-gap n k zero l h = rw (lt-leb k 0 h)
 take-gap n k (suc g) [] h = refl
 take-gap n k (suc g) (loan a m ∷ l) h = refl
 
-pub enter-first : (n at k : ℕ) (l : List Loan) → at ≤ next n l → enter at k l ≡ loan at k ∷ l
+pub enter-first : (n at k : ℕ) (l : List Loan) → at ≤ upTo n l → enter at k l ≡ loan at k ∷ l
 unfolding enter
 enter-first n at k [] h = refl
 enter-first n at k (loan a m ∷ l) h = rw (le-leb at a h)
@@ -47,13 +47,13 @@ unfolding enter
 enter-behind a m p k l h = rw (lt-leb p a h)
 
 -- the free pages before the first loan serve
-first : (n at k : ℕ) (l : List Loan) → Ordered n at l → 0 < k → k ≤ next n l - at
-    → Got n at l k (At at) (held k ∷ free+ (next n l - at - k) (onward n l))
+first : (n at k : ℕ) (l : List Loan) → Ordered n at l → 0 < k → k ≤ upTo n l - at
+    → Got n at l k (At at) (held k ∷ free+ (upTo n l - at - k) (onward n l))
 unfolding drawn Ordered free+
 first n at k l o z h =
     let here : enter at k l ≡ loan at k ∷ l = enter-first n at k l (omega arith) in
-    let same : next n l - at - k ≡ next n l - (at + k) = omega arith in
-    let is : held k ∷ free+ (next n l - at - k) (onward n l) ≡ drawn n at (enter at k l) = rw (here, sub-self, drawn-next n (at + k) l, same) in
+    let same : upTo n l - at - k ≡ upTo n l - (at + k) = omega arith in
+    let is : held k ∷ free+ (upTo n l - at - k) (onward n l) ≡ drawn n at (enter at k l) = rw (here, sub-self, drawn-next n (at + k) l, same) in
     gave at is (rw here (le-refl at, z, ordered-from n at (at + k) l o (omega arith))) (le-refl at)
     (record { some = z; upto = omega (arith, ordered-end n at l o); unheld = λ q b u x. omega (arith, held-after n at l q o x) })
     (λ q b u. b)

@@ -12,9 +12,10 @@ use Rattle.manager.specs.Map.{Segment, free, held, isHeldSegment, draw, decode,
 use Rattle.manager.proofs.Laws.Map.{Well, sound-drawn, reread, well-decoded, length-draw, total-decoded}
 use Rattle.manager.specs.Paged.{free+}
 use Rattle.manager.proofs.Laws.Paged.{free-join, total-free, well-free, free-front}
-use Rattle.trace.specs.Loans.{Loan, loan, run+, size+, drawn, runs, Ordered, loanPages, sum}
+use Rattle.trace.specs.Loans.{Loan, loan, loanPages, sum}
+use Rattle.trace.specs.Pages.{runs, size+, run+, drawn, Ordered, upTo}
 use Rattle.trace.specs.Claims.{freePages}
-use Rattle.trace.proofs.Loans.Drawn.{next, onward, drawn-next, ordered-next, ordered-from}
+use Rattle.trace.proofs.Loans.Drawn.{onward, drawn-next, ordered-next, ordered-from}
 
 -- ---- the words
 
@@ -119,9 +120,9 @@ loansOf at (held n ∷ s) = loan at n ∷ loansOf (at + n) s
 -- a map from an earlier page on
 pub drawn-back : (n at g : ℕ) (l : List Loan) → Ordered n (at + g) l → free+ g (drawn n (at + g) l) ≡ drawn n at l
 drawn-back n at g l o =
-    let le : at + g ≤ next n l = ordered-next n (at + g) l o in
-    let same : g + (next n l - (at + g)) ≡ next n l - at = omega arith in
-    ap (free+ g) (drawn-next n (at + g) l) ∙ free-join g (next n l - (at + g)) (onward n l) ∙ rw (same, drawn-next n at l)
+    let le : at + g ≤ upTo n l = ordered-next n (at + g) l o in
+    let same : g + (upTo n l - (at + g)) ≡ upTo n l - at = omega arith in
+    ap (free+ g) (drawn-next n (at + g) l) ∙ free-join g (upTo n l - (at + g)) (onward n l) ∙ rw (same, drawn-next n at l)
 
 pub record Loans (n at : ℕ) (s : List Segment) (l : List Loan) : Type 0 where
   pub ordered : Ordered n at l

@@ -21,17 +21,19 @@ use Rattle.manager.proofs.Laws.Partition.Buffers.{Shaped}
 use Rattle.manager.proofs.Laws.Partition.Created.{addresses, all-length, all-clear, create-chain}
 use Rattle.manager.proofs.Laws.Partition.Area.{create-outside}
 use Rattle.manager.proofs.Laws.Partition.Live.{new-laid, new-created, live-new}
+use Rattle.manager.proofs.Laws.Result.{Passed}
 use Rattle.manager.specs.Partitions.{partitionNamed, newPartition, createPartition}
 use Rattle.manager.specs.declared.Manager.{Manager}
 use Rattle.manager.specs.declared.Partition.{Partition}
 use Rattle.manager.specs.declared.Call.the-variants.{CreatePartition}
-use Rattle.trace.specs.Receipts.{Receipts, PartitionEntry, buffersFrom, Within, Distinct}
+use Rattle.manager.specs.Lists.{In, Distinct}
+use Rattle.trace.specs.Receipts.{Receipts, PartitionEntry, buffersFrom}
 use Rattle.trace.proofs.Invariant.{Only, PartitionIs, Inv, live}
 use Rattle.trace.proofs.Areas.{overlaps-clear}
 use Rattle.trace.proofs.Buffers.{length-buffers, numbered-buffers, buffer-within}
 use Rattle.trace.proofs.Clients.{NoLink, owned-no-link}
-use Rattle.trace.proofs.Regions.Picture.{put-here}
-use Rattle.trace.proofs.Regions.Checks.{Passed, Kept, kept-checked}
+use Rattle.trace.proofs.Regions.Picture.{update-here}
+use Rattle.trace.proofs.Regions.Checks.{Kept, kept-checked}
 use Rattle.trace.proofs.Regions.Queue.{sound-inv}
 use Rattle.trace.proofs.Partitions.Slot.{keeping, put-keeps, outside, kept-done}
 
@@ -66,7 +68,7 @@ module _ (m : List ℕ) (name start bytes size : ℕ) (named : ¬ (name ≡ 0)) 
 
   -- A LIVE PARTITION, WITH NOTHING LENT
   new-is : PartitionIs (chaining m name start bytes size) new (asked name start bytes size)
-  unfolding Within Distinct
+  unfolding In Distinct
   new-is =
       record {
         named = named;
@@ -102,7 +104,7 @@ module _ (m : List ℕ) (d : Manager) (t : Receipts) (v : Inv m d t) (name start
         put-keeps m d t v (idOf slot) (record { within = within; is = refl }) p _ _ only
         (λ x n. overlaps-clear d (v .picture .region-slots) (v .picture .partition-slots) (areaOf p) clear x) (live p e is) in
         kept-done (CreatePartition name start bytes size) m t (keeping (idOf slot) (some e) t) _ (withPartition d slot p) (idOf slot) refl after
-        (λ w h h′. words w (owned-no-link _ _ (keeping (idOf slot) (some e) t) after (idOf slot) e (put-here (idOf slot) (some e) (t .partitions)) w h′))
+        (λ w h h′. words w (owned-no-link _ _ (keeping (idOf slot) (some e) t) after (idOf slot) e (update-here (idOf slot) (some e) (t .partitions)) w h′))
 
   -- A CREATE KEEPS THE PICTURE
   pub keeps-create : Kept (CreatePartition name start bytes size) m t (createPartition m d name start bytes size)

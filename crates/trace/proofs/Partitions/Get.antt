@@ -15,16 +15,19 @@ use Rattle.manager.specs.Partition.{isBuffer, chain, afterGet, gotten}
 use Rattle.manager.proofs.Laws.Partition.Links.{get-chain, get-buffer}
 use Rattle.manager.proofs.Laws.Partition.Area.{get-length, get-outside, get-only}
 use Rattle.manager.proofs.Laws.Partition.Live.{live-get, live-chain}
+use Rattle.manager.proofs.Laws.Result.{Passed}
+use Rattle.manager.proofs.Laws.Distinct.{on-in}
 use Rattle.manager.specs.Partitions.{getBuffer}
 use Rattle.manager.specs.declared.Manager.{Manager}
 use Rattle.manager.specs.declared.Partition.{Partition}
 use Rattle.manager.specs.declared.Call.the-variants.{GetBuffer}
-use Rattle.trace.specs.Receipts.{Receipts, PartitionEntry, Within, Distinct, strike, withBuffers}
+use Rattle.manager.specs.Lists.{In, Distinct}
+use Rattle.trace.specs.Receipts.{Receipts, PartitionEntry, strike, withBuffers}
 use Rattle.trace.proofs.Invariant.{Only, PartitionIs, Inv, live}
 use Rattle.trace.proofs.Frame.{partition-laid, partition-shaped}
 use Rattle.trace.proofs.Clients.{NoLink, owned-no-link}
-use Rattle.trace.proofs.Buffers.{on-within, strike-here, within-strike, strike-other, strike-length}
-use Rattle.trace.proofs.Regions.Checks.{Passed, Kept, kept-checked}
+use Rattle.trace.proofs.Buffers.{strike-here, within-strike, strike-other, strike-length}
+use Rattle.trace.proofs.Regions.Checks.{Kept, kept-checked}
 use Rattle.trace.proofs.Regions.Queue.{sound-inv}
 use Rattle.trace.proofs.Partitions.Slot.{unlent-once, partition-entry, on-partition, put-keeps, live-slot, live-clear, outside, kept-done}
 
@@ -40,13 +43,13 @@ module _ (m : List ℕ) (p : Partition) (e : PartitionEntry) (is : PartitionIs m
   struck : strike (p .front) (e .unlent) ≡ chain (afterGet m p) (gotten m p)
   struck = ap (strike (p .front)) front-first ∙ strike-here (p .front) (p .front) (chain (afterGet m p) (gotten m p)) refl
 
-  front-within : Within (p .front) (e .unlent)
-  unfolding Within
+  front-within : In (p .front) (e .unlent)
+  unfolding In
   front-within = rw front-first (inl refl)
 
   -- A LIVE PARTITION, WITH ITS FRONT LENT
   pub got-is : PartitionIs (afterGet m p) (gotten m p) (lentOne (p .front) e)
-  unfolding Within Distinct
+  unfolding In Distinct
   got-is =
       record {
         named = is .named;
@@ -56,29 +59,29 @@ module _ (m : List ℕ) (p : Partition) (e : PartitionEntry) (is : PartitionIs m
         size = is .size;
         sound = live-get m p (is .sound) h;
         chained = sym struck;
-        once = (λ (w : Within (p .front) (e .lent)). is .apart (p .front) w front-within, is .once);
+        once = (λ (w : In (p .front) (e .lent)). is .apart (p .front) w front-within, is .once);
         buffer = buffer;
         either = either;
         apart = apart;
         counted = omega (arith, is .counted, strike-length (p .front) (e .unlent) front-within);
       }
     where
-      buffer : (a : ℕ) → (p .front ≡ a) ⊎ Within a (e .lent) → isBuffer p a ≡ true
+      buffer : (a : ℕ) → (p .front ≡ a) ⊎ In a (e .lent) → isBuffer p a ≡ true
       buffer a (inl q) = subst (λ (x : ℕ). isBuffer p x ≡ true) q (get-buffer m p (partition-laid m p e is) (live-chain m p (is .sound)) h)
       buffer a (inr w) = is .buffer a w
 
-      chained-or : (a : ℕ) → Within a (p .front ∷ chain (afterGet m p) (gotten m p)) → ((p .front ≡ a) ⊎ Within a (e .lent)) ⊎ Within a (strike (p .front) (e .unlent))
+      chained-or : (a : ℕ) → In a (p .front ∷ chain (afterGet m p) (gotten m p)) → ((p .front ≡ a) ⊎ In a (e .lent)) ⊎ In a (strike (p .front) (e .unlent))
       chained-or a (inl q) = inl (inl q)
       chained-or a (inr w) = inr (rw struck w)
 
-      either : (a : ℕ) → isBuffer p a ≡ true → ((p .front ≡ a) ⊎ Within a (e .lent)) ⊎ Within a (strike (p .front) (e .unlent))
+      either : (a : ℕ) → isBuffer p a ≡ true → ((p .front ≡ a) ⊎ In a (e .lent)) ⊎ In a (strike (p .front) (e .unlent))
       either a b = go (is .either a b)
         where
-          go : Within a (e .lent) ⊎ Within a (e .unlent) → ((p .front ≡ a) ⊎ Within a (e .lent)) ⊎ Within a (strike (p .front) (e .unlent))
+          go : In a (e .lent) ⊎ In a (e .unlent) → ((p .front ≡ a) ⊎ In a (e .lent)) ⊎ In a (strike (p .front) (e .unlent))
           go (inl w) = inl (inr w)
           go (inr w) = chained-or a (rw front-first at w)
 
-      apart : (a : ℕ) → (p .front ≡ a) ⊎ Within a (e .lent) → ¬ Within a (strike (p .front) (e .unlent))
+      apart : (a : ℕ) → (p .front ≡ a) ⊎ In a (e .lent) → ¬ In a (strike (p .front) (e .unlent))
       apart a (inl q) u = strike-other (p .front) a (e .unlent) (unlent-once m p e is) u (sym q)
       apart a (inr w) u = is .apart a w (within-strike (p .front) a (e .unlent) u)
 
@@ -90,7 +93,7 @@ module _ (m : List ℕ) (p : Partition) (e : PartitionEntry) (is : PartitionIs m
   -- only link words of buffers that were not lent differ
   got-words : (w : ℕ) → NoLink (e .unlent) w → getD (afterGet m p) w 0 ≡ getD m w 0
   got-words w n =
-      get-only m p (partition-shaped m p e is) (live-chain m p (is .sound)) w (λ a o. n a (rw (is .chained) at (on-within a (chain m p) o))) h
+      get-only m p (partition-shaped m p e is) (live-chain m p (is .sound)) w (λ a o. n a (rw (is .chained) at (on-in a (chain m p) .0 o))) h
 
 module _ (m : List ℕ) (d : Manager) (t : Receipts) (v : Inv m d t) (id : ℕ) where
   module _ (e : PartitionEntry) (q : t .partitions id ≡ some e) (is : PartitionIs m (partitionOf d id) e) (h : 0 < partitionOf d id .free) where

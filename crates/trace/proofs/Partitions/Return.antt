@@ -13,42 +13,44 @@ use Rattle.manager.specs.Record.{slotOf, partitionOf, withPartition}
 use Rattle.manager.specs.Result.{done}
 use Rattle.manager.specs.Lists as lists
 use Rattle.manager.specs.Partition.{isBuffer, isFree, chain, afterReturn, returned}
-use Rattle.manager.proofs.Laws.Distinct.{on-off, same-or-not}
+use Rattle.manager.proofs.Laws.Distinct.{on-off, same-or-not, on-in}
 use Rattle.manager.proofs.Laws.Partition.Links.{return-chain}
 use Rattle.manager.proofs.Laws.Partition.Area.{return-length, return-outside, return-only}
 use Rattle.manager.proofs.Laws.Partition.Live.{live-return, live-chain}
+use Rattle.manager.proofs.Laws.Result.{Passed}
 use Rattle.manager.specs.Partitions.{returnBuffer}
 use Rattle.manager.specs.declared.Manager.{Manager}
 use Rattle.manager.specs.declared.Partition.{Partition}
 use Rattle.manager.specs.declared.Call.the-variants.{ReturnBuffer}
-use Rattle.trace.specs.Receipts.{Receipts, PartitionEntry, Within, strike, withBuffers}
+use Rattle.manager.specs.Lists.{In}
+use Rattle.trace.specs.Receipts.{Receipts, PartitionEntry, strike, withBuffers}
 use Rattle.trace.proofs.Invariant.{Only, PartitionIs, Inv, live}
 use Rattle.trace.proofs.Frame.{partition-laid, partition-shaped}
-use Rattle.trace.proofs.Buffers.{within-on, on-within, within-strike, strike-other, strike-keeps, strike-distinct, strike-length}
+use Rattle.trace.proofs.Buffers.{within-strike, strike-other, strike-keeps, strike-distinct, strike-length}
 use Rattle.trace.proofs.Clients.{NoLink, owned-no-link}
-use Rattle.trace.proofs.Regions.Picture.{put-here}
-use Rattle.trace.proofs.Regions.Checks.{Passed, Kept, kept-checked}
+use Rattle.trace.proofs.Regions.Picture.{update-here}
+use Rattle.trace.proofs.Regions.Checks.{Kept, kept-checked}
 use Rattle.trace.proofs.Regions.Queue.{sound-inv}
 use Rattle.trace.proofs.Partitions.Slot.{partition-entry, keeping, on-partition, put-keeps, live-slot, live-clear, outside, kept-done}
 
 -- a number added at the end of a list
-pub last-within : (a : ℕ) (l : List ℕ) → Within a (l ++ (a ∷ []))
-unfolding Within
+pub last-within : (a : ℕ) (l : List ℕ) → In a (l ++ (a ∷ []))
+unfolding In
 last-within a [] = inl refl
 last-within a (x ∷ l) = inr (last-within a l)
 
-pub more-within : (b a : ℕ) (l : List ℕ) → Within b l → Within b (l ++ (a ∷ []))
-unfolding Within
+pub more-within : (b a : ℕ) (l : List ℕ) → In b l → In b (l ++ (a ∷ []))
+unfolding In
 more-within b a [] h = absurd h
 more-within b a (x ∷ l) (inl e) = inl e
 more-within b a (x ∷ l) (inr h) = inr (more-within b a l h)
 
-pub within-more : (b a : ℕ) (l : List ℕ) → Within b (l ++ (a ∷ [])) → (b ≡ a) ⊎ Within b l
-unfolding Within
+pub within-more : (b a : ℕ) (l : List ℕ) → In b (l ++ (a ∷ [])) → (b ≡ a) ⊎ In b l
+unfolding In
 within-more b a [] (inl e) = inl (sym e)
 within-more b a [] (inr h) = absurd h
 within-more b a (x ∷ l) (inl e) = inr (inl e)
-within-more b a (x ∷ l) (inr h) = ⊎-elim (λ (e : b ≡ a). inl e) (λ (k : Within b l). inr (inr k)) (within-more b a l h)
+within-more b a (x ∷ l) (inr h) = ⊎-elim (λ (e : b ≡ a). inl e) (λ (k : In b l). inr (inr k)) (within-more b a l h)
 
 -- the entry with one buffer less lent
 abbrev pub lentLess : ℕ → PartitionEntry → PartitionEntry
@@ -56,10 +58,10 @@ lentLess a e = withBuffers (strike a (e .lent)) (e .unlent ++ (a ∷ [])) e
 
 module _ (m : List ℕ) (p : Partition) (e : PartitionEntry) (is : PartitionIs m p e) (a : ℕ) (b : isBuffer p a ≡ true) (o : isFree m p a ≡ false) where
   -- a buffer that is not on the chain is lent
-  pub off-lent : Within a (e .lent)
+  pub off-lent : In a (e .lent)
   off-lent =
-      ⊎-elim (λ (w : Within a (e .lent)). w)
-      (λ (w : Within a (e .unlent)). absurd (on-off a (chain m p) (within-on a (chain m p) (rw (← is .chained) at w)) o))
+      ⊎-elim (λ (w : In a (e .lent)). w)
+      (λ (w : In a (e .unlent)). absurd (on-off a (chain m p) (on-in a (chain m p) .1 (rw (← is .chained) at w)) o))
       (is .either a b)
 
   -- A LIVE PARTITION, WITH A BUFFER OF IT BACK
@@ -76,11 +78,11 @@ module _ (m : List ℕ) (p : Partition) (e : PartitionEntry) (is : PartitionIs m
         once = strike-distinct a (e .lent) (is .once);
         buffer = λ x w. is .buffer x (within-strike a x (e .lent) w);
         either = λ x y. ⊎-elim
-            (λ (w : Within x (e .lent)). ⊎-elim
-            (λ (q : x ≡ a). inr (subst (λ (z : ℕ). Within z (e .unlent ++ (a ∷ []))) (sym q) (last-within a (e .unlent))))
+            (λ (w : In x (e .lent)). ⊎-elim
+            (λ (q : x ≡ a). inr (subst (λ (z : ℕ). In z (e .unlent ++ (a ∷ []))) (sym q) (last-within a (e .unlent))))
             (λ (n : ¬ (x ≡ a)). inl (strike-keeps a x (e .lent) w n))
             (same-or-not x a))
-            (λ (w : Within x (e .unlent)). inr (more-within x a (e .unlent) w))
+            (λ (w : In x (e .unlent)). inr (more-within x a (e .unlent) w))
             (is .either x y);
         apart = λ x w u. ⊎-elim (strike-other a x (e .lent) (is .once) w) (is .apart x (within-strike a x (e .lent) w)) (within-more x a (e .unlent) u);
         counted = omega (arith, is .counted, strike-length a (e .lent) off-lent, length-append (e .unlent) (a ∷ []));
@@ -96,7 +98,7 @@ module _ (m : List ℕ) (p : Partition) (e : PartitionEntry) (is : PartitionIs m
   back-words w n =
       let l = n a (last-within a (e .unlent)) in
       return-only m p (partition-shaped m p e is) (live-chain m p (is .sound)) w a
-      (λ x q. n x (more-within x a (e .unlent) (rw (is .chained) at (on-within x (chain m p) q)))) (l .0) (l .1)
+      (λ x q. n x (more-within x a (e .unlent) (rw (is .chained) at (on-in x (chain m p) .0 q)))) (l .0) (l .1)
 
 module _ (m : List ℕ) (d : Manager) (t : Receipts) (v : Inv m d t) (id a : ℕ) where
   module _ (e : PartitionEntry) (q : t .partitions id ≡ some e) (is : PartitionIs m (partitionOf d id) e)
@@ -110,7 +112,7 @@ module _ (m : List ℕ) (d : Manager) (t : Receipts) (v : Inv m d t) (id a : ℕ
         kept-done (ReturnBuffer id a) m t (keeping id (some (lentLess a e)) t) (afterReturn m p a) (withPartition d (slotOf id) (returned p a)) 0
         (on-partition id e t (λ (x : PartitionEntry). lentLess a x) q) after
         (λ w h h′. back-words m p e is a b o w
-        (owned-no-link _ _ (keeping id (some (lentLess a e)) t) after id (lentLess a e) (put-here id (some (lentLess a e)) (t .partitions)) w h′))
+        (owned-no-link _ _ (keeping id (some (lentLess a e)) t) after id (lentLess a e) (update-here id (some (lentLess a e)) (t .partitions)) w h′))
 
   -- A RETURN KEEPS THE PICTURE
   pub keeps-return : Kept (ReturnBuffer id a) m t (returnBuffer m d id a)

@@ -2,15 +2,15 @@
 -- object's, everything else is as it was. The waits rest on regions alone. Assumes nothing.
 use mathlib.Core.Path.{_≡_, refl, sym, ap, _∙_, subst}
 use mathlib.Core.Bool.{Bool, true, false, cond}
-use mathlib.Core.List.{List, [], _∷_}
+use mathlib.Core.List.{List}
 use mathlib.Core.Logic.{inl, inr}
-use mathlib.Core.Option.{Option, none, some}
-use Prim.Native.Nat.{ℕ, zero, suc, _+_, _*_}
+use mathlib.Core.Option.{Option, some}
+use Prim.Native.Nat.{ℕ, _+_, _*_}
 use native.Mathlib.Omega.{arith}
 use lib.ListN.{length, length-set}
 use lib.Dec.{leb}
 use borrow.Author.Tests.{leb-true, leb-false}
-use Rattle.manager.specs.Record.{slots, slotOf, idOf, regionOf, partitionOf, withPartition}
+use Rattle.manager.specs.Record.{slotOf, idOf, regionOf, partitionOf, withPartition}
 use Rattle.manager.specs.Result.{done}
 use Rattle.manager.specs.Region.{areaOf}
 use Rattle.manager.specs.Partition.{deadPartition, buffers}
@@ -22,17 +22,19 @@ use Rattle.manager.specs.declared.Manager.{Manager}
 use Rattle.manager.specs.declared.Partition.{Partition}
 use Rattle.manager.specs.declared.Call.{Call}
 use Rattle.manager.specs.declared.Status.the-variants.{Successful}
-use Rattle.trace.specs.Receipts.{Receipts, RegionEntry, PartitionEntry, Wait, buffersIn, Distinct, put, mapOption, onPartition, entered}
+use Rattle.manager.specs.Lists.{Distinct}
+use Rattle.trace.specs.Receipts.{Receipts, PartitionEntry, buffersIn, update, mapOption, onPartition, entered}
 use Rattle.trace.specs.Trace.{Object, region, partition}
-use Rattle.trace.proofs.Invariant.{Inside, Only, PartitionIs, PartitionSlot, AllWaits, Waits, Inv, queueAt, queuesFrom, empty, live}
+use Rattle.trace.proofs.Invariant.{Inside, Only, PartitionIs, PartitionSlot, Waits, Inv, empty, live}
 use Rattle.trace.proofs.Frame.{partition-shaped}
 use Rattle.trace.proofs.Buffers.{chain-once}
-use Rattle.trace.proofs.Areas.{areaIn, Clear, OfSlot, sound-clear, partition-slot, partition-there, partition-elsewhere, areas-partition, region-kept, partition-kept}
+use Rattle.trace.proofs.Areas.{areaIn, OfSlot, sound-clear, partition-slot, partition-there, partition-elsewhere, areas-partition, region-kept, partition-kept}
 use Rattle.trace.proofs.Loans.Tests.{by-eqb}
 use Rattle.trace.proofs.Queue.Tasks.{wait-same}
 use Rattle.trace.proofs.Clients.{Stays}
 use Rattle.trace.proofs.Regions.Checks.{Kept, note-done}
 use Rattle.trace.proofs.Regions.Picture.{words-same}
+use Rattle.trace.proofs.Disjoint.{Clear}
 
 -- ---- what stands in a slot
 
@@ -58,30 +60,16 @@ module _ (m : List ℕ) (p : Partition) (e : PartitionEntry) (is : PartitionIs m
 -- ---- another entry for a partition
 
 abbrev pub keeping : ℕ → Option PartitionEntry → Receipts → Receipts
-keeping id o t = record { regions = t .regions; partitions = put id o (t .partitions); waits = t .waits }
+keeping id o t = record { regions = t .regions; partitions = update id o (t .partitions); waits = t .waits }
 
 pub on-partition : (id : ℕ) (e : PartitionEntry) (t : Receipts) (g : PartitionEntry → PartitionEntry) → t .partitions id ≡ some e
     → onPartition id g t ≡ keeping id (some (g e)) t
 on-partition id e t g q = ap (λ (o : Option PartitionEntry). keeping id (mapOption g o) t) q
 
 -- the waits rest on regions alone
-module _ (id : ℕ) (o : Option PartitionEntry) (t : Receipts) where
-  queue-kept : (j : ℕ) (x : Option RegionEntry) → queueAt j x (keeping id o t) ≡ queueAt j x t
-  queue-kept j none = refl
-  queue-kept j (some e) = refl
-
-  queues-kept : (n i : ℕ) → queuesFrom n i (keeping id o t) ≡ queuesFrom n i t
-  unfolding queuesFrom
-  queues-kept zero i = refl
-  queues-kept (suc n) i = rw (queue-kept (idOf i) (t .regions (idOf i)), queues-kept n (suc i))
-
-  all-kept : (ws : List Wait) → AllWaits t ws → AllWaits (keeping id o t) ws
-  unfolding AllWaits
-  all-kept [] a = tt
-  all-kept (w ∷ ws) a = (wait-same t (keeping id o t) w (a .0) refl, all-kept ws (a .1))
-
-  pub waits-kept : (d d′ : Manager) → d′ .waiters ≡ d .waiters → Waits d t → Waits d′ (keeping id o t)
-  waits-kept d d′ e w = record { all = all-kept (t .waits) (w .all); once = w .once; queue = rw (queues-kept slots 0) (e ∙ w .queue) }
+pub waits-kept : (id : ℕ) (o : Option PartitionEntry) (t : Receipts) (d d′ : Manager) → d′ .waiters ≡ d .waiters → Waits d t → Waits d′ (keeping id o t)
+waits-kept id o t d d′ e v =
+    record { each = λ w m. wait-same t (keeping id o t) w (v .each w m) refl; once = v .once; queue = e ∙ v .queue }
 
 -- ---- a partition put into a slot
 
@@ -102,7 +90,7 @@ module _ (m : List ℕ) (d : Manager) (t : Receipts) (v : Inv m d t) (id : ℕ) 
   -- THE INVARIANT, where the partition is as its entry says
   module _ (m′ : List ℕ) (o : Option PartitionEntry) (only : Only (p .start) (p .length) m m′)
       (clear : (x : Object) → ¬ (x ≡ partition id) → Clear (areaOf p) (areaIn d x)) (is : PartitionSlot m′ p o) where
-    slot-at : (j : ℕ) → PartitionSlot m′ (partitionOf putting j) (put id o (t .partitions) j)
+    slot-at : (j : ℕ) → PartitionSlot m′ (partitionOf putting j) (update id o (t .partitions) j)
     slot-at j =
         by-eqb j id (λ (b : Bool). PartitionSlot m′ (partitionOf putting j) (cond b o (t .partitions j)))
         (λ e. subst (λ (x : Partition). PartitionSlot m′ x o) (sym (ap (partitionOf putting) e ∙ there)) is)

@@ -2,7 +2,6 @@
 use mathlib.Core.Path.{_≡_, refl, ap, _∙_}
 use mathlib.Core.List.{List, []}
 use Prim.Native.Nat.{ℕ}
-use Rattle.manager.specs.Record.{slots, tasks}
 use Rattle.manager.specs.Lists.{every}
 use Rattle.manager.specs.Queue.{leaving, afterTick}
 use Rattle.manager.specs.Regions.{tick}
@@ -12,20 +11,15 @@ use Rattle.trace.specs.Receipts.{Receipts, withWaits, allLater, allNotic
 use Rattle.trace.proofs.Invariant.{Inv, with-waits}
 use Rattle.trace.proofs.Regions.Checks.{Kept, kept-words, kept-checked}
 use Rattle.trace.proofs.Regions.Picture.{any-queue}
-use Rattle.trace.proofs.Regions.Queue.{region-ids, sound-inv}
+use Rattle.trace.proofs.Regions.Queue.{sound-inv}
 use Rattle.trace.proofs.Queue.Line.{keep}
-use Rattle.trace.proofs.Queue.Shown.{Ids, queued}
 use Rattle.trace.proofs.Queue.Ticks.{notDue, tick-notices, tick-receipts, waits-tick}
 
 module _ (m : List ℕ) (d : Manager) (t : Receipts) (v : Inv m d t) where
-  ids : Ids slots t
-  ids = region-ids m d t (v .picture)
-
   -- what the tick and its notices enter: the waits that were not due, a tick later
   noted : allNoticed (leaving (d .waiters)) (withWaits (allLater (t .waits)) t) ≡ withWaits (allLater (keep notDue (t .waits))) t
   noted =
-      ap (λ ns. allNoticed ns (withWaits (allLater (t .waits)) t)) (tick-notices slots tasks d t (v .waits .queue))
-      ∙ tick-receipts slots tasks t (queued d t (v .waits) ids)
+      ap (λ ns. allNoticed ns (withWaits (allLater (t .waits)) t)) (tick-notices d t (v .waits)) ∙ tick-receipts d t (v .waits)
 
   -- THE TICK KEEPS THE INVARIANT
   pub keeps-tick : Kept Tick m t (tick m d)
@@ -33,4 +27,4 @@ module _ (m : List ℕ) (d : Manager) (t : Receipts) (v : Inv m d t) where
   keeps-tick =
       kept-checked Tick m d t v [] _ (sound-inv m d t v) refl (λ c.
       kept-words Tick m t _ refl
-      (rw noted (with-waits (any-queue m d t (afterTick d .waiters) (allLater (keep notDue (t .waits))) (v .picture)) (waits-tick d t (v .waits) ids))))
+      (rw noted (with-waits (any-queue m d t (afterTick d .waiters) (allLater (keep notDue (t .waits))) (v .picture)) (waits-tick d t (v .waits)))))

@@ -1,6 +1,6 @@
--- A line into which each newcomer goes before the first that it goes before, or at the end: a stable order. What is kept of a line is the
--- line of those kept, in the order in which they came. Assumes nothing.
-use mathlib.Core.Path.{_≡_, refl, sym, ap, _∙_}
+-- Lists in order, into which each newcomer is put before the first that it goes before, or at the end. What is kept of such a list is the
+-- list of those kept, in the order in which they came. Assumes nothing.
+use mathlib.Core.Path.{_≡_, refl, sym, ap, _∙_, subst}
 use mathlib.Core.Bool.{Bool, true, false, cond, _&&_}
 use mathlib.Core.List.{List, [], _∷_, _++_}
 use mathlib.Core.Logic.{_⊎_, inl, inr, _↔_}
@@ -8,29 +8,17 @@ use Prim.Native.Nat.{ℕ, suc, _+_}
 use native.Mathlib.Omega.{arith}
 use lib.ListN.{length}
 use Rattle.manager.proofs.Laws.Appended.{by-case}
+use Rattle.manager.specs.Lists.{In}
+use Rattle.trace.specs.Queue.{insertBy, insertAll}
 
 pub true-false : (b : Bool) → b ≡ true → b ≡ false → ⊥
 true-false b e f = let z : _≡_ {A = ℕ} 0 1 = cc in omega arith
 
 module _ {A : Type 0} where
-  -- an element is on a list
-  unfoldable pub In : A → List A → Type 0
-  In x [] = ⊥
-  In x (y ∷ l) = (y ≡ x) ⊎ In x l
-
   -- those that pass a test
   unfoldable pub keep : (A → Bool) → List A → List A
   keep p [] = []
   keep p (x ∷ l) = cond (p x) (x ∷ keep p l) (keep p l)
-
-  -- one more in the line, and several, one after the other; `lt w x`: w goes before x
-  unfoldable pub settle : (A → A → Bool) → A → List A → List A
-  settle lt w [] = w ∷ []
-  settle lt w (x ∷ q) = cond (lt w x) (w ∷ x ∷ q) (x ∷ settle lt w q)
-
-  unfoldable pub line : (A → A → Bool) → List A → List A → List A
-  line lt q [] = q
-  line lt q (w ∷ ws) = line lt (settle lt w q) ws
 
   -- none of them goes before w; w goes before each
   unfoldable pub Behind : (A → A → Bool) → A → List A → Type 0
@@ -73,24 +61,24 @@ module _ {A : Type 0} where
         λ h. elim (h .0) [ inl e ↦ absurd (true-false (p x) (h .1) (ap p (sym e) ∙ f)) | inr k ↦ ih .1 (k, h .1) ],
       ))
 
-  pub in-settle : (lt : A → A → Bool) (w x : A) (q : List A) → In x (settle lt w q) ↔ ((w ≡ x) ⊎ In x q)
-  unfolding In settle
-  in-settle lt w x [] = (λ h. h, λ h. h)
-  in-settle lt w x (y ∷ q) =
-      let ih = in-settle lt w x q in
-      by-case (lt w y) (λ b. In x (cond b (w ∷ y ∷ q) (y ∷ settle lt w q)) ↔ ((w ≡ x) ⊎ In x (y ∷ q)))
+  pub in-insert : (lt : A → A → Bool) (w x : A) (q : List A) → In x (insertBy lt w q) ↔ ((w ≡ x) ⊎ In x q)
+  unfolding In insertBy
+  in-insert lt w x [] = (λ h. h, λ h. h)
+  in-insert lt w x (y ∷ q) =
+      let ih = in-insert lt w x q in
+      by-case (lt w y) (λ b. In x (cond b (w ∷ y ∷ q) (y ∷ insertBy lt w q)) ↔ ((w ≡ x) ⊎ In x (y ∷ q)))
       (λ t. (λ h. h, λ h. h))
       (λ f. (
         λ h. elim h [ inl e ↦ inr (inl e) | inr k ↦ elim (ih .0 k) [ inl z ↦ inl z | inr z ↦ inr (inr z) ] ],
         λ h. elim h [ inl e ↦ inr (ih .1 (inl e)) | inr k ↦ elim k [ inl e ↦ inl e | inr z ↦ inr (ih .1 (inr z)) ] ],
       ))
 
-  pub in-line : (lt : A → A → Bool) (x : A) (q ws : List A) → In x (line lt q ws) ↔ (In x q ⊎ In x ws)
-  unfolding In line
+  pub in-line : (lt : A → A → Bool) (x : A) (q ws : List A) → In x (insertAll lt q ws) ↔ (In x q ⊎ In x ws)
+  unfolding In insertAll
   in-line lt x q [] = (λ h. inl h, λ h. elim h [ inl y ↦ y | inr y ↦ absurd y ])
   in-line lt x q (w ∷ ws) =
-      let ih = in-line lt x (settle lt w q) ws in
-      let s = in-settle lt w x q in (
+      let ih = in-line lt x (insertBy lt w q) ws in
+      let s = in-insert lt w x q in (
         λ h. elim (ih .0 h) [ inl k ↦ elim (s .0 k) [ inl e ↦ inr (inl e) | inr z ↦ inl z ] | inr z ↦ inr (inr z) ],
         λ h. elim h [
           | inl k ↦ ih .1 (inl (s .1 (inr k)))
@@ -99,34 +87,37 @@ module _ {A : Type 0} where
       )
 
   -- LENGTHS
-  pub length-settle : (lt : A → A → Bool) (w : A) (q : List A) → length (settle lt w q) ≡ suc (length q)
-  unfolding settle
-  length-settle lt w [] = refl
-  length-settle lt w (x ∷ q) =
-      let ih = length-settle lt w q in
-      by-case (lt w x) (λ b. length (cond b (w ∷ x ∷ q) (x ∷ settle lt w q)) ≡ suc (suc (length q))) (λ t. refl) (λ f. ap suc ih)
+  pub length-insert : (lt : A → A → Bool) (w : A) (q : List A) → length (insertBy lt w q) ≡ suc (length q)
+  unfolding insertBy
+  length-insert lt w [] = refl
+  length-insert lt w (x ∷ q) =
+      let ih = length-insert lt w q in
+      by-case (lt w x) (λ b. length (cond b (w ∷ x ∷ q) (x ∷ insertBy lt w q)) ≡ suc (suc (length q))) (λ t. refl) (λ f. ap suc ih)
 
-  pub length-line : (lt : A → A → Bool) (q ws : List A) → length (line lt q ws) ≡ length q + length ws
-  unfolding line
+  pub length-line : (lt : A → A → Bool) (q ws : List A) → length (insertAll lt q ws) ≡ length q + length ws
+  unfolding insertAll
   length-line lt q [] = omega arith
-  length-line lt q (w ∷ ws) = omega (arith, length-line lt (settle lt w q) ws, length-settle lt w q)
+  length-line lt q (w ∷ ws) = omega (arith, length-line lt (insertBy lt w q) ws, length-insert lt w q)
 
-  -- two orders that agree on the newcomers make one line
-  pub settle-same : (f g : A → A → Bool) (w : A) → ((x : A) → f w x ≡ g w x) → (q : List A) → settle f w q ≡ settle g w q
-  unfolding settle
-  settle-same f g w e [] = refl
-  settle-same f g w e (x ∷ q) = rw (e x, settle-same f g w e q)
+  -- two orders that agree on all that is put into a line make one line
+  insert-same : (f g : A → A → Bool) (w : A) (q : List A) → ((x : A) → In x q → f w x ≡ g w x) → insertBy f w q ≡ insertBy g w q
+  unfolding insertBy In
+  insert-same f g w [] e = refl
+  insert-same f g w (x ∷ q) e = rw (e x (inl refl), insert-same f g w q (λ y h. e y (inr h)))
 
-  pub line-same : (f g : A → A → Bool) (q ws : List A) → ((w : A) → In w ws → (x : A) → f w x ≡ g w x) → line f q ws ≡ line g q ws
-  unfolding line In
-  line-same f g q [] e = refl
-  line-same f g q (w ∷ ws) e =
-      rw (settle-same f g w (e w (inl refl)) q) (line-same f g (settle g w q) ws (λ x h. e x (inr h)))
+  pub line-same : (P : A → Type 0) (f g : A → A → Bool) → ((w x : A) → P w → P x → f w x ≡ g w x) → (q ws : List A)
+      → ((x : A) → In x q → P x) → ((x : A) → In x ws → P x) → insertAll f q ws ≡ insertAll g q ws
+  unfolding insertAll In
+  line-same P f g e q [] a b = refl
+  line-same P f g e q (w ∷ ws) a b =
+      let p = b w (inl refl) in
+      rw (insert-same f g w q (λ x h. e w x p (a x h)))
+      (line-same P f g e (insertBy g w q) ws (λ x h. elim (in-insert g w x q .0 h) [ inl z ↦ subst P z p | inr z ↦ a x z ]) (λ x h. b x (inr h)))
 
-  pub line-append : (lt : A → A → Bool) (q a b : List A) → line lt q (a ++ b) ≡ line lt (line lt q a) b
-  unfolding line
+  pub line-append : (lt : A → A → Bool) (q a b : List A) → insertAll lt q (a ++ b) ≡ insertAll lt (insertAll lt q a) b
+  unfolding insertAll
   line-append lt q [] b = refl
-  line-append lt q (w ∷ a) b = line-append lt (settle lt w q) a b
+  line-append lt q (w ∷ a) b = line-append lt (insertBy lt w q) a b
 
   pub keep-append : (p : A → Bool) (a b : List A) → keep p (a ++ b) ≡ keep p a ++ keep p b
   unfolding keep
@@ -172,26 +163,26 @@ module _ {A : Type 0} where
     ahead-behind w [] h = tt
     ahead-behind w (x ∷ q) h = (s .asym w x (h .0), ahead-behind w q (h .1))
 
-    behind-settle : (v w : A) (q : List A) → lt w v ≡ false → Behind lt v q → Behind lt v (settle lt w q)
-    unfolding Behind settle
-    behind-settle v w [] e b = (e, tt)
-    behind-settle v w (x ∷ q) e b =
-        let ih = behind-settle v w q e (b .1) in
-        by-case (lt w x) (λ t. Behind lt v (cond t (w ∷ x ∷ q) (x ∷ settle lt w q))) (λ t. (e, b)) (λ f. (b .0, ih))
+    behind-insert : (v w : A) (q : List A) → lt w v ≡ false → Behind lt v q → Behind lt v (insertBy lt w q)
+    unfolding Behind insertBy
+    behind-insert v w [] e b = (e, tt)
+    behind-insert v w (x ∷ q) e b =
+        let ih = behind-insert v w q e (b .1) in
+        by-case (lt w x) (λ t. Behind lt v (cond t (w ∷ x ∷ q) (x ∷ insertBy lt w q))) (λ t. (e, b)) (λ f. (b .0, ih))
 
-    pub sorted-settle : (w : A) (q : List A) → Sorted lt q → Sorted lt (settle lt w q)
-    unfolding Sorted Behind Ahead settle
-    sorted-settle w [] h = (tt, tt)
-    sorted-settle w (x ∷ q) h =
-        let ih = sorted-settle w q (h .1) in
-        by-case (lt w x) (λ t. Sorted lt (cond t (w ∷ x ∷ q) (x ∷ settle lt w q)))
+    pub sorted-insert : (w : A) (q : List A) → Sorted lt q → Sorted lt (insertBy lt w q)
+    unfolding Sorted Behind Ahead insertBy
+    sorted-insert w [] h = (tt, tt)
+    sorted-insert w (x ∷ q) h =
+        let ih = sorted-insert w q (h .1) in
+        by-case (lt w x) (λ t. Sorted lt (cond t (w ∷ x ∷ q) (x ∷ insertBy lt w q)))
         (λ t. (ahead-behind w (x ∷ q) (t, ahead-of w x q t (h .0)), h))
-        (λ f. (behind-settle x w q f (h .0), ih))
+        (λ f. (behind-insert x w q f (h .0), ih))
 
-    pub sorted-line : (q ws : List A) → Sorted lt q → Sorted lt (line lt q ws)
-    unfolding line
+    pub sorted-line : (q ws : List A) → Sorted lt q → Sorted lt (insertAll lt q ws)
+    unfolding insertAll
     sorted-line q [] h = h
-    sorted-line q (w ∷ ws) h = sorted-line (settle lt w q) ws (sorted-settle w q h)
+    sorted-line q (w ∷ ws) h = sorted-line (insertBy lt w q) ws (sorted-insert w q h)
 
     ahead-keep : (p : A → Bool) (w : A) (q : List A) → Ahead lt w q → Ahead lt w (keep p q)
     unfolding Ahead keep
@@ -200,34 +191,34 @@ module _ {A : Type 0} where
         let ih = ahead-keep p w q (h .1) in
         by-case (p x) (λ t. Ahead lt w (cond t (x ∷ keep p q) (keep p q))) (λ t. (h .0, ih)) (λ f. ih)
 
-    settle-ahead : (w : A) (q : List A) → Ahead lt w q → settle lt w q ≡ w ∷ q
-    unfolding Ahead settle
-    settle-ahead w [] h = refl
-    settle-ahead w (x ∷ q) h = rw (h .0)
+    insert-ahead : (w : A) (q : List A) → Ahead lt w q → insertBy lt w q ≡ w ∷ q
+    unfolding Ahead insertBy
+    insert-ahead w [] h = refl
+    insert-ahead w (x ∷ q) h = rw (h .0)
 
     -- WHAT IS KEPT OF A LINE
-    keep-new : (p : A → Bool) (w : A) (q : List A) → p w ≡ true → Sorted lt q → keep p (settle lt w q) ≡ settle lt w (keep p q)
-    unfolding Sorted Ahead keep settle
+    keep-new : (p : A → Bool) (w : A) (q : List A) → p w ≡ true → Sorted lt q → keep p (insertBy lt w q) ≡ insertBy lt w (keep p q)
+    unfolding Sorted Ahead keep insertBy
     keep-new p w [] e h = rw e
     keep-new p w (x ∷ q) e h =
         let ih = keep-new p w q e (h .1) in
-        by-case (lt w x) (λ t. keep p (cond t (w ∷ x ∷ q) (x ∷ settle lt w q)) ≡ settle lt w (keep p (x ∷ q)))
-        (λ t. rw e (sym (settle-ahead w (keep p (x ∷ q)) (ahead-keep p w (x ∷ q) (t, ahead-of w x q t (h .0))))))
-        (λ f. by-case (p x) (λ t. cond t (x ∷ keep p (settle lt w q)) (keep p (settle lt w q)) ≡ settle lt w (cond t (x ∷ keep p q) (keep p q)))
+        by-case (lt w x) (λ t. keep p (cond t (w ∷ x ∷ q) (x ∷ insertBy lt w q)) ≡ insertBy lt w (keep p (x ∷ q)))
+        (λ t. rw e (sym (insert-ahead w (keep p (x ∷ q)) (ahead-keep p w (x ∷ q) (t, ahead-of w x q t (h .0))))))
+        (λ f. by-case (p x) (λ t. cond t (x ∷ keep p (insertBy lt w q)) (keep p (insertBy lt w q)) ≡ insertBy lt w (cond t (x ∷ keep p q) (keep p q)))
         (λ t. rw f (ap (_∷_ x) ih)) (λ g. ih))
 
-    keep-not : (p : A → Bool) (w : A) (q : List A) → p w ≡ false → keep p (settle lt w q) ≡ keep p q
-    unfolding keep settle
+    keep-not : (p : A → Bool) (w : A) (q : List A) → p w ≡ false → keep p (insertBy lt w q) ≡ keep p q
+    unfolding keep insertBy
     keep-not p w [] e = rw e
     keep-not p w (x ∷ q) e =
         let ih = keep-not p w q e in
-        by-case (lt w x) (λ t. keep p (cond t (w ∷ x ∷ q) (x ∷ settle lt w q)) ≡ keep p (x ∷ q)) (λ t. rw e) (λ f. rw ih)
+        by-case (lt w x) (λ t. keep p (cond t (w ∷ x ∷ q) (x ∷ insertBy lt w q)) ≡ keep p (x ∷ q)) (λ t. rw e) (λ f. rw ih)
 
-    pub keep-line : (p : A → Bool) (q ws : List A) → Sorted lt q → keep p (line lt q ws) ≡ line lt (keep p q) (keep p ws)
-    unfolding keep line
+    pub keep-line : (p : A → Bool) (q ws : List A) → Sorted lt q → keep p (insertAll lt q ws) ≡ insertAll lt (keep p q) (keep p ws)
+    unfolding keep insertAll
     keep-line p q [] h = refl
     keep-line p q (w ∷ ws) h =
-        let ih = keep-line p (settle lt w q) ws (sorted-settle w q h) in
-        by-case (p w) (λ t. keep p (line lt (settle lt w q) ws) ≡ line lt (keep p q) (cond t (w ∷ keep p ws) (keep p ws)))
-        (λ t. ih ∙ ap (λ (l : List A). line lt l (keep p ws)) (keep-new p w q t h))
-        (λ f. ih ∙ ap (λ (l : List A). line lt l (keep p ws)) (keep-not p w q f))
+        let ih = keep-line p (insertBy lt w q) ws (sorted-insert w q h) in
+        by-case (p w) (λ t. keep p (insertAll lt (insertBy lt w q) ws) ≡ insertAll lt (keep p q) (cond t (w ∷ keep p ws) (keep p ws)))
+        (λ t. ih ∙ ap (λ (l : List A). insertAll lt l (keep p ws)) (keep-new p w q t h))
+        (λ f. ih ∙ ap (λ (l : List A). insertAll lt l (keep p ws)) (keep-not p w q f))

@@ -10,24 +10,25 @@ use lib.ListN.{length, replicate, length-append, replicate-append-replicate}
 use lib.Seq.{take-append-seam, drop-append-seam}
 use Rattle.manager.specs.Record.{noWaiter}
 use Rattle.manager.specs.Result.{pad}
-use Rattle.manager.specs.Lists.{every, some, indexOf, pairwise, adjacent}
+use Rattle.manager.specs.Lists.{every, some, indexOf, pairwise, adjacent, In}
 use Rattle.manager.specs.Queue.{goesBefore, insert, removeAt}
 use Rattle.manager.proofs.Laws.Queue as places
 use Rattle.manager.specs.declared.Waiter.{Waiter}
 use Rattle.manager.specs.declared.Order.{Order}
 use Rattle.manager.proofs.Laws.Lists.{and-first, and-second}
 use Rattle.manager.proofs.Laws.Appended.{by-case}
-use Rattle.trace.proofs.Queue.Line.{true-false, In, keep, settle, in-append}
+use Rattle.trace.specs.Queue.{insertBy}
+use Rattle.trace.proofs.Queue.Line.{true-false, keep, in-append}
 
 -- ONE ENTERED
-enter-settle : (o : Order) (w : Waiter) (l : List Waiter) → places.enter o w l ≡ settle (goesBefore o) w l
-unfolding places.enter settle
-enter-settle o w [] = refl
-enter-settle o w (x ∷ l) = ap (λ (r : List Waiter). cond (goesBefore o w x) (w ∷ x ∷ l) (x ∷ r)) (enter-settle o w l)
+enter-insert : (o : Order) (w : Waiter) (l : List Waiter) → places.enter o w l ≡ insertBy (goesBefore o) w l
+unfolding places.enter insertBy
+enter-insert o w [] = refl
+enter-insert o w (x ∷ l) = ap (λ (r : List Waiter). cond (goesBefore o w x) (w ∷ x ∷ l) (x ∷ r)) (enter-insert o w l)
 
 pub insert-pad : (o : Order) (n : ℕ) (w : Waiter) (l : List Waiter) → length l < n
-    → insert o w (pad n noWaiter l) ≡ pad n noWaiter (settle (goesBefore o) w l)
-insert-pad o n w l h = places.insert-pad o w n l h ∙ ap (pad n noWaiter) (enter-settle o w l)
+    → insert o w (pad n noWaiter l) ≡ pad n noWaiter (insertBy (goesBefore o) w l)
+insert-pad o n w l h = places.insert-pad o w n l h ∙ ap (pad n noWaiter) (enter-insert o w l)
 
 -- ONE REMOVED: an unused place more
 pub remove-pad : (n : ℕ) (a : List Waiter) (x : Waiter) (b : List Waiter) → length (a ++ (x ∷ b)) ≤ n

@@ -9,24 +9,24 @@ use native.Mathlib.Omega.{arith}
 use lib.ListN.{length, replicate}
 use lib.Dec.{eqb}
 use borrow.Author.Tests.{ne-eqb, le-leb}
-use Rattle.manager.specs.Record.{slots, tasks, noWaiter, regionOf}
+use Rattle.manager.specs.Record.{tasks, noWaiter, regionOf}
 use Rattle.manager.specs.Result.{pad}
-use Rattle.manager.specs.Lists.{every, pairwise, adjacent}
+use Rattle.manager.specs.Lists.{every, pairwise, adjacent, In, Distinct}
 use Rattle.manager.specs.Region.{dead, pagesOf, anyHeld, pagesAsked}
-use Rattle.manager.specs.Queue.{goesBefore}
 use Rattle.manager.specs.Sound.{soundWaiter, soundPlace, otherTask, inOrder, soundQueue}
 use Rattle.manager.specs.declared.Manager.{Manager}
 use Rattle.manager.specs.declared.Waiter.{Waiter}
 use Rattle.manager.specs.declared.Order.{Order}
 use Rattle.manager.proofs.Laws.Appended.{by-case}
-use Rattle.trace.specs.Receipts.{Receipts, Wait, Within, Distinct}
+use Rattle.trace.specs.Receipts.{Receipts, Wait}
+use Rattle.trace.specs.Queue.{orders, standsBefore, inLine}
 use Rattle.trace.specs.Claims.{waiterOf, waitersOf}
-use Rattle.trace.proofs.Invariant.{WaitIs, Waits, tasksOf, queuesFrom}
-use Rattle.trace.proofs.Queue.Line.{In, Behind, Sorted, in-append, sorted-line}
-use Rattle.trace.proofs.Queue.Order.{goes, goes-strict, orders, queues-line}
+use Rattle.trace.proofs.Invariant.{WaitIs, Waits, tasksOf}
+use Rattle.trace.proofs.Queue.Line.{Behind, Sorted, in-append, sorted-line}
+use Rattle.trace.proofs.Queue.Order.{stands-strict, in-all-waits, stands-is}
 use Rattle.trace.proofs.Queue.Places.{every-in, in-replicate, adjacent-pad, pairwise-pad}
-use Rattle.trace.proofs.Queue.Tasks.{in-tasks, line-once, all-in}
-use Rattle.trace.proofs.Queue.Shown.{Queued, Ids, queued, in-queues, in-waiters, row-some}
+use Rattle.trace.proofs.Queue.Tasks.{in-tasks, line-once}
+use Rattle.trace.proofs.Queue.Waiters.{line-some, in-waiters}
 
 -- EACH TASK ONCE
 once-pairwise : (q : List Wait) → Distinct (tasksOf q) → pairwise otherTask (waitersOf q) ≡ true
@@ -35,7 +35,7 @@ once-pairwise [] d = refl
 once-pairwise (w ∷ q) d =
     rw (every-in (otherTask (waiterOf w)) (waitersOf q) (λ x m.
     let r = in-waiters x q m in
-    let n : ¬ (w .task ≡ x .task) = λ e. d .0 (subst (λ (a : ℕ). Within a (tasksOf q)) (ap (λ (v : Waiter). v .task) (r .2) ∙ sym e) (in-tasks (r .0) q (r .1))) in
+    let n : ¬ (w .task ≡ x .task) = λ e. d .0 (subst (λ (a : ℕ). In a (tasksOf q)) (ap (λ (v : Waiter). v .task) (r .2) ∙ sym e) (in-tasks (r .0) q (r .1))) in
     or-not (eqb (w .task) 0) (eqb (w .task) (x .task)) (ne-eqb (w .task) (x .task) n)))
     (once-pairwise q (d .1))
   where
@@ -44,16 +44,18 @@ once-pairwise (w ∷ q) d =
     or-not false b e = rw e
 
 -- IN ORDER
-sorted-adjacent : (d : Manager) (o : ℕ → Order) (q : List Wait) → ((w : Wait) → In w q → 1 ≤ w .task)
-    → ((w : Wait) → In w q → regionOf d (w .id) .order ≡ o (w .id)) → Sorted (goes o) q → adjacent (inOrder d) (waitersOf q) ≡ true
-unfolding Sorted Behind In adjacent waitersOf goesBefore goes
+sorted-adjacent : (d : Manager) (o : ℕ → Order) (q : List Wait) → ((w : Wait) → In w q → (1 ≤ w .id) × (1 ≤ w .task))
+    → ((w : Wait) → In w q → regionOf d (w .id) .order ≡ o (w .id)) → Sorted (standsBefore o) q → adjacent (inOrder d) (waitersOf q) ≡ true
+unfolding Sorted Behind In adjacent waitersOf
 sorted-adjacent d o [] u r s = refl
 sorted-adjacent d o (w ∷ []) u r s = refl
 sorted-adjacent d o (w ∷ x ∷ q) u r s =
+    let a = u w (inl refl) in
+    let b = u x (inr (inl refl)) in
     rw (
-      ne-eqb (x .task) 0 (λ e. omega (arith, u x (inr (inl refl)))),
-      ne-eqb (w .task) 0 (λ e. omega (arith, u w (inl refl))),
+      ne-eqb (x .task) 0 (λ e. omega arith),
       r x (inr (inl refl)),
+      stands-is o x w (b .0) (a .0) (a .1),
       s .0 .0,
     ) (sorted-adjacent d o (x ∷ q) (λ y m. u y (inr m)) (λ y m. r y (inr m)) (s .1))
 
@@ -83,36 +85,28 @@ unfolding soundPlace
 none-sound m d = refl
 
 -- A SOUND QUEUE
-pub sound-queue : (m : List ℕ) (d : Manager) (t : Receipts) → Waits d t → Ids slots t → ((w : Wait) → In w (t .waits) → Waitable m d t w)
-    → soundQueue m d ≡ true
+pub sound-queue : (m : List ℕ) (d : Manager) (t : Receipts) → Waits d t → ((w : Wait) → In w (t .waits) → Waitable m d t w) → soundQueue m d ≡ true
 unfolding soundQueue Sorted
-sound-queue m d t v i b =
+sound-queue m d t v b =
     rw (
       ap (every (soundPlace m d)) (v .queue) ∙ places,
-      ap (pairwise otherTask) (v .queue) ∙ pairwise-pad otherTask noWaiter (λ x. refl) (waitersOf q) k (once-pairwise q once) used,
+      ap (pairwise otherTask) (v .queue) ∙ pairwise-pad otherTask noWaiter (λ x. refl) (waitersOf q) k
+          (once-pairwise q (line-once (standsBefore (orders t)) (t .waits) (v .once))) used,
       ap (adjacent (inOrder d)) (v .queue) ∙ adjacent-pad (inOrder d) noWaiter (λ x. refl) (waitersOf q) k
-          (sorted-adjacent d (orders t) q (row-some slots tasks t a) (λ w n. b w (in-queues slots tasks t a w .0 n) .order) sorted),
+          (sorted-adjacent d (orders t) q (line-some d t v) (λ w n. b w (in-all-waits t w .0 n) .order)
+          (sorted-line (standsBefore (orders t)) (stands-strict (orders t)) [] (t .waits) tt)),
     )
   where
-    a : Queued slots tasks t
-    a = queued d t v i
-
     q : List Wait
-    q = queuesFrom slots 0 t
+    q = inLine t
 
     k : ℕ
-    k = tasks - length (waitersOf (queuesFrom slots 0 t))
-
-    once : Distinct (tasksOf q)
-    once = rw (queues-line slots t (a .listed)) (line-once (goes (orders t)) (t .waits) (v .once))
-
-    sorted : Sorted (goes (orders t)) q
-    sorted = rw (queues-line slots t (a .listed)) (sorted-line (goes (orders t)) (goes-strict (orders t)) [] (t .waits) tt)
+    k = tasks - length (waitersOf (inLine t))
 
     used-sound : (x : Waiter) → (w : Wait) × In w q × (waiterOf w ≡ x) → soundPlace m d x ≡ true
     used-sound x r =
-        let j = in-queues slots tasks t a (r .0) .0 (r .1) in
-        ap (soundPlace m d) (sym (r .2)) ∙ wait-sound m d t (r .0) (all-in t (t .waits) (v .all) (r .0) j) (b (r .0) j)
+        let j = in-all-waits t (r .0) .0 (r .1) in
+        ap (soundPlace m d) (sym (r .2)) ∙ wait-sound m d t (r .0) (v .each (r .0) j) (b (r .0) j)
 
     places : every (soundPlace m d) (pad tasks noWaiter (waitersOf q)) ≡ true
     places =

@@ -2,14 +2,14 @@
 -- Assumes nothing.
 use mathlib.Core.Path.{_≡_, refl, sym, ap, _∙_, subst}
 use mathlib.Core.Bool.{Bool, true, false, cond, not, _&&_, _||_}
-use mathlib.Core.List.{List, [], _∷_, _++_}
+use mathlib.Core.List.{List, [], _∷_}
 use mathlib.Core.Logic.{_⊎_, inl, inr}
-use mathlib.Core.Option.{Option, none, some}
-use Prim.Native.Nat.{ℕ, zero, suc, _+_, _-_, _≤_, _<_}
+use mathlib.Core.Option.{some}
+use Prim.Native.Nat.{ℕ, _+_, _-_, _<_}
 use native.Mathlib.Omega.{arith}
 use lib.Dec.{eqb}
 use borrow.Author.Tests.{eqb-true, eqb-false, eq-eqb, ne-eqb, not-true}
-use Rattle.manager.specs.Record.{slots, tasks, noWaiter, idOf}
+use Rattle.manager.specs.Record.{tasks, noWaiter}
 use Rattle.manager.specs.Result.{pad}
 use Rattle.manager.specs.Lists as Lists
 use Rattle.manager.proofs.Laws.Lists.{and-first, and-second}
@@ -17,19 +17,21 @@ use Rattle.manager.specs.Queue.{leaving, staying, aged, afterTick}
 use Rattle.manager.proofs.Laws.Queue.{told-pad, tick-pad}
 use Rattle.manager.specs.declared.Manager.{Manager}
 use Rattle.manager.specs.declared.Waiter.{Waiter}
-use Rattle.manager.specs.declared.Notice.{Notice}
+use Rattle.manager.specs.declared.Order.{Order}
+use Rattle.manager.specs.declared.Order.the-variants.{Fifo, Priority}
 use Rattle.manager.specs.declared.Status.the-variants.{Timeout}
 use Rattle.manager.proofs.Laws.Appended.{by-case}
-use Rattle.trace.specs.Receipts.{Receipts, RegionEntry, Wait, Distinct, withWaits, without, later, allLater, allNoticed}
-use Rattle.trace.specs.Replies.{dueIn, dueOf, dueFrom}
+use Rattle.manager.specs.Lists.{In, Distinct}
+use Rattle.trace.specs.Receipts.{Receipts, Wait, withWaits, without, later, allLater, allNoticed}
+use Rattle.trace.specs.Queue.{insertBy, insertAll, orders, standsBefore, dueIn, inLine, rank}
 use Rattle.trace.specs.Claims.{waiterOf, waitersOf}
-use Rattle.trace.proofs.Invariant.{WaitIs, Waits, tasksOf, queueAt, queuesFrom}
+use Rattle.trace.proofs.Invariant.{WaitIs, Waits, tasksOf}
 use Rattle.trace.proofs.Loans.Tests.{by-eqb}
-use Rattle.trace.proofs.Queue.Line.{true-false, In, keep, settle, line, Sorted, in-keep, keep-line, keep-same, keep-all, keep-keep}
-use Rattle.trace.proofs.Queue.Order.{goes, goes-strict, orders, queues-line}
+use Rattle.trace.proofs.Queue.Line.{true-false, keep, Sorted, in-keep, keep-line, keep-same, keep-all, keep-keep}
+use Rattle.trace.proofs.Queue.Order.{stands-strict, in-all-waits}
 use Rattle.trace.proofs.Queue.Places.{some-in, in-some}
-use Rattle.trace.proofs.Queue.Tasks.{notOf, without-keep, keep-once, one-wait, all-in, in-all, wait-moved}
-use Rattle.trace.proofs.Queue.Shown.{Queued, Ids, Shown, queued, in-queues, length-waiters, length-queues, few-waits}
+use Rattle.trace.proofs.Queue.Tasks.{notOf, without-keep, keep-once, one-wait, wait-moved}
+use Rattle.trace.proofs.Queue.Waiters.{line-fits}
 
 -- a wait whose time runs out at this tick
 abbrev pub due : Wait → Bool
@@ -51,30 +53,8 @@ unfolding leaving waitersOf dueIn
 due-leaving [] = refl
 due-leaving (w ∷ q) = rw (left-one w, due-leaving q)
 
-due-append : (a b : List Wait) → dueIn (a ++ b) ≡ dueIn a ++ dueIn b
-unfolding dueIn
-due-append [] b = refl
-due-append (w ∷ a) b =
-    let ih = due-append a b in
-    let n : Notice = record { task = w .task; status = Timeout; address = 0 } in
-    by-case (due w) (λ t. cond t (n ∷ dueIn (a ++ b)) (dueIn (a ++ b)) ≡ cond t (n ∷ dueIn a) (dueIn a) ++ dueIn b)
-    (λ t. ap (_∷_ n) ih) (λ f. ih)
-
-due-at : (id : ℕ) (r : Option RegionEntry) (t : Receipts) → dueOf id r t ≡ dueIn (queueAt id r t)
-unfolding dueIn
-due-at id none t = refl
-due-at id (some e) t = refl
-
-pub due-queues : (n i : ℕ) (t : Receipts) → dueFrom n (idOf i) t ≡ dueIn (queuesFrom n i t)
-unfolding dueFrom queuesFrom dueIn
-due-queues zero i t = refl
-due-queues (suc n) i t =
-    rw (due-at (idOf i) (t .regions (idOf i)) t, due-queues n (suc i) t)
-    (sym (due-append (queueAt (idOf i) (t .regions (idOf i)) t) (queuesFrom n (suc i) t)))
-
-pub tick-notices : (n k : ℕ) (d : Manager) (t : Receipts) → Shown n k d t → leaving (d .waiters) ≡ dueFrom n 1 t
-tick-notices n k d t s =
-    ap leaving s ∙ told-pad k (waitersOf (queuesFrom n 0 t)) ∙ due-leaving (queuesFrom n 0 t) ∙ sym (due-queues n 0 t)
+pub tick-notices : (d : Manager) (t : Receipts) → Waits d t → leaving (d .waiters) ≡ dueIn (inLine t)
+tick-notices d t v = ap leaving (v .queue) ∙ told-pad tasks (waitersOf (inLine t)) ∙ due-leaving (inLine t)
 
 -- THOSE THAT STAY have a tick less left
 age-one : (w : Wait) → aged (waiterOf w) ≡ waiterOf (later w)
@@ -94,25 +74,29 @@ due-staying (w ∷ q) =
     (λ t. ih) (λ f. rw (age-one w, ih)))
 
 -- LATER: a wait keeps its place in the line
-settle-later : (lt : Wait → Wait → Bool) → ((x y : Wait) → lt (later x) (later y) ≡ lt x y) → (w : Wait) (q : List Wait)
-    → settle lt (later w) (allLater q) ≡ allLater (settle lt w q)
-unfolding settle allLater
-settle-later lt h w [] = refl
-settle-later lt h w (x ∷ q) =
-    let ih = settle-later lt h w q in
+insert-later : (lt : Wait → Wait → Bool) → ((x y : Wait) → lt (later x) (later y) ≡ lt x y) → (w : Wait) (q : List Wait)
+    → insertBy lt (later w) (allLater q) ≡ allLater (insertBy lt w q)
+unfolding insertBy allLater
+insert-later lt h w [] = refl
+insert-later lt h w (x ∷ q) =
+    let ih = insert-later lt h w q in
     rw (h w x)
-    (by-case (lt w x) (λ t. cond t (later w ∷ later x ∷ allLater q) (later x ∷ settle lt (later w) (allLater q)) ≡ allLater (cond t (w ∷ x ∷ q) (x ∷ settle lt w q)))
+    (by-case (lt w x) (λ t. cond t (later w ∷ later x ∷ allLater q) (later x ∷ insertBy lt (later w) (allLater q)) ≡ allLater (cond t (w ∷ x ∷ q) (x ∷ insertBy lt w q)))
     (λ t. refl) (λ f. ap (_∷_ (later x)) ih))
 
 line-later : (lt : Wait → Wait → Bool) → ((x y : Wait) → lt (later x) (later y) ≡ lt x y) → (q ws : List Wait)
-    → line lt (allLater q) (allLater ws) ≡ allLater (line lt q ws)
-unfolding line allLater
+    → insertAll lt (allLater q) (allLater ws) ≡ allLater (insertAll lt q ws)
+unfolding insertAll allLater
 line-later lt h q [] = refl
-line-later lt h q (w ∷ ws) = ap (λ (l : List Wait). line lt l (allLater ws)) (settle-later lt h w q) ∙ line-later lt h (settle lt w q) ws
+line-later lt h q (w ∷ ws) = ap (λ (l : List Wait). insertAll lt l (allLater ws)) (insert-later lt h w q) ∙ line-later lt h (insertBy lt w q) ws
 
-goes-later : (o : ℕ → _) (x y : Wait) → goes o (later x) (later y) ≡ goes o x y
-unfolding goes
-goes-later o x y = refl
+rank-later : (r : Order) (w : Wait) → rank r (later w) ≡ rank r w
+rank-later Fifo w = refl
+rank-later Priority w = refl
+
+stands-later : (o : ℕ → Order) (x y : Wait) → standsBefore o (later x) (later y) ≡ standsBefore o x y
+unfolding standsBefore
+stands-later o x y = rw (rank-later (o (x .id)) x, rank-later (o (y .id)) y)
 
 in-later : (x : Wait) (ws : List Wait) → In x (allLater ws) → (w : Wait) × In w ws × (later w ≡ x)
 unfolding In allLater
@@ -154,70 +138,6 @@ notices-strike (w ∷ q) l t d =
     (λ x m. by-case (eqb (x .task) (w .task)) (λ c. (not c && not (lateIn q x)) ≡ not (c || lateIn q x)) (λ c. refl) (λ c. refl))))
     (λ f. notices-strike q l t d)
 
-module _ (n k : ℕ) (t : Receipts) (a : Queued n k t) where
-  -- among the queues' waits that are due is one of a wait's task exactly where it is due itself
-  late-due : (w : Wait) → In w (t .waits) → lateIn (queuesFrom n 0 t) (later w) ≡ due w
-  late-due w m =
-      by-case (due w) (λ b. lateIn (queuesFrom n 0 t) (later w) ≡ b)
-      (λ b. some-in (λ v. due v && eqb (w .task) (v .task)) (queuesFrom n 0 t) w (in-queues n k t a w .1 m) (rw (b, eq-eqb (w .task) (w .task) refl)))
-      (λ b. go (lateIn (queuesFrom n 0 t) (later w)) refl b)
-    where
-      go : (l : Bool) → lateIn (queuesFrom n 0 t) (later w) ≡ l → due w ≡ false → l ≡ false
-      go false e b = refl
-      go true e b =
-          let r = in-some (λ v. due v && eqb (w .task) (v .task)) (queuesFrom n 0 t) e in
-          let v = r .0 in
-          let f = eqb-true (w .task) (v .task) (and-second (due v) (eqb (w .task) (v .task)) (r .2)) in
-          let g : w ≡ v = one-wait w v (t .waits) (a .once) m (in-queues n k t a v .0 (r .1)) f in
-          absurd (true-false (due v) (and-first (due v) (eqb (w .task) (v .task)) (r .2)) (ap (λ (x : Wait). due x) (sym g) ∙ b))
-
-  -- THE RECEIPTS AFTER A TICK: the waits that were not due, each a tick later
-  pub tick-receipts : allNoticed (dueFrom n 1 t) (withWaits (allLater (t .waits)) t) ≡ withWaits (allLater (keep notDue (t .waits))) t
-  tick-receipts =
-      ap (λ (ns : List Notice). allNoticed ns (withWaits (allLater (t .waits)) t)) (due-queues n 0 t)
-      ∙ notices-strike (queuesFrom n 0 t) (allLater (t .waits)) t (rw (tasks-later (t .waits)) (a .once))
-      ∙ ap (λ (ws : List Wait). withWaits ws t) (keep-later (λ x. not (lateIn (queuesFrom n 0 t) x)) (t .waits)
-      ∙ ap allLater (keep-same (λ w. not (lateIn (queuesFrom n 0 t) (later w))) notDue (t .waits) (λ w m. ap not (late-due w m))))
-
-  -- what is asked of the waits still holds
-  stay : (x : Wait) → In x (allLater (keep notDue (t .waits))) → (w : Wait) × In w (t .waits) × (later w ≡ x) × (due w ≡ false)
-  stay x m =
-      let r = in-later x (keep notDue (t .waits)) m in
-      let c = in-keep notDue (r .0) (t .waits) .0 (r .1) in
-      (r .0, c .0, r .2, not-true (due (r .0)) (c .1))
-
-  stays : (Q : Wait → Type 0) → ((w : Wait) → In w (t .waits) → Q (later w)) → (x : Wait) → In x (allLater (keep notDue (t .waits))) → Q x
-  stays Q f x m = let r = stay x m in subst Q (r .2) (f (r .0) (r .1))
-
-  pub tick-queued : Queued n k (withWaits (allLater (keep notDue (t .waits))) t)
-  tick-queued =
-      record {
-        listed = record {
-          present = stays (λ x. (e : RegionEntry) × (t .regions (x .id) ≡ some e)) (a .listed .present);
-          low = stays (λ x. 1 ≤ x .id) (a .listed .low);
-          high = stays (λ x. x .id ≤ n) (a .listed .high);
-        };
-        task-some = stays (λ x. 1 ≤ x .task) (a .task-some);
-        task-most = stays (λ x. x .task ≤ k) (a .task-most);
-        once = rw (tasks-later (keep notDue (t .waits))) (keep-once notDue (t .waits) (a .once));
-      }
-
-  -- THE ARRAY AFTER A TICK
-  pub queues-tick : queuesFrom n 0 (withWaits (allLater (keep notDue (t .waits))) t) ≡ allLater (keep notDue (queuesFrom n 0 t))
-  unfolding keep Sorted allLater
-  queues-tick =
-      let o = orders t in
-      queues-line n (withWaits (allLater (keep notDue (t .waits))) t) (tick-queued .listed)
-      ∙ line-later (goes o) (goes-later o) [] (keep notDue (t .waits))
-      ∙ ap allLater (sym (keep-line (goes o) (goes-strict o) notDue [] (t .waits) tt) ∙ ap (keep notDue) (sym (queues-line n t (a .listed))))
-
-  pub row-tick : pad k noWaiter (staying (pad k noWaiter (waitersOf (queuesFrom n 0 t))))
-      ≡ pad k noWaiter (waitersOf (queuesFrom n 0 (withWaits (allLater (keep notDue (t .waits))) t)))
-  row-tick =
-      let q = queuesFrom n 0 t in
-      tick-pad k (waitersOf q) (omega (arith, length-waiters q, length-queues n k t a, few-waits n k t a))
-      ∙ ap (pad k noWaiter) (due-staying q ∙ ap waitersOf (sym queues-tick))
-
 -- time is left to those that were not due
 later-time : (w : Wait) → (w .ticks ≡ 0) ⊎ (w .since < w .ticks) → due w ≡ false → (w .ticks ≡ 0) ⊎ (w .since + 1 < w .ticks)
 later-time w (inl e) f = inl e
@@ -226,15 +146,55 @@ later-time w (inr h) f = let g : ¬ (w .ticks ≡ w .since + 1) = eqb-false (w .
 later-is : (t : Receipts) (ws : List Wait) (w : Wait) → WaitIs t w → due w ≡ false → WaitIs (withWaits ws t) (later w)
 later-is t ws w a f = wait-moved t (withWaits ws t) w (w .since + 1) (a .entry .loans) a (a .found) (a .lending) (later-time w (a .time) f)
 
--- THE WAITS AFTER A TICK
-pub waits-tick : (d : Manager) (t : Receipts) → Waits d t → Ids slots t → Waits (afterTick d) (withWaits (allLater (keep notDue (t .waits))) t)
-unfolding afterTick
-waits-tick d t v i =
-    let a = queued d t v i in
-    let ws = allLater (keep notDue (t .waits)) in
-    record {
-      all = in-all (withWaits ws t) ws (λ x m. let r = stay slots tasks t a x m in
-          subst (λ (y : Wait). WaitIs (withWaits ws t) y) (r .2) (later-is t ws (r .0) (all-in t (t .waits) (v .all) (r .0) (r .1)) (r .3)));
-      once = tick-queued slots tasks t a .once;
-      queue = ap (λ (l : List Waiter). pad tasks noWaiter (staying l)) (v .queue) ∙ row-tick slots tasks t a;
-    }
+module _ (d : Manager) (t : Receipts) (v : Waits d t) where
+  -- among the waits in line that are due is one of a wait's task exactly where it is due itself
+  late-due : (w : Wait) → In w (t .waits) → lateIn (inLine t) (later w) ≡ due w
+  late-due w m =
+      by-case (due w) (λ b. lateIn (inLine t) (later w) ≡ b)
+      (λ b. some-in (λ v. due v && eqb (w .task) (v .task)) (inLine t) w (in-all-waits t w .1 m) (rw (b, eq-eqb (w .task) (w .task) refl)))
+      (λ b. go (lateIn (inLine t) (later w)) refl b)
+    where
+      go : (l : Bool) → lateIn (inLine t) (later w) ≡ l → due w ≡ false → l ≡ false
+      go false e b = refl
+      go true e b =
+          let r = in-some (λ v. due v && eqb (w .task) (v .task)) (inLine t) e in
+          let x = r .0 in
+          let f = eqb-true (w .task) (x .task) (and-second (due x) (eqb (w .task) (x .task)) (r .2)) in
+          let g : w ≡ x = one-wait w x (t .waits) (v .once) m (in-all-waits t x .0 (r .1)) f in
+          absurd (true-false (due x) (and-first (due x) (eqb (w .task) (x .task)) (r .2)) (ap (λ (y : Wait). due y) (sym g) ∙ b))
+
+  abbrev stay : List Wait
+  stay = allLater (keep notDue (t .waits))
+
+  -- THE RECEIPTS AFTER A TICK: the waits that were not due, each a tick later
+  pub tick-receipts : allNoticed (dueIn (inLine t)) (withWaits (allLater (t .waits)) t) ≡ withWaits stay t
+  tick-receipts =
+      notices-strike (inLine t) (allLater (t .waits)) t (rw (tasks-later (t .waits)) (v .once))
+      ∙ ap (λ (ws : List Wait). withWaits ws t) (keep-later (λ x. not (lateIn (inLine t) x)) (t .waits)
+      ∙ ap allLater (keep-same (λ w. not (lateIn (inLine t) (later w))) notDue (t .waits) (λ w m. ap not (late-due w m))))
+
+  each-later : (x : Wait) → In x stay → WaitIs (withWaits stay t) x
+  each-later x m =
+      let r = in-later x (keep notDue (t .waits)) m in
+      let c = in-keep notDue (r .0) (t .waits) .0 (r .1) in
+      subst (λ (y : Wait). WaitIs (withWaits stay t) y) (r .2) (later-is t stay (r .0) (v .each (r .0) (c .0)) (not-true (due (r .0)) (c .1)))
+
+  -- the line is that of those that stay
+  line-tick : inLine (withWaits stay t) ≡ allLater (keep notDue (inLine t))
+  unfolding keep Sorted allLater
+  line-tick =
+      let o = orders t in
+      line-later (standsBefore o) (stands-later o) [] (keep notDue (t .waits))
+      ∙ ap allLater (sym (keep-line (standsBefore o) (stands-strict o) notDue [] (t .waits) tt))
+
+  -- THE WAITS AFTER A TICK
+  pub waits-tick : Waits (afterTick d) (withWaits stay t)
+  unfolding afterTick
+  waits-tick =
+      record {
+        each = each-later;
+        once = rw (tasks-later (keep notDue (t .waits))) (keep-once notDue (t .waits) (v .once));
+        queue = ap (λ (l : List Waiter). pad tasks noWaiter (staying l)) (v .queue)
+            ∙ tick-pad tasks (waitersOf (inLine t)) (line-fits d t v)
+            ∙ ap (pad tasks noWaiter) (due-staying (inLine t) ∙ ap waitersOf (sym line-tick));
+      }

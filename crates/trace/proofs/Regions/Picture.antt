@@ -1,6 +1,6 @@
--- The picture of the objects, without the waits: the memory and the record as the receipts say. Replacing one region's map by the one
--- drawn from other loans, and its loans by these, keeps the picture. Assumes nothing.
-use mathlib.Core.Path.{_≡_, refl, sym, ap, _∙_, subst, fun-ext}
+-- The picture of the objects, without the waits: the memory and the record as the receipts say. A step in one region keeps the picture,
+-- with the loans of that region changed. Assumes nothing.
+use mathlib.Core.Path.{_≡_, refl, sym, ap, subst, fun-ext}
 use mathlib.Core.Bool.{Bool, true, cond}
 use mathlib.Core.List.{List}
 use mathlib.Core.Option.{Option, some}
@@ -9,60 +9,57 @@ use native.Mathlib.Omega.{arith}
 use lib.ListN.{length}
 use borrow.Author.Tests.{eq-eqb, ne-eqb}
 use Rattle.manager.specs.Record.{regionOf, partitionOf, withQueue}
-use Rattle.manager.specs.Map.{Segment, draw}
-use Rattle.manager.specs.Region.{withSegments}
 use Rattle.manager.specs.Sound.{soundLength}
 use Rattle.manager.specs.declared.Manager.{Manager}
 use Rattle.manager.specs.declared.Region.{Region}
 use Rattle.manager.specs.declared.Waiter.{Waiter}
-use Rattle.trace.specs.Loans.{Loan, Ordered, drawn}
-use Rattle.trace.specs.Receipts.{Receipts, RegionEntry, Wait, pagesIn, put, mapOption, onRegion, withWaits}
+use Rattle.trace.specs.Loans.{Loan}
+use Rattle.trace.specs.Receipts.{Receipts, RegionEntry, Wait, update, mapOption, onRegion, withWaits, withLoans}
 use Rattle.trace.specs.Trace.{Object, region, partition}
-use Rattle.trace.proofs.Invariant.{Only, regionFor, lentPages, RegionSlot, live, Picture}
-use Rattle.trace.proofs.Frame.{map-words-only, map-only, region-redrawn, region-unit}
-use Rattle.trace.proofs.Areas.{areaFor, areaIn, Clear, sound-clear, region-kept, partition-kept}
+use Rattle.trace.proofs.Invariant.{Only, regionFor, RegionSlot, live, Picture}
+use Rattle.trace.proofs.Frame.{map-area}
+use Rattle.trace.proofs.Areas.{areaFor, areaIn, sound-clear, region-kept, partition-kept}
 use Rattle.trace.proofs.Loans.Tests.{by-eqb}
-use Rattle.trace.proofs.Loans.Words.{size}
-use Rattle.trace.proofs.Loans.Lawful.{Drawing}
-use Rattle.trace.proofs.Loans.Pages.{pages}
-use Rattle.trace.proofs.Clients.{RegionAt, region-at, OnlyMap}
+use Rattle.trace.proofs.Map.{Steps}
+use Rattle.trace.proofs.Clients.{RegionAt, region-at}
+use Rattle.trace.proofs.Disjoint.{Clear}
 
 -- ---- an entry under an id
 
 module _ {A : Type 0} (id : ℕ) (e : Option A) (f : ℕ → Option A) where
-  pub put-here : put id e f id ≡ e
-  put-here = rw (eq-eqb id id refl)
+  pub update-here : update id e f id ≡ e
+  update-here = rw (eq-eqb id id refl)
 
-  pub put-else : (j : ℕ) → ¬ (j ≡ id) → put id e f j ≡ f j
-  put-else j h = rw (ne-eqb j id h)
+  pub update-other : (j : ℕ) → ¬ (j ≡ id) → update id e f j ≡ f j
+  update-other j h = rw (ne-eqb j id h)
 
-  pub put-again : (g : Option A) → put id e (put id g f) ≡ put id e f
-  put-again g =
+  pub update-again : (g : Option A) → update id e (update id g f) ≡ update id e f
+  update-again g =
       fun-ext (λ j. by-eqb j id (λ (b : Bool). cond b e (cond b g (f j)) ≡ cond b e (f j)) (λ h. refl) (λ h. refl))
 
-  pub put-same : f id ≡ e → put id e f ≡ f
-  put-same q =
+  pub update-same : f id ≡ e → update id e f ≡ f
+  update-same q =
       fun-ext (λ j. by-eqb j id (λ (b : Bool). cond b e (f j) ≡ f j) (λ h. rw h (sym q)) (λ h. refl))
 
--- the receipts with other loans of the region under an id, by their pages
+-- the receipts with another entry for a region, and with other loans of one
+abbrev pub registering : ℕ → Option RegionEntry → Receipts → Receipts
+registering id o t = record { regions = update id o (t .regions); partitions = t .partitions; waits = t .waits }
+
 abbrev pub lending : ℕ → RegionEntry → List Loan → Receipts → Receipts
-lending id e l t = record { regions = put id (some (lentPages l e)) (t .regions); partitions = t .partitions; waits = t .waits }
+lending id e l t = registering id (some (withLoans l e)) t
 
 module _ (id : ℕ) (e : RegionEntry) (t : Receipts) where
-  pub on-region : (g : RegionEntry → RegionEntry) (l : List Loan) → t .regions id ≡ some e → g e ≡ lentPages l e → onRegion id g t ≡ lending id e l t
-  on-region g l q h =
-      ap (λ (o : Option RegionEntry). record { regions = put id o (t .regions); partitions = t .partitions; waits = t .waits })
-      (ap (mapOption g) q ∙ ap some h)
+  abbrev with-regions : (ℕ → Option RegionEntry) → Receipts
+  with-regions f = record { regions = f; partitions = t .partitions; waits = t .waits }
 
-  pub lending-again : (l k : List Loan) → lending id (lentPages l e) k (lending id e l t) ≡ lending id e k t
-  lending-again l k =
-      ap (λ (f : ℕ → Option RegionEntry). record { regions = f; partitions = t .partitions; waits = t .waits })
-      (put-again id (some (lentPages k e)) (t .regions) (some (lentPages l e)))
+  pub on-region : (g : RegionEntry → RegionEntry) → t .regions id ≡ some e → onRegion id g t ≡ registering id (some (g e)) t
+  on-region g q = ap (λ (o : Option RegionEntry). with-regions (update id (mapOption g o) (t .regions))) q
 
-  pub lending-same : (l : List Loan) → t .regions id ≡ some (lentPages l e) → lending id e l t ≡ t
-  lending-same l q =
-      ap (λ (f : ℕ → Option RegionEntry). record { regions = f; partitions = t .partitions; waits = t .waits })
-      (put-same id (some (lentPages l e)) (t .regions) q)
+  pub lending-again : (l k : List Loan) → lending id e k (lending id e l t) ≡ lending id e k t
+  lending-again l k = ap with-regions (update-again id (some (withLoans k e)) (t .regions) (some (withLoans l e)))
+
+  pub lending-same : (l : List Loan) → t .regions id ≡ some (withLoans l e) → lending id e l t ≡ t
+  lending-same l q = ap with-regions (update-same id (some (withLoans l e)) (t .regions) q)
 
 -- ---- the picture
 
@@ -86,30 +83,23 @@ module _ (m : List ℕ) (d : Manager) (t : Receipts) (v : Picture m d t) (id : �
   pub live-at : RegionAt m (regionOf d id) e
   live-at = region-at m (regionOf d id) (t .regions id) e (v .regions id) q
 
-  -- ANOTHER MAP, DRAWN FROM OTHER LOANS
-  module _ (l : List Loan) (o : Ordered (pagesIn e) 0 l) where
-    m′ : List ℕ
-    m′ = withSegments m (regionFor e) (drawn (pagesIn e) 0 l)
-
+  -- A STEP IN THE REGION: the picture of its other loans
+  module _ (m′ : List ℕ) (l : List Loan) (step : Steps m e m′ l) where
     only : Only (e .start) (e .bytes) m m′
-    unfolding m′
-    only =
-        map-only m (regionFor e) (draw (drawn (pagesIn e) 0 l)) (region-unit m e (live-at .is)) (live-at .is .some-page) (size (pagesIn e) l o)
+    only = map-area m e (live-at .is) m m′ (step .only)
 
     clear : (x : Object) → ¬ (region id ≡ x) → Clear (areaFor (regionFor e)) (areaIn d x)
     clear x n = subst (λ (r : Region). Clear (areaFor r) (areaIn d x)) (live-at .region) (sound-clear d (v .region-slots) (v .partition-slots) (v .areas) (region id) x n)
 
-    slot-at : (j : ℕ) → RegionSlot m′ (regionOf d j) (put id (some (lentPages l e)) (t .regions) j)
-    unfolding m′
+    slot-at : (j : ℕ) → RegionSlot m′ (regionOf d j) (update id (some (withLoans l e)) (t .regions) j)
     slot-at j =
-        by-eqb j id (λ (b : Bool). RegionSlot m′ (regionOf d j) (cond b (some (lentPages l e)) (t .regions j)))
-        (λ h. rw (h, live-at .region) (live (lentPages l e) (region-redrawn m e (live-at .is) l o)))
+        by-eqb j id (λ (b : Bool). RegionSlot m′ (regionOf d j) (cond b (some (withLoans l e)) (t .regions j)))
+        (λ h. rw (h, live-at .region) (live (withLoans l e) (step .is)))
         (λ h. region-kept m m′ (areaFor (regionFor e)) (regionOf d j) (t .regions j) only
         (clear (region j) (λ (p : region id ≡ region j). h (let s : id ≡ j = cc in sym s))) (v .regions j))
 
-    pub redrawn : Picture (withSegments m (regionFor e) (drawn (pagesIn e) 0 l)) d (lending id e l t)
-    unfolding m′
-    redrawn =
+    pub stepped : Picture m′ d (lending id e l t)
+    stepped =
         record {
           words = words-same m m′ (only .size) (v .words);
           region-slots = v .region-slots;
@@ -119,12 +109,3 @@ module _ (m : List ℕ) (d : Manager) (t : Receipts) (v : Picture m d t) (id : �
               (clear (partition j) (λ (p : region id ≡ partition j). let z : _≡_ {A = ℕ} 0 1 = cc in omega arith)) (v .partitions j);
           areas = v .areas;
         }
-
-  -- ANY MAP THAT IS DRAWN FROM OTHER LOANS
-  pub changed-map : (l : List Loan) (s : List Segment) → Drawing pages (pagesIn e) l s → Picture (withSegments m (regionFor e) s) d (lending id e l t)
-  changed-map l s w =
-      subst (λ (x : List Segment). Picture (withSegments m (regionFor e) x) d (lending id e l t)) (sym (w .is)) (redrawn l (w .ordered))
-
-  -- of which only the map's words differ
-  pub changed-words : (l : List Loan) (s : List Segment) → Drawing pages (pagesIn e) l s → OnlyMap e m (withSegments m (regionFor e) s)
-  changed-words l s w = map-words-only m (regionFor e) (draw s) (ap (λ (x : List Segment). length (draw x)) (w .is) ∙ size (pagesIn e) l (w .ordered))

@@ -7,88 +7,65 @@ use mathlib.Core.Option.{some}
 use Prim.Native.Nat.{ℕ, suc, _≤_}
 use native.Mathlib.Omega.{arith}
 use lib.ListN.{length}
-use Rattle.manager.specs.Record.{slots, tasks, regionOf}
-use Rattle.manager.specs.Region.{segments, anyHeld}
+use Rattle.manager.specs.Record.{tasks, regionOf}
 use Rattle.manager.specs.Queue.{enqueue, waiting}
 use Rattle.manager.specs.Sound.{sound}
 use Rattle.manager.specs.declared.Manager.{Manager}
 use Rattle.manager.specs.declared.Region.{Region}
-use Rattle.trace.specs.Loans.{Loan, loan}
-use Rattle.trace.specs.Receipts.{Receipts, RegionEntry, Wait, withWaits, pagesIn, pageLoans}
-use Rattle.trace.specs.Replies.{waitsIn, queueOf}
-use Rattle.trace.specs.Claims.{waiterOf, waitersOf, waitersFor}
-use Rattle.trace.proofs.Invariant.{regionFor, atAddresses, lentPages, RegionIs, WaitIs, Waits, Inv, Picture}
+use Rattle.manager.specs.Lists.{In}
+use Rattle.trace.specs.Loans.{Loan}
+use Rattle.trace.specs.Receipts.{Receipts, RegionEntry, Wait, withWaits}
+use Rattle.trace.specs.Queue.{waitsIn, queueOf, orderIn, urgentThan}
+use Rattle.trace.specs.Replies.{lendsAny}
+use Rattle.trace.specs.Claims.{waiterOf}
+use Rattle.trace.proofs.Invariant.{WaitIs, Waits, Inv}
 use Rattle.trace.proofs.Areas.{region-slot}
 use Rattle.trace.proofs.Clients.{region-at}
+use Rattle.trace.proofs.Map.{shows}
 use Rattle.trace.proofs.Sound.{inv-sound}
 use Rattle.trace.proofs.Loans.Tests.{by-eqb}
-use Rattle.trace.proofs.Loans.Addresses.{atPages}
-use Rattle.trace.proofs.Loans.Lawful.{Drawing}
-use Rattle.trace.proofs.Loans.Pages.{pages}
-use Rattle.trace.proofs.Queue.Line.{In, line, length-line, true-false}
-use Rattle.trace.proofs.Queue.Order.{goes, orders, orderIn, queue-of}
-use Rattle.trace.proofs.Queue.Tasks.{all-in}
-use Rattle.trace.proofs.Queue.Shown.{Ids, queued, few-waits, waiters-for, task-waits}
+use Rattle.trace.proofs.Queue.Line.{length-line, true-false}
 use Rattle.trace.proofs.Queue.Enter.{waits-entered}
 use Rattle.trace.proofs.Queue.Sound.{Waitable, sound-queue}
-use Rattle.trace.proofs.Regions.Live.{law, not-dead, map-drawing}
-use Rattle.trace.proofs.Regions.Picture.{put-else, lending}
-
--- ---- ids
-
--- what is live has an id of 1 to 8
-pub region-ids : (m : List ℕ) (d : Manager) (t : Receipts) → Picture m d t → Ids slots t
-region-ids m d t v id e q =
-    let a = region-at m (regionOf d id) (t .regions id) e (v .regions id) q in
-    let s = region-slot d (v .region-slots) (v .partition-slots) id (subst (λ (r : Region). ¬ (r .name ≡ 0)) (sym (a .region)) (a .is .named)) in
-    (omega (arith, s .is), omega (arith, s .within, s .is))
-
-pub lending-ids : (t : Receipts) (id : ℕ) (e : RegionEntry) (l : List Loan) → Ids slots t → t .regions id ≡ some e → Ids slots (lending id e l t)
-lending-ids t id e l i q j f p =
-    by-eqb j id (λ (b : Bool). (1 ≤ j) × (j ≤ slots))
-    (λ h. subst (λ (k : ℕ). (1 ≤ k) × (k ≤ slots)) (sym h) (i id e q))
-    (λ h. i j f (sym (put-else id (some (lentPages l e)) (t .regions) j h) ∙ p))
+use Rattle.trace.proofs.Queue.Waiters.{few-waits, task-waits}
+use Rattle.trace.proofs.Regions.Live.{not-dead}
 
 -- ---- the queue is sound
 
--- no loan at an address where there is none by pages
-pub no-loans : (m : List ℕ) (e : RegionEntry) → RegionIs m e → pageLoans e ≡ [] → e .loans ≡ []
-unfolding atPages
-no-loans m e is n = is .placed ∙ ap (atAddresses e) n
-
--- something is held where something is lent
-any-held : (m : List ℕ) (e : RegionEntry) → RegionIs m e → (l : List Loan) → pageLoans e ≡ l → ¬ (l ≡ []) → anyHeld m (regionFor e) ≡ true
-any-held m e is [] q n = absurd (n refl)
-any-held m e is (loan a k ∷ l) q n =
-    law (regionFor e) .any-some (subst (λ (j : List Loan). Drawing pages (pagesIn e) j (segments m (regionFor e))) q (map-drawing m e is))
+-- something is lent, or there is no loan
+lends-some : (l : List Loan) → ¬ (l ≡ []) → lendsAny l ≡ true
+lends-some [] n = absurd (n refl)
+lends-some (x ∷ l) n = refl
 
 module _ (m : List ℕ) (d : Manager) (t : Receipts) (v : Inv m d t) where
   waitable : (w : Wait) → In w (t .waits) → Waitable m d t w
   waitable w i =
-      let a = all-in t (t .waits) (v .waits .all) w i in
+      let a = v .waits .each w i in
       let r = region-at m (regionOf d (w .id)) (t .regions (w .id)) (a .entry) (v .picture .regions (w .id)) (a .found) in
       record {
         alive = rw (r .region) (not-dead m (a .entry) (r .is));
         order = ap (λ (x : Region). x .order) (r .region) ∙ ap orderIn (sym (a .found));
-        held = rw (r .region) (any-held m (a .entry) (r .is) (pageLoans (a .entry)) refl (λ (n : pageLoans (a .entry) ≡ []). a .lending (no-loans m (a .entry) (r .is) n)));
-        fits = rw (r .region) (a .size-most);
+        held = rw (r .region) (shows m (a .entry) (r .is) .any ∙ lends-some (a .entry .loans) (a .lending));
+        fits = rw (r .region, shows m (a .entry) (r .is) .asked (w .size)) (a .size-most);
       }
 
   -- A PICTURED RECORD IS SOUND
   pub sound-inv : sound m d ≡ true
-  sound-inv = inv-sound m d t v (sound-queue m d t (v .waits) (region-ids m d t (v .picture)) waitable)
-
-  -- a region's waiters are its queue by the receipts
-  pub queue-inv : (id : ℕ) (e : RegionEntry) → t .regions id ≡ some e → waitersFor id (d .waiters) ≡ waitersOf (queueOf id e t)
-  queue-inv id e q = waiters-for slots tasks t (queued d t (v .waits) (region-ids m d t (v .picture))) d (v .waits .queue) id e q
+  sound-inv = inv-sound m d t v (sound-queue m d t (v .waits) waitable)
 
   -- a wait entered
   pub wait-inv : (w : Wait) → WaitIs t w → waiting d (w .task) ≡ false → Waits (enqueue d (waiterOf w)) (withWaits (t .waits ++ (w ∷ [])) t)
   wait-inv w a n =
-      let i = region-ids m d t (v .picture) in
       let r = region-at m (regionOf d (w .id)) (t .regions (w .id)) (a .entry) (v .picture .regions (w .id)) (a .found) in
-      waits-entered d t w (v .waits) i a (ap (λ (x : Region). x .order) (r .region))
-      (λ h. true-false (waiting d (w .task)) (task-waits slots tasks t (queued d t (v .waits) i) d (v .waits .queue) (w .task) h) n)
+      waits-entered d t w (v .waits) a (ap (λ (x : Region). x .order) (r .region))
+      (λ h. true-false (waiting d (w .task)) (task-waits d t (v .waits) (w .task) h) n)
+
+  -- a live region has an id of a slot
+  pub live-id : (id : ℕ) (e : RegionEntry) → t .regions id ≡ some e → 1 ≤ id
+  live-id id e q =
+      let a = region-at m (regionOf d id) (t .regions id) e (v .picture .regions id) q in
+      let s = region-slot d (v .picture .region-slots) (v .picture .partition-slots) id (subst (λ (r : Region). ¬ (r .name ≡ 0)) (sym (a .region)) (a .is .named)) in
+      omega (arith, s .is)
 
 -- ---- as many wait as there are tasks, at most
 
@@ -99,12 +76,6 @@ waits-fewer id (w ∷ ws) =
     by-eqb (w .id) id (λ (b : Bool). length (cond b (w ∷ waitsIn id ws) (waitsIn id ws)) ≤ suc (length ws))
     (λ h. omega (arith, waits-fewer id ws)) (λ h. omega (arith, waits-fewer id ws))
 
-pub few-queue : (d : Manager) (t : Receipts) (id : ℕ) (e : RegionEntry) → Waits d t → Ids slots t → t .regions id ≡ some e → length (queueOf id e t) ≤ tasks
-few-queue d t id e w i q =
-    omega (
-      arith,
-      ap length (queue-of id e t q),
-      waits-fewer id (line (goes (orders t)) [] (t .waits)),
-      length-line (goes (orders t)) [] (t .waits),
-      few-waits slots tasks t (queued d t w i),
-    )
+pub few-queue : (d : Manager) (t : Receipts) (id : ℕ) (e : RegionEntry) → Waits d t → length (queueOf id e t) ≤ tasks
+few-queue d t id e v =
+    omega (arith, length-line (urgentThan (e .order)) [] (waitsIn id (t .waits)), waits-fewer id (t .waits), few-waits d t v)

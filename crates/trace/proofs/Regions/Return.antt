@@ -1,81 +1,70 @@
 -- A return: the loan is struck, and then the region's queue is served. Assumes nothing.
-use mathlib.Core.Path.{_≡_, refl, sym, ap, subst}
+use mathlib.Core.Path.{_≡_, refl, sym, subst}
 use mathlib.Core.Bool.{false}
-use mathlib.Core.List.{List, []}
-use mathlib.Core.Logic.{inl}
+use mathlib.Core.List.{List}
 use mathlib.Core.Option.{some}
 use Prim.Native.Nat.{ℕ}
 use native.Mathlib.Omega.{arith}
 use lib.Dec.{eqb}
 use Rattle.manager.specs.Record.{tasks, regionOf}
 use Rattle.manager.specs.Lists.{every}
-use Rattle.manager.specs.Region.{kind, pageAt, segments, withSegments, heldAt}
+use Rattle.manager.specs.Region.{heldAt, changed}
 use Rattle.manager.specs.Serve.{Served, serve, fromServed}
 use Rattle.manager.specs.Regions.{returnSegment}
 use Rattle.manager.specs.declared.Manager.{Manager}
 use Rattle.manager.specs.declared.Region.{Region}
 use Rattle.manager.specs.declared.Call.the-variants.{ReturnSegment}
-use Rattle.trace.specs.Loans.{Loan, amend}
-use Rattle.trace.specs.Receipts.{Receipts, RegionEntry, pagesIn, pageIn, pageLoans, giveBack, onRegion, withLoans, note}
-use Rattle.trace.specs.Replies.{queueOf}
-use Rattle.trace.proofs.Invariant.{regionFor, atAddresses, lentPages, Inv}
+use Rattle.manager.proofs.Laws.Result.{Passed}
+use Rattle.trace.specs.Loans.{Loan, Lent, amend}
+use Rattle.trace.specs.Receipts.{Receipts, RegionEntry, giveBack, onRegion, withLoans, note}
+use Rattle.trace.specs.Queue.{queueOf}
+use Rattle.trace.proofs.Invariant.{RegionIs, regionFor, Inv}
 use Rattle.trace.proofs.Frame.{only-trans}
-use Rattle.trace.proofs.Clients.{RegionAt}
-use Rattle.trace.proofs.Held.{regular, Holds, amended-at}
-use Rattle.trace.proofs.Loans.Lawful.{Drawing}
-use Rattle.trace.proofs.Loans.Pages.{pages}
-use Rattle.trace.proofs.Regions.Checks.{Passed, Kept, kept-map, kept-checked}
-use Rattle.trace.proofs.Regions.Live.{law, slot-entry, map-drawing, lent-held}
-use Rattle.trace.proofs.Regions.Picture.{put-here, lending, on-region, lending-again, changed-map, changed-words}
+use Rattle.trace.proofs.Map.{Steps, shows, lent-held}
+use Rattle.trace.proofs.Regions.Checks.{Kept, kept-map, kept-checked}
+use Rattle.trace.proofs.Regions.Live.{slot-entry}
+use Rattle.trace.proofs.Regions.Picture.{update-here, lending, on-region, lending-again, stepped}
 use Rattle.trace.proofs.Regions.Lending.{waits-lent}
-use Rattle.trace.proofs.Regions.Queue.{sound-inv, region-ids, few-queue}
+use Rattle.trace.proofs.Regions.Queue.{sound-inv, few-queue}
 use Rattle.trace.proofs.Regions.Serve.{Outcome, Serving, something, served}
 
 -- what a return does in a region, once its checks pass
 abbrev pub returning : List ℕ → Manager → ℕ → ℕ → Region → Served
-returning m d id a r = serve (withSegments m r (kind r .change (pageAt r a) 0 (segments m r))) d id
+returning m d id a r = serve (changed m r a 0) d id
 
 module _ (m : List ℕ) (d : Manager) (t : Receipts) (v : Inv m d t) (id a : ℕ) where
-  module _ (e : RegionEntry) (q : t .regions id ≡ some e) (at : RegionAt m (regionOf d id) e) where
-    module _ (k : ℕ) (x : Holds e a k) where
-      -- the loans that are left, by their pages and at their addresses
-      abbrev rest : List Loan
-      rest = amend (pageIn e a) 0 (pageLoans e)
+  module _ (e : RegionEntry) (q : t .regions id ≡ some e) (is : RegionIs m e) (k : ℕ) (x : Lent (e .loans) a k) where
+    -- the loans that are left, and the memory before the queue is served
+    abbrev rest : List Loan
+    rest = amend a 0 (e .loans)
 
-      pub rest-at : amend a 0 (e .loans) ≡ atAddresses e rest
-      rest-at = amended-at e (regular m e (at .is)) a 0 (x .at)
+    abbrev released : List ℕ
+    released = changed m (regionFor e) a 0
 
-      struck : onRegion id (giveBack a) t ≡ lending id e rest t
-      struck = on-region id e t (giveBack a) rest q (ap (λ (l : List Loan). withLoans l e) rest-at)
+    step : Steps m e released rest
+    step = shows m e is .returned a k x
 
-      -- the memory before the queue is served, and its map
-      abbrev released : List ℕ
-      released = withSegments m (regionFor e) (kind (regionFor e) .change (pageIn e a) 0 (segments m (regionFor e)))
+    serving : Serving id e released d (lending id e rest t) rest (queueOf id e t)
+    serving =
+        record {
+          picture = stepped m d t (v .picture) id e q released rest step;
+          entry = update-here id (some (withLoans rest e)) (t .regions);
+          waits = rw (lending-again id e t rest something)
+              (waits-lent t id e q something d (v .waits) (λ y i r n. let z : _≡_ {A = ℕ} 0 1 = cc in omega arith));
+          queue = refl;
+        }
 
-      drawing : Drawing pages (pagesIn e) rest (kind (regionFor e) .change (pageIn e a) 0 (segments m (regionFor e)))
-      drawing = law (regionFor e) .returned (map-drawing m e (at .is)) (pageIn e a) k (x .lent)
+    pub outcome : Outcome e rest (queueOf id e t) released (onRegion id (giveBack a) t) (returning m d id a (regionFor e))
+    unfolding serve
+    outcome = rw (on-region id e t (giveBack a) q) (served id e tasks _ d _ rest (queueOf id e t) serving (few-queue d t id e (v .waits)))
 
-      serving : Serving id e released d (lending id e rest t) rest (queueOf id e t)
-      serving =
-          record {
-            picture = changed-map m d t (v .picture) id e q rest _ drawing;
-            entry = put-here id (some (lentPages rest e)) (t .regions);
-            waits = rw (lending-again id e t rest something)
-                (waits-lent t id e q something d (v .waits) (inl (λ (n : something ≡ []). let z : _≡_ {A = ℕ} 0 1 = cc in omega arith)));
-            queue = refl;
-          }
-
-      pub outcome : Outcome e rest (queueOf id e t) released (onRegion id (giveBack a) t) (returning m d id a (regionFor e))
-      unfolding serve
-      outcome = rw struck (served id e tasks _ d _ rest (queueOf id e t) serving (few-queue d t id e (v .waits) (region-ids m d t (v .picture)) q))
-
-      -- what it keeps
-      act-kept : Kept (ReturnSegment id a) m t (fromServed (returning m d id a (regionFor e)))
-      unfolding note
-      act-kept =
-          kept-map (ReturnSegment id a) m d t v id e q (fromServed (returning m d id a (regionFor e)))
-          (only-trans _ _ m released (returning m d id a (regionFor e) .memory) (changed-words m d t (v .picture) id e q rest _ drawing) (outcome .only))
-          (outcome .inv)
+    -- what it keeps
+    act-kept : Kept (ReturnSegment id a) m t (fromServed (returning m d id a (regionFor e)))
+    unfolding note
+    act-kept =
+        kept-map (ReturnSegment id a) m d t v id e q (fromServed (returning m d id a (regionFor e)))
+        (only-trans _ _ m released (returning m d id a (regionFor e) .memory) (step .only) (outcome .only))
+        (outcome .inv)
 
   -- A RETURN KEEPS THE PICTURE
   pub keeps-return : Kept (ReturnSegment id a) m t (returnSegment m d id a)
@@ -85,4 +74,4 @@ module _ (m : List ℕ) (d : Manager) (t : Receipts) (v : Inv m d t) (id a : ℕ
       (λ c. let s = slot-entry m (regionOf d id) (t .regions id) (v .picture .regions id) (c .0) in
       let h = lent-held m (s .0) (s .2 .is) a (subst (λ (r : Region). eqb (heldAt m r a) 0 ≡ false) (s .2 .region) (c .1 .0)) in
       subst (λ (r : Region). Kept (ReturnSegment id a) m t (fromServed (returning m d id a r))) (sym (s .2 .region))
-      (act-kept (s .0) (s .1) (s .2) _ h))
+      (act-kept (s .0) (s .1) (s .2 .is) _ h))

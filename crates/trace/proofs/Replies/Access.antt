@@ -23,7 +23,7 @@ use Rattle.trace.proofs.Invariant.{RegionSlot, empty, live, Inv}
 use Rattle.trace.proofs.Regions.Live.{not-dead}
 use Rattle.trace.proofs.Regions.Queue.{sound-inv}
 use Rattle.trace.proofs.Replies.Checks.{test, acted, agree, answers, at-region}
-use Rattle.trace.proofs.Replies.Held.{pages-at, none-at}
+use Rattle.trace.proofs.Map.{shows, none-at}
 
 -- a segment of no pages has no words
 no-words : (n u : ℕ) (w : List ℕ) → cond (eqb n 0) [] (take (n * u / 4) w) ≡ take (n * u / 4) w
@@ -34,7 +34,7 @@ module _ (m : List ℕ) (a : ℕ) where
   read-is : (r : Region) (o : Option RegionEntry) → RegionSlot m r o
       → cond (dead r || eqb (heldAt m r a) 0) [] (take (heldAt m r a * r .page / 4) (drop (a / 4) m)) ≡ take (lentWords o a) (drop (a / 4) m)
   read-is r o empty = refl
-  read-is r o (live e is) = rw (not-dead m e is, pages-at m e is a) (no-words (pagesAt a (e .loans)) (unit e) (drop (a / 4) m))
+  read-is r o (live e is) = rw (not-dead m e is, shows m e is .held a) (no-words (pagesAt a (e .loans)) (unit e) (drop (a / 4) m))
 
 module _ (m : List ℕ) (d : Manager) (t : Receipts) (v : Inv m d t) where
   pub replies-write : (id a first : ℕ) (words : List ℕ) → replyOf (writeSegment m d id a first words) ≡ writeByReceipts t id a first words
@@ -45,7 +45,7 @@ module _ (m : List ℕ) (d : Manager) (t : Receipts) (v : Inv m d t) where
       (λ r. check (eqb (heldAt m r a) 0) InvalidAddress ∷ check (ltb (heldAt m r a * r .page / 4) (first + length words)) InvalidSize ∷ [])
       (λ r. done (sets m (a / 4 + first) words) d 0) _
       (λ e is q p. agree (test (none-at m e is a) (λ z.
-      test (ap (λ (n : ℕ). ltb (n * unit e / 4) (first + length words)) (pages-at m e is a)) (λ z. acted refl)))))
+      test (ap (λ (n : ℕ). ltb (n * unit e / 4) (first + length words)) (shows m e is .held a)) (λ z. acted refl)))))
 
   pub reads : (id a : ℕ) → readSegment m d id a ≡ readByReceipts m t id a
   unfolding readSegment

@@ -4,7 +4,9 @@ use mathlib.Core.Bool.{Bool, true, false, cond}
 use mathlib.Core.List.{List, [], _∷_}
 use mathlib.Core.Option.{Option, some}
 use Prim.Native.Nat.{ℕ}
+use borrow.Author.Tests.{ne-eqb}
 use Rattle.manager.proofs.Laws.Appended.{by-case}
+use Rattle.manager.proofs.Laws.Result.{answered-sound}
 use Rattle.manager.specs.Result.{Result, Check, check, checked, refused}
 use Rattle.manager.specs.Region.{dead}
 use Rattle.manager.specs.Partition.{deadPartition}
@@ -18,9 +20,7 @@ use Rattle.manager.specs.declared.Status.the-variants.{InvalidId}
 use Rattle.trace.specs.Receipts.{RegionEntry, PartitionEntry, Reply, replyOf}
 use Rattle.trace.specs.Replies.{no, decided, living}
 use Rattle.trace.proofs.Invariant.{regionFor, RegionIs, RegionSlot, PartitionIs, PartitionSlot, empty, live}
-use Rattle.trace.proofs.Regions.Checks.{answered-sound}
 use Rattle.trace.proofs.Regions.Live.{not-dead}
-use borrow.Author.Tests.{ne-eqb}
 
 -- what is left of a directive is answered so
 abbrev pub Answers : List ℕ → Manager → List Check → Result → Reply → Type 0

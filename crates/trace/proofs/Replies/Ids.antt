@@ -22,8 +22,9 @@ use Rattle.manager.specs.declared.Area.{Area}
 use Rattle.trace.specs.Receipts.{Receipts, RegionEntry, PartitionEntry}
 use Rattle.trace.specs.Replies.{vacant, has, firstId, anyId, newRegionId, newPartitionId, regionIdOf, partitionIdOf, shared, asked}
 use Rattle.trace.proofs.Invariant.{RegionSlot, PartitionSlot, Picture, empty, live}
-use Rattle.trace.proofs.Areas.{areaFor, noArea, no-area, clear-flip, overlap-of}
+use Rattle.trace.proofs.Areas.{areaFor, noArea, no-area}
 use Rattle.trace.proofs.Loans.Tests.{by-leb}
+use Rattle.trace.proofs.Disjoint.{clear-flip, overlap-of}
 
 -- ---- a list by its places, and ids from k on
 

@@ -1,26 +1,26 @@
 -- What the partition directives answer, by the receipts. Assumes nothing.
 use mathlib.Core.Path.{_≡_, refl, sym, ap, _∙_, subst}
-use mathlib.Core.Bool.{Bool, true, false, not, _&&_, _||_}
+use mathlib.Core.Bool.{Bool, true, false, not, _&&_}
 use mathlib.Core.List.{List, [], _∷_}
-use mathlib.Core.Logic.{inl, inr}
 use Prim.Native.Nat.{ℕ, suc, _+_}
 use native.Mathlib.Omega.{arith}
 use lib.ListN.{length}
 use lib.Dec.{eqb}
-use borrow.Author.Tests.{eqb-true, eqb-false, eq-eqb, ne-eqb}
+use borrow.Author.Tests.{eqb-false, eq-eqb, ne-eqb}
 use Rattle.manager.specs.Record.{noPartition, partitionOf, slotOf, withPartition}
 use Rattle.manager.specs.Result.{check, checked, done}
 use Rattle.manager.proofs.Laws.Appended.{by-case}
+use Rattle.manager.proofs.Laws.Distinct.{on-in}
 use Rattle.manager.specs.Partition.{buffers, isBuffer, isFree, chain, afterGet, gotten, afterReturn, returned}
 use Rattle.manager.specs.Partitions.{partitionNamed, createPartition, identPartition, deletePartition, getBuffer, returnBuffer}
 use Rattle.manager.specs.declared.Manager.{Manager}
 use Rattle.manager.specs.declared.Partition.{Partition}
 use Rattle.manager.specs.declared.Call.the-variants.{CreatePartition, IdentPartition, DeletePartition, GetBuffer, ReturnBuffer}
 use Rattle.manager.specs.declared.Status.the-variants.{InvalidAddress, ResourceInUse, Unsatisfied}
-use Rattle.trace.specs.Receipts.{Receipts, PartitionEntry, Within, replyOf}
+use Rattle.manager.specs.Lists.{In}
+use Rattle.trace.specs.Receipts.{Receipts, PartitionEntry, replyOf}
 use Rattle.trace.specs.Replies.{yes, decided, listed, lentAny, front, newPartitionId, partitionIdOf, byReceipts}
 use Rattle.trace.proofs.Invariant.{PartitionIs, Inv}
-use Rattle.trace.proofs.Buffers.{on-within}
 use Rattle.trace.proofs.Partitions.Slot.{free-unlent}
 use Rattle.trace.proofs.Partitions.Get.{front-first}
 use Rattle.trace.proofs.Partitions.Return.{off-lent}
@@ -28,27 +28,6 @@ use Rattle.trace.proofs.Queue.Line.{true-false}
 use Rattle.trace.proofs.Regions.Queue.{sound-inv}
 use Rattle.trace.proofs.Replies.Checks.{Answers, same, test, acted, agree, answers, at-partition}
 use Rattle.trace.proofs.Replies.Ids.{past-slots, new-partition, partition-id, area-asked}
-
--- ---- a number is on a list
-
-module _ (a : ℕ) where
-  listed-within : (l : List ℕ) → listed a l ≡ true → Within a l
-  unfolding listed Within
-  listed-within [] e = absurd (true-false false e refl)
-  listed-within (x ∷ l) e =
-      by-case (eqb x a) (λ b. (b || listed a l) ≡ true → Within a (x ∷ l)) (λ f g. inl (eqb-true x a f)) (λ f g. inr (listed-within l g)) e
-
-  within-listed : (l : List ℕ) → Within a l → listed a l ≡ true
-  unfolding listed Within
-  within-listed [] h = absurd h
-  within-listed (x ∷ l) (inl e) = rw (eq-eqb x a e)
-  within-listed (x ∷ l) (inr h) = or-true (eqb x a) (within-listed l h)
-    where
-      or-true : (b : Bool) → listed a l ≡ true → (b || listed a l) ≡ true
-      or-true true e = refl
-      or-true false e = e
-
--- ---- a live partition, by its entry
 
 module _ (m : List ℕ) (p : Partition) (e : PartitionEntry) (is : PartitionIs m p e) where
   -- something is lent where not every buffer is free
@@ -74,12 +53,12 @@ module _ (m : List ℕ) (p : Partition) (e : PartitionEntry) (is : PartitionIs m
   lent-is : (a : ℕ) → listed a (e .lent) ≡ (isBuffer p a && not (isFree m p a))
   lent-is a =
       by-case (listed a (e .lent)) (λ b. b ≡ (isBuffer p a && not (isFree m p a)))
-      (λ f. let w = listed-within a (e .lent) f in
+      (λ f. let w = on-in a (e .lent) .0 f in
       rw (is .buffer a w) (by-case (isFree m p a) (λ b. true ≡ not b)
-      (λ g. absurd (is .apart a w (subst (λ (l : List ℕ). Within a l) (is .chained) (on-within a (chain m p) g)))) (λ g. refl)))
+      (λ g. absurd (is .apart a w (subst (λ (l : List ℕ). In a l) (is .chained) (on-in a (chain m p) .0 g)))) (λ g. refl)))
       (λ f. by-case (isBuffer p a) (λ b. false ≡ (b && not (isFree m p a)))
       (λ g. by-case (isFree m p a) (λ b. false ≡ not b) (λ h. refl)
-      (λ h. absurd (true-false (listed a (e .lent)) (within-listed a (e .lent) (off-lent m p e is a g h)) f)))
+      (λ h. absurd (true-false (listed a (e .lent)) (on-in a (e .lent) .1 (off-lent m p e is a g h)) f)))
       (λ g. refl))
 
   returned-is : (d d′ : Manager) (m′ : List ℕ) (a : ℕ)

@@ -22,8 +22,8 @@ use Rattle.manager.specs.declared.Wait as asking
 use Rattle.manager.specs.declared.Wait.the-variants.{No, Yes}
 use Rattle.manager.specs.declared.Status.{Status}
 use Rattle.manager.specs.declared.Status.the-variants.{InternalError}
-use Rattle.trace.specs.Receipts.{Receipts, Reply, unit, pagesIn, addressIn, pageIn, pageLoans}
-use Rattle.trace.specs.Replies.{no, yes, noRun, resizes, decided, living, pagesAt, mostPagesAt, pagesOver, runIn, waitingChecks, front, byReceipts, writeByReceipts}
+use Rattle.trace.specs.Receipts.{Receipts, Reply, unit, addressIn, pagesOver}
+use Rattle.trace.specs.Replies.{no, yes, noPlace, resizes, decided, living, pagesAt, placeIn, waitingChecks, front, byReceipts, writeByReceipts, mostIn}
 
 -- a reply that is not 25; and a check that does not refuse so
 abbrev pub Undamaged : Reply → Type 0
@@ -61,7 +61,7 @@ unfolding every
 waiting t No task priority = refl
 waiting t Yes task priority = refl
 
-unplaced : (w : asking.Wait) → Undamaged (noRun w)
+unplaced : (w : asking.Wait) → Undamaged (noPlace w)
 unplaced No = refl
 unplaced Yes = refl
 
@@ -81,11 +81,11 @@ module _ (n : ℕ) (t : Receipts) where
   reply-sound (IdentRegion name) = checked _ _ refl refl
   reply-sound (DeleteRegion id) = alive (t .regions id) _ (λ e. checked _ _ refl refl)
   reply-sound (GetSegment id size wait task priority ticks) =
-      checked _ _ refl (alive (t .regions id) _ (λ e. checked _ _ (waiting t wait task priority) (placed (runIn e size (e .loans)) (λ p. yes (addressIn e p)) (noRun wait) (λ i. refl) (unplaced wait))))
+      checked _ _ refl (alive (t .regions id) _ (λ e. checked _ _ (waiting t wait task priority) (placed (placeIn e (e .loans) size) (λ p. yes (addressIn e p)) (noPlace wait) (λ i. refl) (unplaced wait))))
   reply-sound (ReturnSegment id a) = alive (t .regions id) _ (λ e. checked _ _ refl refl)
   reply-sound (SegmentSize id a) = alive (t .regions id) _ (λ e. checked _ _ refl refl)
   reply-sound (ResizeSegment id a size) = checked _ _ refl (alive (t .regions id) _ (λ e. checked _ _ refl
-      (resized (leb (pagesOver e size) (mostPagesAt (pagesIn e) (pageIn e a) (pageLoans e))) (pagesAt a (e .loans) * unit e))))
+      (resized (leb (pagesOver e size) (mostIn e a)) (pagesAt a (e .loans) * unit e))))
   reply-sound (RegionInformation id) = alive (t .regions id) _ (λ e. refl)
   reply-sound (CreatePartition name start bytes size) = checked _ _ refl refl
   reply-sound (IdentPartition name) = checked _ _ refl refl

@@ -3,7 +3,7 @@ use mathlib.Core.Path.{_≡_, refl, sym, ap, _∙_, subst}
 use mathlib.Core.Bool.{Bool, true, false, cond, not, _&&_, true≢false}
 use mathlib.Core.List.{List, [], _∷_, _++_}
 use mathlib.Core.Logic.{_⊎_, inl, inr, ⊎-elim}
-use Prim.Native.Nat.{ℕ, zero, suc, _+_, _-_, _≤_}
+use Prim.Native.Nat.{ℕ, suc, _+_, _-_, _≤_}
 use native.Mathlib.Nat.{eq-zero-or-pos, sub-zero}
 use native.Mathlib.Omega.{arith}
 use lib.ListN.{length, replicate}
@@ -11,24 +11,29 @@ use lib.Dec.{eqb, leb}
 use borrow.Author.Tests.{eqb-false, leb-true, not-true}
 use Rattle.arith.specs.Round.{pagesFor}
 use Rattle.arith.specs.Layout.{pageCount}
-use Rattle.manager.specs.Lists.{every, some as someOf, pairwise, adjacent}
+use Rattle.manager.specs.Lists.{every, some as someOf, pairwise, adjacent, In, Distinct}
 use Rattle.manager.proofs.Laws.Lists.{and-first, and-second}
 use Rattle.manager.specs.Map.{Segment, free, held, isHeldSegment}
-use Rattle.manager.specs.Record.{tasks, noWaiter, regionOf}
+use Rattle.manager.specs.Record.{slots, tasks, noWaiter, regionOf}
+use Rattle.manager.specs.Paged.{kindOf}
 use Rattle.manager.specs.Region.{baseOf, dead, pagesOf, pagesAsked, anyHeld, segments}
 use Rattle.manager.specs.Queue.{goesBefore}
-use Rattle.manager.specs.Sound.{unused, soundWaiter, soundPlace, otherTask, inOrder, liveRegion, soundRegion}
+use Rattle.manager.specs.Sound.{unused, soundWaiter, soundPlace, otherTask, inOrder, soundRegion}
+use Rattle.manager.proofs.Laws.Sound.{live-of}
 use Rattle.manager.proofs.Laws.Queue.{empty-waiter}
 use Rattle.manager.proofs.Laws.Distinct.{either}
 use Rattle.manager.specs.declared.Manager.{Manager}
 use Rattle.manager.specs.declared.Region.{Region}
 use Rattle.manager.specs.declared.Waiter.{Waiter}
-use Rattle.trace.specs.Receipts.{Receipts, Wait, unit, Within, Distinct}
+use Rattle.trace.specs.Receipts.{Receipts, Wait, unit, pagesIn}
 use Rattle.trace.specs.Claims.{waiterOf, waitersOf}
-use Rattle.trace.proofs.Invariant.{WaitIs, AllWaits, tasksOf}
+use Rattle.trace.proofs.Invariant.{WaitIs, tasksOf}
+use Rattle.trace.proofs.Areas.{region-slot}
 use Rattle.trace.proofs.Loans.Addresses.{address-none}
 use Rattle.trace.proofs.Loans.Words.{loansOf}
-use Rattle.trace.proofs.Recover.Region.{entryOf, slotEntry, unit-same, region-parts}
+use Rattle.trace.proofs.Loans.Lawful.{found}
+use Rattle.trace.proofs.Reconstruct.Region.{entryOf, slotEntry, unit-same, region-parts}
+use Rattle.trace.proofs.Segments.{law}
 
 -- a waiter as a wait, and the used places of a queue
 abbrev pub waitFor : Waiter → Wait
@@ -122,7 +127,7 @@ pub record WaiterParts (m : List ℕ) (r : Region) (w : Waiter) : Type 0 where
   pub alive : dead r ≡ false
   pub lending : anyHeld m r ≡ true
   pub size-some : 1 ≤ w .size
-  pub size-most : pagesFor (w .size) (r .page) ≤ pagesOf r
+  pub size-most : pagesAsked r (w .size) ≤ pagesOf r
   pub priority-some : 1 ≤ w .priority
   pub priority-most : w .priority ≤ 255
 
@@ -153,51 +158,46 @@ waiter-parts m d w e f =
       priority-most = leb-true (w .priority) 255 (and-second p q g₅);
     }
 
-pub live-clauses : (m : List ℕ) (r : Region) → soundRegion m r ≡ true → dead r ≡ false → liveRegion m r ≡ true
-unfolding soundRegion
-live-clauses m r e f = rw f at e
-
 module _ (m : List ℕ) (d : Manager) (t : Receipts) (entries : (id : ℕ) → t .regions id ≡ slotEntry m (regionOf d id))
-    (sounds : (id : ℕ) → soundRegion m (regionOf d id) ≡ true) where
+    (sounds : (id : ℕ) → soundRegion m (regionOf d id) ≡ true) (nr : length (d .regions) ≡ slots) (np : length (d .partitions) ≡ slots) where
   pub wait-is : (w : Waiter) → soundPlace m d w ≡ true → unused w ≡ false → WaitIs t (waitFor w)
   wait-is w e f =
       let r = regionOf d (w .region) in
       let p = waiter-parts m d w e f in
-      let q = region-parts m r (live-clauses m r (sounds (w .region)) (p .alive)) in
+      let q = region-parts m r (live-of m r (sounds (w .region)) (p .alive)) in
       let u : unit (entryOf m r) ≡ r .page = unit-same m r (q .whole) in
       record {
         entry = entryOf m r;
         found = entries (w .region) ∙ rw (p .alive);
         lending = λ n. some-loan 0 (segments m r) (p .lending) (address-none (baseOf r) (r .page) (loansOf 0 (segments m r)) n);
-        task-some = pos (w .task) (eqb-false (w .task) 0 f);
+        id-some = omega (arith, region-slot d nr np (w .region) (eqb-false (r .name) 0 (p .alive)) .is);
+        task-some = let y = eqb-false (w .task) 0 f in omega arith;
         task-most = p .task-most;
         size-some = p .size-some;
-        size-most = subst (λ (x : ℕ). pagesFor (w .size) x ≤ pageCount (r .start) (r .length) x) (sym u) (p .size-most);
+        size-most = subst (λ (x : ℕ). x ≤ pagesIn (entryOf m r)) (law (entryOf m r) .rounded (pagesFor (w .size) (unit (entryOf m r))))
+            (subst (λ (x : ℕ). kindOf (r .order) .rounded (pagesFor (w .size) x) ≤ pageCount (r .start) (r .length) x) (sym u) (p .size-most));
         priority-some = p .priority-some;
         priority-most = p .priority-most;
         time = eq-zero-or-pos (w .ticks);
       }
-    where
-      pos : (k : ℕ) → (k ≡ 0 → ⊥) → 1 ≤ k
-      pos zero n = absurd (n refl)
-      pos (suc k) n = omega arith
 
-  pub all-waits : (ws : List Waiter) → every (soundPlace m d) ws ≡ true → AllWaits t (waitsOf ws)
-  unfolding AllWaits waitsOf
-  all-waits [] e = tt
-  all-waits (w ∷ ws) e = go (either (unused w)) (all-waits ws (every-tail (soundPlace m d) w ws e))
+  pub each-wait : (ws : List Waiter) → every (soundPlace m d) ws ≡ true → (x : Wait) → In x (waitsOf ws) → WaitIs t x
+  unfolding In waitsOf
+  each-wait [] e x h = absurd h
+  each-wait (w ∷ ws) e x h = go (either (unused w)) (each-wait ws (every-tail (soundPlace m d) w ws e) x)
     where
-      go : (unused w ≡ true) ⊎ (unused w ≡ false) → AllWaits t (waitsOf ws) → AllWaits t (waitsOf (w ∷ ws))
-      go (inl f) ih = rw f ih
-      go (inr f) ih = rw f (wait-is w (every-here (soundPlace m d) w ws e) f, ih)
+      go : (unused w ≡ true) ⊎ (unused w ≡ false) → (In x (waitsOf ws) → WaitIs t x) → WaitIs t x
+      go (inl f) ih = ih (subst (In x) (waits-skip w ws f) h)
+      go (inr f) ih =
+          ⊎-elim (λ (q : waitFor w ≡ x). subst (WaitIs t) q (wait-is w (every-here (soundPlace m d) w ws e) f)) ih (subst (In x) (waits-cons w ws f) h)
 
 -- a task is not among those of places that have other tasks
-other-tasks : (w : Waiter) (ws : List Waiter) → unused w ≡ false → every (otherTask w) ws ≡ true → ¬ Within (w .task) (tasksOf (waitsOf ws))
-unfolding Within tasksOf waitsOf
+other-tasks : (w : Waiter) (ws : List Waiter) → unused w ≡ false → every (otherTask w) ws ≡ true → ¬ In (w .task) (tasksOf (waitsOf ws))
+unfolding In tasksOf waitsOf
 other-tasks w [] f e = λ (h : ⊥). h
 other-tasks w (x ∷ ws) f e = go (either (unused x)) (other-tasks w ws f (every-tail (otherTask w) x ws e))
   where
-    go : (unused x ≡ true) ⊎ (unused x ≡ false) → ¬ Within (w .task) (tasksOf (waitsOf ws)) → ¬ Within (w .task) (tasksOf (waitsOf (x ∷ ws)))
+    go : (unused x ≡ true) ⊎ (unused x ≡ false) → ¬ In (w .task) (tasksOf (waitsOf ws)) → ¬ In (w .task) (tasksOf (waitsOf (x ∷ ws)))
     go (inl g) ih = rw g ih
     go (inr g) ih =
         let n : eqb (w .task) (x .task) ≡ false = not-true (eqb (w .task) (x .task)) (rw f at (every-here (otherTask w) x ws e)) in

@@ -14,11 +14,13 @@ use Rattle.manager.specs.Record.{noPartition}
 use Rattle.manager.specs.Partition.{deadPartition, buffers, chain}
 use Rattle.manager.specs.Sound.{emptyPartition, livePartition, soundPartition}
 use Rattle.manager.specs.declared.Partition.{Partition}
-use Rattle.trace.specs.Receipts.{PartitionEntry, buffersFrom, Within, Distinct, strike}
-use Rattle.trace.proofs.Invariant.{PartitionIs, PartitionSlot, empty, live}
 use Rattle.manager.proofs.Laws.Partition.Live.{live-laid, live-chain}
 use Rattle.manager.proofs.Laws.Partition.Chain.{linked-on}
-use Rattle.trace.proofs.Buffers.{chain-once, within-on, within-or-not, within-strike, strike-other, strike-keeps, strike-distinct, strike-length, length-buffers, distinct-buffers, buffer-within, within-buffer}
+use Rattle.manager.proofs.Laws.Distinct.{on-in}
+use Rattle.manager.specs.Lists.{In, Distinct}
+use Rattle.trace.specs.Receipts.{PartitionEntry, buffersFrom, strike}
+use Rattle.trace.proofs.Invariant.{PartitionIs, PartitionSlot, empty, live}
+use Rattle.trace.proofs.Buffers.{chain-once, in-or-not, within-strike, strike-other, strike-keeps, strike-distinct, strike-length, length-buffers, distinct-buffers, buffer-within, within-buffer}
 
 -- ---- several numbers struck
 
@@ -26,33 +28,33 @@ unfoldable pub strikeAll : List ℕ → List ℕ → List ℕ
 strikeAll [] l = l
 strikeAll (c ∷ cs) l = strikeAll cs (strike c l)
 
-pub within-struck : (a : ℕ) (cs l : List ℕ) → Within a (strikeAll cs l) → Within a l
+pub within-struck : (a : ℕ) (cs l : List ℕ) → In a (strikeAll cs l) → In a l
 unfolding strikeAll
 within-struck a [] l h = h
 within-struck a (c ∷ cs) l h = within-strike c a l (within-struck a cs (strike c l) h)
 
-pub struck-other : (a : ℕ) (cs l : List ℕ) → Distinct l → Within a (strikeAll cs l) → ¬ Within a cs
-unfolding strikeAll Within
+pub struck-other : (a : ℕ) (cs l : List ℕ) → Distinct l → In a (strikeAll cs l) → ¬ In a cs
+unfolding strikeAll In
 struck-other a [] l d h k = k
 struck-other a (c ∷ cs) l d h (inl e) = strike-other c a l d (within-struck a cs (strike c l) h) (sym e)
 struck-other a (c ∷ cs) l d h (inr k) = struck-other a cs (strike c l) (strike-distinct c l d) h k
 
-pub struck-keeps : (a : ℕ) (cs l : List ℕ) → Within a l → ¬ Within a cs → Within a (strikeAll cs l)
-unfolding strikeAll Within
+pub struck-keeps : (a : ℕ) (cs l : List ℕ) → In a l → ¬ In a cs → In a (strikeAll cs l)
+unfolding strikeAll In
 struck-keeps a [] l h n = h
 struck-keeps a (c ∷ cs) l h n =
-    struck-keeps a cs (strike c l) (strike-keeps c a l h (λ (e : a ≡ c). n (inl (sym e)))) (λ (k : Within a cs). n (inr k))
+    struck-keeps a cs (strike c l) (strike-keeps c a l h (λ (e : a ≡ c). n (inl (sym e)))) (λ (k : In a cs). n (inr k))
 
 pub struck-distinct : (cs l : List ℕ) → Distinct l → Distinct (strikeAll cs l)
 unfolding strikeAll
 struck-distinct [] l d = d
 struck-distinct (c ∷ cs) l d = struck-distinct cs (strike c l) (strike-distinct c l d)
 
-pub struck-length : (cs l : List ℕ) → Distinct cs → ((c : ℕ) → Within c cs → Within c l) → length (strikeAll cs l) + length cs ≡ length l
-unfolding strikeAll Within Distinct
+pub struck-length : (cs l : List ℕ) → Distinct cs → ((c : ℕ) → In c cs → In c l) → length (strikeAll cs l) + length cs ≡ length l
+unfolding strikeAll In Distinct
 struck-length [] l d h = omega arith
 struck-length (c ∷ cs) l d h =
-    let ih = struck-length cs (strike c l) (d .1) (λ x k. strike-keeps c x l (h x (inr k)) (λ (e : x ≡ c). d .0 (subst (λ (y : ℕ). Within y cs) e k))) in
+    let ih = struck-length cs (strike c l) (d .1) (λ x k. strike-keeps c x l (h x (inr k)) (λ (e : x ≡ c). d .0 (subst (λ (y : ℕ). In y cs) e k))) in
     omega (arith, strike-length c l (h c (inl refl)))
 
 -- ---- the entry
@@ -109,12 +111,12 @@ is-partition m p n e =
       chained = refl;
       once = struck-distinct (chain m p) all once;
       buffer = λ a h. within-buffer p s a (within-struck a (chain m p) all h);
-      either = λ a h. ⊎-elim (λ (k : Within a (chain m p)). inr k)
-          (λ (k : ¬ Within a (chain m p)). inl (struck-keeps a (chain m p) all (buffer-within p s a h) k)) (within-or-not a (chain m p));
+      either = λ a h. ⊎-elim (λ (k : In a (chain m p)). inr k)
+          (λ (k : ¬ In a (chain m p)). inl (struck-keeps a (chain m p) all (buffer-within p s a h) k)) (in-or-not a (chain m p));
       apart = λ a h. struck-other a (chain m p) all once h;
       counted =
           struck-length (chain m p) all (chain-once m p e)
-          (λ c k. buffer-within p s c (linked-on m p (p .free) 0 (p .front) c (live-chain m p e) (within-on c (chain m p) k)))
+          (λ c k. buffer-within p s c (linked-on m p (p .free) 0 (p .front) c (live-chain m p e) (on-in c (chain m p) .1 k)))
           ∙ length-buffers (buffers p) (p .size) (p .start);
     }
 

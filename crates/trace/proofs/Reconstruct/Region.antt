@@ -17,13 +17,13 @@ use Rattle.manager.specs.Sound.{inside, soundPage, isFifo, emptyRegion, liveReg
 use Rattle.manager.specs.declared.Region.{Region}
 use Rattle.manager.specs.declared.Order.{Order}
 use Rattle.manager.specs.declared.Order.the-variants.{Fifo, Priority}
-use Rattle.trace.specs.Loans.{Loan, Ordered, drawn}
-use Rattle.trace.specs.Receipts.{RegionEntry, unit, pagesIn, firstIn, byPage, pageLoans}
+use Rattle.trace.specs.Loans.{Loan}
+use Rattle.trace.specs.Receipts.{RegionEntry, unit, pagesIn, firstIn, byPage, pageLoans, reading}
 use Rattle.trace.proofs.Invariant.{regionFor, atAddresses, RegionIs, RegionSlot, empty, live}
 use Rattle.trace.proofs.Frame.{map-fits, map-length, inside-parts}
 use Rattle.trace.proofs.Loans.Addresses.{atPages, pages-back}
-use Rattle.trace.proofs.Loans.Words.{loansOf, sound-loans}
-use Rattle.manager.proofs.Laws.Map.{redraw}
+use Rattle.trace.proofs.Loans.Words.{loansOf}
+use Rattle.trace.proofs.Segments.{law}
 
 -- the clauses of a live region
 pub record RegionParts (m : List ℕ) (r : Region) : Type 0 where
@@ -94,7 +94,7 @@ is-region m e n q l h s =
     let ws = mapWords m (regionFor e) in
     let f = map-fits (e .start) (e .bytes) (unit e) (length m) (omega (arith, q .least)) (q .some-page) (inside-parts m (e .start) (e .bytes) (q .inside) .upto) in
     let z : length ws ≡ pagesIn e = map-length m (regionFor e) f in
-    let x = sound-loans ws (q .map) in
+    let x = law e .loans ws (q .map) in
     let l′ = loansOf 0 (segments m (regionFor e)) in
     let s′ : pageLoans e ≡ l′ = ap (byPage e) s ∙ pages-back (firstIn e) (unit e) (omega (arith, q .least)) l′ in
     record {
@@ -104,11 +104,11 @@ is-region m e n q l h s =
       page-most = h;
       some-page = q .some-page;
       placed = s ∙ ap (atAddresses e) (sym s′);
-      ordered = subst (λ (j : List Loan). Ordered (pagesIn e) 0 j) (sym s′) (subst (λ (k : ℕ). Ordered k 0 l′) z (x .ordered));
+      fits = subst (reading e .Fits (pagesIn e)) (sym s′) (subst (λ (k : ℕ). reading e .Fits k l′) z (x .fits));
       map =
-          sym (redraw ws (q .map)) ∙ ap draw (x .drawing)
-          ∙ ap (λ (k : ℕ). draw (drawn k 0 l′)) z
-          ∙ ap (λ (j : List Loan). draw (drawn (pagesIn e) 0 j)) (sym s′);
+          law e .redraw ws (q .map) ∙ ap draw (x .is)
+          ∙ ap (λ (k : ℕ). draw (reading e .drawn k l′)) z
+          ∙ ap (λ (j : List Loan). draw (reading e .drawn (pagesIn e) j)) (sym s′);
     }
 
 -- A SOUND SLOT IS THE PICTURE OF ITS ENTRY

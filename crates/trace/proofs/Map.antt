@@ -1,0 +1,193 @@
+-- THE MAP OF A REGION IS THE ONE DRAWN FROM ITS LOANS (`Shows`): what the names by which the directives speak of a region come to, said by
+-- its loans at their addresses. Kinds of regions, maps and areas stand below this; the directives, the queue and the list of calls, above.
+-- Assumes nothing.
+use mathlib.Core.Path.{_≡_, refl, sym, ap, _∙_}
+use mathlib.Core.Bool.{Bool, true, false}
+use mathlib.Core.List.{List, [], _∷_}
+use Prim.Native.Nat.{ℕ, zero, suc, _+_, _-_, _*_, _%_, _≤_, _<_}
+use native.Mathlib.Nat.{div-add-mod', mul-mod-left}
+use native.Mathlib.Omega.{arith}
+use lib.ListN.{length}
+use lib.Seq.{length-sets}
+use lib.Dec.{eqb, leb}
+use borrow.Author.Tests.{eqb-true, eqb-false, leb-true, eq-eqb, le-leb}
+use Rattle.arith.specs.Round.{pagesFor}
+use Rattle.arith.proofs.Laws.Round.{pages-some}
+use Rattle.manager.proofs.Laws.Lists.{and-first, and-second}
+use Rattle.manager.specs.Map.{Segment, draw}
+use Rattle.manager.specs.Paged.{free+}
+use Rattle.manager.specs.Region.{baseOf, startsPage, mapAt, mapWords, segments, withSegments, kind, opened}
+use Rattle.manager.specs.Region as region
+use Rattle.manager.specs.declared.Region.{Region}
+use Rattle.manager.specs.declared.Place.{Place}
+use Rattle.manager.specs.declared.Place.the-variants.{At, Nowhere}
+use Rattle.trace.specs.Loans.{Loan, loan, Lent, enter, amend, inPages, loanPages}
+use Rattle.trace.specs.Receipts.{RegionEntry, unit, reading, pagesOver, pagesIn, firstIn, addressIn, pageIn, byPage, pageLoans, withLoans}
+use Rattle.trace.specs.Replies.{lendsAny, pagesAt, placeIn, mostIn}
+use Rattle.trace.specs.Claims.{Full, Takes}
+use Rattle.trace.proofs.Invariant.{OnlyMap, regionFor, atAddresses, RegionIs}
+use Rattle.trace.proofs.Frame.{unit-least, inside-same, parts-inside, map-fits, map-stored, map-words-only, region-fits}
+use Rattle.trace.proofs.Loans.Addresses.{atPages, address-pages}
+use Rattle.trace.proofs.Loans.Lawful as lawful
+use Rattle.trace.proofs.Loans.Lawful.{Drawing, Gets, given, nothing}
+use Rattle.trace.proofs.Segments.{law, found-lent, Regular, regular, loan-holds, holds-loan, entered-at, amended-at, back-to-pages, regular-with, pages-lent}
+
+-- a step: the memory m′ is the picture of the entry with the loans l, and only words of the map differ from m
+pub record Steps (m : List ℕ) (e : RegionEntry) (m′ : List ℕ) (l : List Loan) : Type 0 where
+  pub is : RegionIs m′ (withLoans l e)
+  pub only : OnlyMap e m m′
+
+-- what a get of so many bytes comes to: its place, lent, or nothing where the region is full
+pub data Gives (m : List ℕ) (e : RegionEntry) (size : ℕ) : Place → List ℕ → Type 0 where
+  gave : {m′ : List ℕ} (p : ℕ) → Takes e (e .loans) size p → Steps m e m′ (enter (addressIn e p) (pagesOver e size) (e .loans)) → Gives m e size (At p) m′
+  none : {m′ : List ℕ} → Full e (e .loans) size → Gives m e size Nowhere m′
+
+pub record Shows (m : List ℕ) (e : RegionEntry) : Type 0 where
+  -- get
+  pub asked : (size : ℕ) → region.pagesAsked (regionFor e) size ≡ pagesOver e size
+  pub placed : (size : ℕ) → 0 < size → region.placed m (regionFor e) (pagesOver e size) ≡ placeIn e (e .loans) size
+  pub got : (size : ℕ) → 0 < size → Gives m e size (region.placed m (regionFor e) (pagesOver e size)) (region.taken m (regionFor e) (pagesOver e size))
+  -- the segment at an address, and the most that it can have
+  pub held : (a : ℕ) → region.heldAt m (regionFor e) a ≡ pagesAt a (e .loans)
+  pub room : (a : ℕ) → region.roomAt m (regionFor e) a ≡ mostIn e a
+  -- return and resize
+  pub returned : (a k : ℕ) → Lent (e .loans) a k → Steps m e (region.changed m (regionFor e) a 0) (amend a 0 (e .loans))
+  pub resized : (a k size : ℕ) → Lent (e .loans) a k → pagesOver e size ≤ mostIn e a
+      → Steps m e (region.changed m (regionFor e) a (pagesOver e size)) (amend a (pagesOver e size) (e .loans))
+  -- counts
+  pub any : region.anyHeld m (regionFor e) ≡ lendsAny (e .loans)
+  pub frees : region.frees m (regionFor e) ≡ reading e .runs (pagesIn e) (pageLoans e)
+  pub helds : region.helds m (regionFor e) ≡ loanPages (e .loans)
+
+module _ (m : List ℕ) (e : RegionEntry) (is : RegionIs m e) where
+  abbrev r : Region
+  r = regionFor e
+
+  abbrev loans : Regular e
+  loans = regular m e is
+
+  pub drawing : Drawing (reading e) (pagesIn e) (pageLoans e) (segments m r)
+  drawing = lawful.drawing _ _ (law e) (pagesIn e) (pageLoans e) (mapWords m r) (is .fits) (is .map)
+
+  -- another map, drawn from other loans
+  step : (k l : List Loan) (s : List Segment) → k ≡ atAddresses e l → Drawing (reading e) (pagesIn e) l s → Steps m e (withSegments m r s) k
+  step k l s at d =
+      let g = regular-with e loans k l at (d .fits) in
+      record {
+        is = record {
+          named = is .named;
+          inside = inside-same m (withSegments m r s) (e .start) (e .bytes) (length-sets m (mapAt r) (draw s)) (is .inside);
+          page-some = is .page-some;
+          page-most = is .page-most;
+          some-page = is .some-page;
+          placed = g .placed;
+          fits = g .fits;
+          map = map-stored m r (draw s) (law e .size d) (region-fits m e is)
+              ∙ ap draw (d .is) ∙ ap (λ (j : List Loan). draw (reading e .drawn (pagesIn e) j)) (sym (back-to-pages e loans k l at));
+        };
+        only = map-words-only m r (draw s) (law e .size d);
+      }
+
+  -- ---- the segment at an address
+
+  starts-page : (p : ℕ) → startsPage r (addressIn e p) ≡ true
+  starts-page p =
+      let f : baseOf r + p * unit e - baseOf r ≡ p * unit e = omega arith in
+      rw (le-leb (baseOf r) (addressIn e p) (omega arith), f, eq-eqb (p * unit e % unit e) 0 (mul-mod-left p (unit e)))
+
+  page-start : (a : ℕ) → startsPage r a ≡ true → a ≡ addressIn e (pageIn e a)
+  page-start a h =
+      let l = leb-true (baseOf r) a (and-first (leb (baseOf r) a) (eqb ((a - baseOf r) % unit e) 0) h) in
+      let z = eqb-true ((a - baseOf r) % unit e) 0 (and-second (leb (baseOf r) a) (eqb ((a - baseOf r) % unit e) 0) h) in
+      omega (arith, div-add-mod' (a - baseOf r) (unit e))
+
+  -- a loan is a held segment at its address, and a held segment is a loan
+  loan-held : (a k : ℕ) → Lent (e .loans) a k → region.heldAt m r a ≡ k
+  loan-held a k x =
+      let h = loan-holds e loans a k x in
+      let s : startsPage r a ≡ true = ap (startsPage r) (h .at) ∙ starts-page (pageIn e a) in
+      rw s (law e .held drawing (pageIn e a) k (h .lent))
+
+  held-loan : (a : ℕ) → 0 < region.heldAt m r a → Lent (e .loans) a (region.heldAt m r a)
+  held-loan a h = go (startsPage r a) refl
+    where
+      go : (b : Bool) → startsPage r a ≡ b → Lent (e .loans) a (region.heldAt m r a)
+      go false f = absurd (omega (arith, let z : region.heldAt m r a ≡ 0 = rw f in z))
+      go true f =
+          let g : region.heldAt m r a ≡ kind r .held (pageIn e a) (segments m r) = rw f in
+          holds-loan e loans a (region.heldAt m r a) (record { at = page-start a f; lent = rw g (law e .lent drawing (pageIn e a) (rw g at h)) })
+
+  held-at : (a : ℕ) → region.heldAt m r a ≡ pagesAt a (e .loans)
+  held-at a = go (region.heldAt m r a) refl (pagesAt a (e .loans)) refl
+    where
+      go : (k : ℕ) → region.heldAt m r a ≡ k → (n : ℕ) → pagesAt a (e .loans) ≡ n → region.heldAt m r a ≡ pagesAt a (e .loans)
+      go (suc k) f n q = sym (pages-lent e loans a _ (held-loan a (omega arith)))
+      go zero f zero q = f ∙ sym q
+      go zero f (suc n) q = loan-held a (pagesAt a (e .loans)) (found-lent a (e .loans) (λ z. omega arith))
+
+  -- something is held where something is lent
+  any-held : region.anyHeld m r ≡ lendsAny (e .loans)
+  unfolding inPages
+  any-held = go (e .loans) drawing
+    where
+      go : (l : List Loan) → Drawing (reading e) (pagesIn e) (byPage e l) (segments m r) → region.anyHeld m r ≡ lendsAny l
+      go [] d = law e .any-none d
+      go (loan a k ∷ l) d = law e .any-some d
+
+  -- ---- get
+
+  gets : (size : ℕ) → 0 < size → Gives m e size (region.placed m r (pagesOver e size)) (region.taken m r (pagesOver e size))
+  gets size z = go (law e .got drawing (pagesFor size (unit e)) (pages-some size (unit e) (loans .some-unit) z))
+    where
+      go : {q : Place} {s : List Segment} → Gets (reading e) (pagesIn e) (pageLoans e) (pagesOver e size) q s → Gives m e size q (withSegments m r s)
+      go (given p d c) = gave p c (step _ _ _ (entered-at e loans p (pagesOver e size)) d)
+      go (nothing d h) = none h
+
+  -- A REGION'S PICTURE SHOWS ITS LOANS
+  pub shows : Shows m e
+  shows =
+      record {
+        asked = λ size. law e .rounded (pagesFor size (unit e));
+        placed = λ size z. law e .placed drawing (pagesFor size (unit e)) (pages-some size (unit e) (loans .some-unit) z);
+        got = gets;
+        held = held-at;
+        room = λ a. law e .reach drawing (pageIn e a);
+        returned = λ a k x. let h = loan-holds e loans a k x in
+            step _ _ _ (amended-at e loans a 0 (h .at)) (law e .returned drawing (pageIn e a) k (h .lent));
+        resized = λ a k size x l. let h = loan-holds e loans a k x in
+            step _ _ _ (amended-at e loans a (pagesOver e size) (h .at)) (law e .changed drawing (pageIn e a) k (pagesFor size (unit e)) (h .lent) l);
+        any = any-held;
+        frees = law e .free-runs drawing;
+        helds = law e .held-pages drawing ∙ sym (ap loanPages (is .placed) ∙ address-pages (firstIn e) (unit e) (pageLoans e));
+      }
+
+  -- the check for 9, by the loans; an address that it lets pass is that of a loan
+  pub none-at : (a : ℕ) → eqb (region.heldAt m r a) 0 ≡ eqb (pagesAt a (e .loans)) 0
+  none-at a = ap (λ (n : ℕ). eqb n 0) (held-at a)
+
+  pub lent-held : (a : ℕ) → eqb (region.heldAt m r a) 0 ≡ false → Lent (e .loans) a (region.heldAt m r a)
+  lent-held a h = held-loan a (let z = eqb-false (region.heldAt m r a) 0 h in omega arith)
+
+-- A NEW REGION: its map shows no loans
+pub opens : (m : List ℕ) (e : RegionEntry) → e .loans ≡ [] → ¬ (e .name ≡ 0) → ¬ (e .start ≡ 0) → e .start + e .bytes ≤ 4 * length m
+    → 1 ≤ e .page → e .page ≤ 4096 → 1 ≤ pagesIn e → Steps m e (region.opened m (regionFor e)) (e .loans)
+unfolding inPages atPages
+opens m e fresh named started upto page-some page-most some-page =
+    let r = regionFor e in
+    let ws = draw (free+ (pagesIn e) []) in
+    let d = law e .new (pagesIn e) in
+    let some-unit : 0 < unit e = omega (arith, unit-least e page-some) in
+    record {
+      is = record {
+        named = named;
+        inside = parts-inside (region.opened m r) (e .start) (e .bytes)
+            (record { some-start = started; upto = omega (arith, length-sets m (mapAt r) ws) });
+        page-some = page-some;
+        page-most = page-most;
+        some-page = some-page;
+        placed = rw fresh;
+        fits = rw fresh (d .fits);
+        map = rw fresh (map-stored m r ws (law e .size d) (map-fits (e .start) (e .bytes) (unit e) (length m) some-unit some-page upto) ∙ ap draw (d .is));
+      };
+      only = map-words-only m r ws (law e .size d);
+    }

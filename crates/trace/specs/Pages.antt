@@ -1,0 +1,81 @@
+-- Document 01, "Regions: Get, Resize" by the receipts: a region of pages. A get takes the lowest run of unheld pages, and a loan can grow into
+-- the unheld pages behind it. Assumes nothing.
+use mathlib.Core.Bool.{cond}
+use mathlib.Core.List.{List, [], _∷_}
+use Prim.Native.Nat.{ℕ, zero, suc, _+_, _-_, _≤_, _<_}
+use lib.Dec.{leb, eqb}
+use Rattle.manager.specs.Map.{Segment, free, held}
+use Rattle.manager.specs.declared.Order.{Order}
+use Rattle.manager.specs.declared.Place.{Place}
+use Rattle.manager.specs.declared.Place.the-variants.{At, Nowhere}
+use Rattle.trace.specs.Loans.{Loan, loan, Held, Run}
+use Rattle.trace.specs.Reading.{Reading}
+
+-- the pages of each unbroken run of unheld pages, from page `at` to page n, taken whole; a gap of no page is no run
+abbrev pub size+ : ℕ → List ℕ → List ℕ
+size+ zero s = s
+size+ (suc g) s = suc g ∷ s
+
+unfoldable pub runs : ℕ → ℕ → List Loan → List ℕ
+runs n at [] = size+ (n - at) []
+runs n at (loan a k ∷ l) = size+ (a - at) (runs n (a + k) l)
+
+-- a free segment for an unbroken run of unheld pages, taken whole; none where there is no such page
+abbrev pub run+ : ℕ → List Segment → List Segment
+run+ zero s = s
+run+ (suc g) s = free (suc g) ∷ s
+
+-- THE DRAWN MAP, from page `at` to page n: "a held segment for each loan and a free one for each unbroken run of unheld pages, taken
+-- whole"
+unfoldable pub drawn : ℕ → ℕ → List Loan → List Segment
+drawn n at [] = run+ (n - at) []
+drawn n at (loan a k ∷ l) = run+ (a - at) (held k ∷ drawn n (a + k) l)
+
+-- the loans lie in order between page `at` and page n, each of a page or more, and none starts before the one before it has ended
+unfoldable pub Ordered : ℕ → ℕ → List Loan → Type 0
+Ordered n at [] = at ≤ n
+Ordered n at (loan a k ∷ l) = (at ≤ a) × (0 < k) × Ordered n (a + k) l
+
+-- the lowest run of k pages
+pub record Lowest (n : ℕ) (l : List Loan) (k p : ℕ) : Type 0 where
+  pub run : Run n l k p
+  pub first : (q : ℕ) → Run n l k q → p ≤ q
+
+-- the loan of m pages at page p can have k: the pages that it lacks are pages of the region, and unheld
+pub record Room (n : ℕ) (l : List Loan) (p m k : ℕ) : Type 0 where
+  pub upto : p + k ≤ n
+  pub unheld : (q : ℕ) → p + m ≤ q → q < p + k → ¬ Held l q
+
+-- where the next loan starts, or the region of n pages ends
+abbrev pub upTo : ℕ → List Loan → ℕ
+upTo n [] = n
+upTo n (loan a k ∷ l) = a
+
+-- the most pages, of n, that the loan at page p can have: its own, and the unheld ones up to the next loan
+unfoldable pub mostPagesAt : ℕ → ℕ → List Loan → ℕ
+mostPagesAt n p [] = 0
+mostPagesAt n p (loan a k ∷ l) = cond (eqb a p) (upTo n l - a) (mostPagesAt n p l)
+
+-- the lowest run of k unheld pages, of n, from page `at` on: the first gap between loans that has k pages
+unfoldable pub lowestRun : ℕ → ℕ → ℕ → List Loan → Place
+lowestRun n k at [] = cond (leb k (n - at)) (At at) Nowhere
+lowestRun n k at (loan a m ∷ l) = cond (leb k (a - at)) (At at) (lowestRun n k (a + m) l)
+
+-- WHAT THE RECEIPTS SAY OF A REGION OF PAGES: a get may start anywhere
+abbrev pub pages : Reading
+pages =
+    record {
+      rounded = λ k. k;
+      place = λ n l k. lowestRun n k 0 l;
+      most = λ n l p. mostPagesAt n p l;
+      drawn = λ n l. drawn n 0 l;
+      runs = λ n l. runs n 0 l;
+      Fits = λ n l. Ordered n 0 l;
+      Starts = λ n k p. Unit {0};
+      Chosen = Lowest;
+      Room = Room;
+    }
+
+-- the kind of a region, by its order: every region is of pages
+unfoldable pub readingOf : Order → Reading
+readingOf o = pages
