@@ -14,7 +14,7 @@ ghost use Rattle.manager.specs.Access.{readSegment, writeSegment};
 pub fn read_segment<'a>(mem: &'a [u32], d: Manager, id: u32, address: u32) -> &'a [u32]
     ensures { λ r. ⌜ now r ≡ readSegment (now (mem .entry)) d id address ⌝ }
 {
-    if !invariant::is_sound(mem, d) {
+    if !soundness::is_sound(mem, d) {
         return &mem[0..0];
     }
     let r = objects::region_of(d, id);
@@ -48,7 +48,7 @@ pub fn write_segment(
 ) -> Answer
     ensures { λ r. ⌜ Performs (writeSegment (now (mem .entry)) d id address first (now (words .entry))) (now (mem .exit)) r ⌝ }
 {
-    if !invariant::is_sound(mem, d) {
+    if !soundness::is_sound(mem, d) {
         return reply::reply(d, Status::InternalError, 0);
     }
     let r = objects::region_of(d, id);

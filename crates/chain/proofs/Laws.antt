@@ -9,7 +9,7 @@ use lib.ListN.{length, getD, set, List·getD-eq-default}
 use lib.Seq.{set-out}
 use lib.Dec.{eqb, leb, ltb}
 use borrow.Author.Tests.{eq-eqb, ne-eqb, lt-ltb, le-ltb, le-leb, lt-leb, not-true, not-false}
-use Rattle.manager.specs.Lists.{some}
+use Rattle.manager.specs.Lists.{any}
 use Rattle.manager.specs.Partition.{buffers, isBuffer, nextOf, beforeOf, setNext, setBefore, link, follow, linked, afterGet, afterReturn}
 use Rattle.manager.specs.declared.Partition.{Partition}
 
@@ -47,21 +47,21 @@ pub ruleset bounds = (buffer-below, buffer-none, buffer-within, buffer-counted)
 
 -- the search along the chain
 abbrev pub meets : List ℕ → ℕ → ℕ → ℕ → Bool
-meets m a n at = some (eqb a) (follow n m at)
+meets m a n at = any (eqb a) (follow n m at)
 
 module _ (m : List ℕ) (a : ℕ) where
   pub meet-here : (n at : ℕ) → 0 < n → a ≡ at → true ≡ meets m a n at
-  unfolding some follow
+  unfolding any follow
   meet-here zero at h e = absurd (omega arith)
   meet-here (suc n) at h e = rw (eq-eqb _ _ e)
 
   pub meet-next : (n at : ℕ) → 0 < n → (a ≡ at → ⊥) → meets m a (n - 1) (nextOf m at) ≡ meets m a n at
-  unfolding some follow
+  unfolding any follow
   meet-next zero at h e = absurd (omega arith)
   meet-next (suc n) at h e = let z : suc n - 1 ≡ n = omega arith in rw (z, ne-eqb _ _ e)
 
   pub meet-none : (n at : ℕ) → n ≤ 0 → false ≡ meets m a n at
-  unfolding some follow
+  unfolding any follow
   meet-none zero at h = refl
   meet-none (suc n) at h = absurd (omega arith)
 

@@ -11,7 +11,7 @@ ghost use Rattle.manager.specs.Regions.{tick};
 pub fn tick(mem: &[u32], d: Manager) -> Answer
     ensures { λ a. ⌜ Performs (tick (now (mem .entry)) d) (now (mem .entry)) a ⌝ }
 {
-    if !invariant::is_sound(mem, d) {
+    if !soundness::is_sound(mem, d) {
         return reply::reply(d, Status::InternalError, 0);
     }
     let t = queue::after_tick(d);

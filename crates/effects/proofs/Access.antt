@@ -9,7 +9,7 @@ use lib.ListN.{length, take, drop, length-take}
 use lib.Seq.{take-all, take-take}
 use lib.Dec.{eqb}
 use borrow.Author.Tests.{not-true, ltb-false}
-use Rattle.manager.specs.Lists.{every, some}
+use Rattle.manager.specs.Lists.{every, any}
 use Rattle.manager.proofs.Laws.Lists.{and-first, and-second}
 use Rattle.manager.specs.Record.{regionOf}
 use Rattle.manager.specs.Result.{refused}
@@ -44,16 +44,16 @@ module _ (m : List ℕ) (d : Manager) (id address : ℕ) where
 
     -- a check's status: one of a write's, neither 0 nor 25
     abbrev fits : Status → Bool
-    fits s = some (eqb (numberOf s)) writeAnswers && (not (eqb (numberOf s) 0) && not (eqb (numberOf s) 25))
+    fits s = any (eqb (numberOf s)) writeAnswers && (not (eqb (numberOf s) 0) && not (eqb (numberOf s) 25))
 
     fails : sound m d ≡ true → (s : Status) → fits s ≡ true → WriteEffects m d id address first words (refused m d s)
     fails ok s h =
-        let u = and-second (some (eqb (numberOf s)) writeAnswers) _ h in
-        refuses s (and-first (some (eqb (numberOf s)) writeAnswers) _ h) (not-true _ (and-first (not (eqb (numberOf s) 0)) _ u))
+        let u = and-second (any (eqb (numberOf s)) writeAnswers) _ h in
+        refuses s (and-first (any (eqb (numberOf s)) writeAnswers) _ h) (not-true _ (and-first (not (eqb (numberOf s) 0)) _ u))
         (rightly m d s ok (other-status s InternalError (not-true _ (and-second (not (eqb (numberOf s) 0)) _ u))))
 
     pub write-effects : WriteEffects m d id address first words (writeSegment m d id address first words)
-    unfolding writeSegment every some Passed
+    unfolding writeSegment every any Passed
     write-effects =
         by-answer m d _ _ (WriteEffects m d id address first words) fits refl (λ e. refuses InternalError refl refl (λ f. e, λ f. refl)) fails
         (λ ok p.

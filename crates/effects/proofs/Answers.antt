@@ -7,7 +7,7 @@ use mathlib.Core.Logic.{_↔_}
 use Prim.Native.Nat.{ℕ}
 use lib.Dec.{eqb}
 use borrow.Author.Tests.{eqb-true, eq-eqb, not-true}
-use Rattle.manager.specs.Lists.{every, some}
+use Rattle.manager.specs.Lists.{every, any}
 use Rattle.manager.proofs.Laws.Lists.{and-first, and-second}
 use Rattle.manager.proofs.Laws.Appended.{by-case}
 use Rattle.manager.specs.Status.{numberOf}
@@ -42,7 +42,7 @@ rightly m d s ok n = (λ e. absurd (n e), λ e. absurd (false≢true (sym e ∙ 
 module _ (m : List ℕ) (d : Manager) (c : Call) where
   -- a check's status: one of the directive's, neither 0 nor 255 nor 25, and its value is 0
   abbrev pub fits : Status → Bool
-  fits s = some (eqb (numberOf s)) (answersOf c) && (not (eqb (numberOf s) 255) && (not (eqb (numberOf s) 25) && eqb (refusedValue m d c s) 0))
+  fits s = any (eqb (numberOf s)) (answersOf c) && (not (eqb (numberOf s) 255) && (not (eqb (numberOf s) 25) && eqb (refusedValue m d c s) 0))
 
   unsound : On 25 (answersOf c) → sound m d ≡ false → CallEffects m d c (refused m d InternalError)
   unsound l e =
@@ -68,9 +68,9 @@ module _ (m : List ℕ) (d : Manager) (c : Call) where
 
   fails : sound m d ≡ true → (s : Status) → fits s ≡ true → CallEffects m d c (refused m d s)
   fails ok s h =
-      let r = and-second (some (eqb (numberOf s)) (answersOf c)) _ h in
+      let r = and-second (any (eqb (numberOf s)) (answersOf c)) _ h in
       let u = and-second (not (eqb (numberOf s) 255)) _ r in
-      refuses ok s 0 (and-first (some (eqb (numberOf s)) (answersOf c)) _ h) (not-true _ (and-first (not (eqb (numberOf s) 255)) _ r))
+      refuses ok s 0 (and-first (any (eqb (numberOf s)) (answersOf c)) _ h) (not-true _ (and-first (not (eqb (numberOf s) 255)) _ r))
       (not-true _ (and-first (not (eqb (numberOf s) 25)) _ u)) (eqb-true (refusedValue m d c s) 0 (and-second (not (eqb (numberOf s) 25)) _ u))
 
   -- an answer of 0: it writes no other words

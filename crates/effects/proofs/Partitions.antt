@@ -10,7 +10,7 @@ use lib.ListN.{length, List·getD-eq-default}
 use lib.Seq.{getD-set-same}
 use lib.Dec.{eqb, ltb}
 use borrow.Author.Tests.{eqb-true, eqb-false, ltb-true, ltb-false, leb-false, not-false}
-use Rattle.manager.specs.Lists.{every, some}
+use Rattle.manager.specs.Lists.{every, any}
 use Rattle.manager.specs.Record.{slots, noPartition, slotOf, partitionOf}
 use Rattle.manager.specs.Partition.{deadPartition, buffers, bufferAt, isBuffer, isFree, chain, soundChain, linkAll, afterGet, afterReturn, returned}
 use Rattle.manager.proofs.Laws.Distinct.{either, on-head}
@@ -45,11 +45,11 @@ live-slot d id live =
 module _ (m : List ℕ) (d : Manager) where
   -- these change no word
   pub ident-effects : (name : ℕ) → CallEffects m d (IdentPartition name) (identPartition m d name)
-  unfolding identPartition every some
+  unfolding identPartition every any
   ident-effects name = effects m d (IdentPartition name) _ _ refl refl (λ ok p. acts m d (IdentPartition name) ok _ refl refl (λ w. unchanged))
 
   pub delete-effects : (id : ℕ) → CallEffects m d (DeletePartition id) (deletePartition m d id)
-  unfolding deletePartition every some
+  unfolding deletePartition every any
   delete-effects id = effects m d (DeletePartition id) _ _ refl refl (λ ok p. acts m d (DeletePartition id) ok _ refl refl (λ w. unchanged))
 
   -- a get
@@ -57,7 +57,7 @@ module _ (m : List ℕ) (d : Manager) where
   get-words p g e h = record { size = get-length m p; same = λ j n. get-only m p (g .shaped) e j (not-links m p j n) h }
 
   pub get-effects : (id : ℕ) → CallEffects m d (GetBuffer id) (getBuffer m d id)
-  unfolding getBuffer every some Passed
+  unfolding getBuffer every any Passed
   get-effects id =
       let p = partitionOf d id in
       effects m d (GetBuffer id) _ _ refl refl (λ ok c.
@@ -72,9 +72,9 @@ module _ (m : List ℕ) (d : Manager) where
   return-words p g e a b f =
       let c = return-chain m p g e a b f in
       let on : (x : ℕ) → isFree m p x ≡ true → isFree (afterReturn m p a) (returned p a) x ≡ true =
-      λ x q. ap (some (eqb x)) c ∙ some-append (eqb x) (chain m p) (a ∷ []) ∙ rw q in
+      λ x q. ap (any (eqb x)) c ∙ some-append (eqb x) (chain m p) (a ∷ []) ∙ rw q in
       let last : isFree (afterReturn m p a) (returned p a) a ≡ true =
-      ap (some (eqb a)) c ∙ some-append (eqb a) (chain m p) (a ∷ []) ∙ rw (f, on-head a a [] refl) in
+      ap (any (eqb a)) c ∙ some-append (eqb a) (chain m p) (a ∷ []) ∙ rw (f, on-head a a [] refl) in
       record {
         size = return-length m p a;
         same = λ j n.
@@ -83,7 +83,7 @@ module _ (m : List ℕ) (d : Manager) where
       }
 
   pub return-effects : (id address : ℕ) → CallEffects m d (ReturnBuffer id address) (returnBuffer m d id address)
-  unfolding returnBuffer every some Passed
+  unfolding returnBuffer every any Passed
   return-effects id a =
       let p = partitionOf d id in
       effects m d (ReturnBuffer id a) _ _ refl refl (λ ok c.
@@ -106,7 +106,7 @@ module _ (m : List ℕ) (d : Manager) where
       }
 
   pub create-effects : (name start bytes size : ℕ) → CallEffects m d (CreatePartition name start bytes size) (createPartition m d name start bytes size)
-  unfolding createPartition every some Passed
+  unfolding createPartition every any Passed
   create-effects name start bytes size =
       let p = newPartition name start bytes size in
       let slot = partitionNamed d 0 in

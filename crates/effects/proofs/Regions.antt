@@ -7,11 +7,11 @@ use native.Mathlib.Omega.{arith}
 use lib.Seq.{getD-set-same}
 use lib.Dec.{leb}
 use borrow.Author.Tests.{leb-true, leb-false}
-use Rattle.manager.specs.Lists.{every, some}
+use Rattle.manager.specs.Lists.{every, any}
 use Rattle.manager.specs.Record.{slots, tasks, noRegion, regionOf, idOf, withRegion}
 use Rattle.manager.specs.Result.{Result, done, replied}
 use Rattle.manager.specs.Map.{total}
-use Rattle.manager.specs.Paged.{free+, take, reachFrom, changeFrom}
+use Rattle.manager.specs.Paged.{free+, allocate, reachFrom, changeFrom}
 use Rattle.manager.proofs.Laws.Paged.{total-free, total-take, total-change}
 use Rattle.manager.specs.Queue.{enqueue}
 use Rattle.manager.proofs.Laws.Appended.{by-case}
@@ -52,7 +52,7 @@ module _ (m : List ℕ) (d : Manager) where
 
   pub create-effects : (name start bytes page : ℕ) (order : Order)
       → CallEffects m d (CreateRegion name start bytes page order) (createRegion m d name start bytes page order)
-  unfolding createRegion every some Passed
+  unfolding createRegion every any Passed
   create-effects name start bytes page order =
       let r = newRegion name start bytes page order in
       let slot = regionNamed d 0 in
@@ -63,23 +63,23 @@ module _ (m : List ℕ) (d : Manager) where
 
   -- these change no word
   pub ident-effects : (name : ℕ) → CallEffects m d (IdentRegion name) (identRegion m d name)
-  unfolding identRegion every some
+  unfolding identRegion every any
   ident-effects name = effects m d (IdentRegion name) _ _ refl refl (λ ok p. acts m d (IdentRegion name) ok _ refl refl (λ w. unchanged))
 
   pub delete-effects : (id : ℕ) → CallEffects m d (DeleteRegion id) (deleteRegion m d id)
-  unfolding deleteRegion every some
+  unfolding deleteRegion every any
   delete-effects id = effects m d (DeleteRegion id) _ _ refl refl (λ ok p. acts m d (DeleteRegion id) ok _ refl refl (λ w. unchanged))
 
   pub size-effects : (id address : ℕ) → CallEffects m d (SegmentSize id address) (segmentSize m d id address)
-  unfolding segmentSize every some
+  unfolding segmentSize every any
   size-effects id address = effects m d (SegmentSize id address) _ _ refl refl (λ ok p. acts m d (SegmentSize id address) ok _ refl refl (λ w. unchanged))
 
   pub information-effects : (id : ℕ) → CallEffects m d (RegionInformation id) (regionInformation m d id)
-  unfolding regionInformation every some
+  unfolding regionInformation every any
   information-effects id = effects m d (RegionInformation id) _ _ refl refl (λ ok p. acts m d (RegionInformation id) ok _ refl refl (λ w. unchanged))
 
   pub tick-effects : CallEffects m d Tick (tick m d)
-  unfolding tick every some
+  unfolding tick every any
   tick-effects = effects m d Tick _ _ refl refl (λ ok p. acts m d Tick ok _ refl refl (λ w. unchanged))
 
   -- a get: pages taken, or a refusal, or the task waits
@@ -94,10 +94,10 @@ module _ (m : List ℕ) (d : Manager) where
     taken-only ok live =
         let r = regionOf d id in
         let k = pagesAsked r size in
-        drawn-only m r (take k (segments m r)) (total-take k (segments m r) ∙ mapped id ok live .pages)
+        drawn-only m r (allocate k (segments m r)) (total-take k (segments m r) ∙ mapped id ok live .pages)
 
     waits : (w : Waiter) → sound m d ≡ true → CallEffects m d (GetSegment id size Yes task priority ticks) (replied m (enqueue d w) Waiting 0)
-    unfolding enqueue some
+    unfolding enqueue any
     waits w ok =
         record {
           numbered = on-in _ _ .0 refl;
@@ -108,14 +108,14 @@ module _ (m : List ℕ) (d : Manager) where
         }
 
     get-acts : (wait : Wait) → sound m d ≡ true → dead (regionOf d id) ≡ false → (g : Place) → CallEffects m d (GetSegment id size wait task priority ticks) (found wait g)
-    unfolding some
+    unfolding any
     get-acts No ok live (At p) = acts m d (GetSegment id size No task priority ticks) ok _ refl refl (λ w. taken-only ok live)
     get-acts Yes ok live (At p) = acts m d (GetSegment id size Yes task priority ticks) ok _ refl refl (λ w. taken-only ok live)
     get-acts No ok live Nowhere = refuses m d (GetSegment id size No task priority ticks) ok Unsatisfied 0 refl refl refl refl
     get-acts Yes ok live Nowhere = waits _ ok
 
     pub get-effects : (wait : Wait) → CallEffects m d (GetSegment id size wait task priority ticks) (getSegment m d id size wait task priority ticks)
-    unfolding getSegment every some Passed
+    unfolding getSegment every any Passed
     get-effects No =
         effects m d (GetSegment id size No task priority ticks) _ _ refl refl (λ ok p. get-acts No ok (p .1 .0) (placed m (regionOf d id) (pagesAsked (regionOf d id) size)))
     get-effects Yes =
@@ -123,7 +123,7 @@ module _ (m : List ℕ) (d : Manager) where
 
   -- a return: the map with the segment freed, and then the queue served
   pub return-effects : (id address : ℕ) → CallEffects m d (ReturnSegment id address) (returnSegment m d id address)
-  unfolding returnSegment serve every some Passed
+  unfolding returnSegment serve every any Passed
   return-effects id address =
       let r = regionOf d id in
       let p = pageAt r address in
@@ -135,7 +135,7 @@ module _ (m : List ℕ) (d : Manager) where
 
   -- a resize: the map with the segment changed, or 13 with the old length
   pub resize-effects : (id address size : ℕ) → CallEffects m d (ResizeSegment id address size) (resizeSegment m d id address size)
-  unfolding resizeSegment every some Passed
+  unfolding resizeSegment every any Passed
   resize-effects id address size =
       let r = regionOf d id in
       let p = pageAt r address in

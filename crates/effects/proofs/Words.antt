@@ -13,7 +13,7 @@ use Rattle.manager.specs.Record.{tasks, noWaiter, regionOf}
 use Rattle.manager.specs.Map.{Segment, isHeldSegment, wordsOf, draw, segmentOf, decode, total}
 use Rattle.manager.specs.Map.{sizeOf}
 use Rattle.manager.proofs.Laws.Map.{markOf, bit, draw-cons, total-cons, size-of, not-zero, length-draw}
-use Rattle.manager.specs.Paged.{take}
+use Rattle.manager.specs.Paged.{allocate}
 use Rattle.manager.proofs.Laws.Paged.{total-take}
 use Rattle.manager.specs.Queue.{firstOf, dequeue}
 use Rattle.manager.proofs.Laws.Appended.{by-case}
@@ -113,8 +113,8 @@ served-only (suc f) m d id s =
     let i = firstOf id (d .waiters) in
     let w = getD (d .waiters) i noWaiter in
     let k = pagesAsked r (w .size) in
-    let t : total (take k (segments m r)) ≡ pagesOf r = total-take k (segments m r) ∙ s .pages in
-    let next = served-only f (taken m r k) (dequeue d i) id (drawn-mapped m r s (take k (segments m r)) t) in
+    let t : total (allocate k (segments m r)) ≡ pagesOf r = total-take k (segments m r) ∙ s .pages in
+    let next = served-only f (taken m r k) (dequeue d i) id (drawn-mapped m r s (allocate k (segments m r)) t) in
     by-case (ltb i tasks) (λ b. Only (MapWord r) m (cond b (turn m d id w (placed m r k) (serveUpTo f (taken m r k) (dequeue d i) id)) (quiet m d) .memory))
-    (λ x. turn-only m d id w (placed m r k) (serveUpTo f (taken m r k) (dequeue d i) id) (only-then (drawn-only m r (take k (segments m r)) t) next))
+    (λ x. turn-only m d id w (placed m r k) (serveUpTo f (taken m r k) (dequeue d i) id) (only-then (drawn-only m r (allocate k (segments m r)) t) next))
     (λ x. unchanged)

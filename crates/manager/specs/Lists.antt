@@ -12,9 +12,9 @@ module _ {A : Type 0} where
   every t (x ∷ xs) = t x && every t xs
 
   -- some element passes the test
-  unfoldable pub some : (A → Bool) → List A → Bool
-  some t [] = false
-  some t (x ∷ xs) = t x || some t xs
+  unfoldable pub any : (A → Bool) → List A → Bool
+  any t [] = false
+  any t (x ∷ xs) = t x || any t xs
 
   -- the place of the first element that passes the test; the list's length where none does
   unfoldable pub indexOf : (A → Bool) → List A → ℕ

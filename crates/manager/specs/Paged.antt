@@ -39,10 +39,10 @@ placeFrom k at (held n ∷ s) = placeFrom k (at + n) s
 placeFrom k at (free n ∷ s) = cond (leb k n) (At at) (placeFrom k (at + n) s)
 
 -- it serves from its low end
-unfoldable pub take : ℕ → List Segment → List Segment
-take k [] = []
-take k (held n ∷ s) = held n ∷ take k s
-take k (free n ∷ s) = cond (leb k n) (held k ∷ free+ (n - k) s) (free n ∷ take k s)
+unfoldable pub allocate : ℕ → List Segment → List Segment
+allocate k [] = []
+allocate k (held n ∷ s) = held n ∷ allocate k s
+allocate k (free n ∷ s) = cond (leb k n) (held k ∷ free+ (n - k) s) (free n ∷ allocate k s)
 
 -- the pages of the held segment that starts at page p, where the map starts at page `at`; 0 where none does
 unfoldable pub heldFrom : ℕ → ℕ → List Segment → ℕ
@@ -69,9 +69,9 @@ pub record Kind : Type 0 where
   pub rounded : ℕ → ℕ
   -- the words of a sound map
   pub sound : List ℕ → Bool
-  -- where k pages are placed, and the map after they are taken there
+  -- where k pages are placed, and the map after that
   pub place : ℕ → List Segment → Place
-  pub take : ℕ → List Segment → List Segment
+  pub allocate : ℕ → List Segment → List Segment
   -- the pages of the held segment at a page, the most that it can have, and the map with k pages for it
   pub held : ℕ → List Segment → ℕ
   pub reach : ℕ → List Segment → ℕ
@@ -83,7 +83,7 @@ paged =
       rounded = λ k. k;
       sound = soundMap;
       place = λ k s. placeFrom k 0 s;
-      take = take;
+      allocate = allocate;
       held = λ p s. heldFrom p 0 s;
       reach = λ p s. reachFrom p 0 s;
       change = λ p k s. changeFrom p k 0 s;

@@ -4,7 +4,7 @@ use mathlib.Core.Bool.{Bool, true, false, cond, _&&_}
 use mathlib.Core.List.{List, [], _∷_}
 use lib.ListN.{getD, set}
 use lib.Dec.{eqb, leb, ltb}
-use Rattle.manager.specs.Lists.{some}
+use Rattle.manager.specs.Lists.{any}
 use Rattle.manager.specs.declared.Partition.{Partition}
 
 -- an empty slot has no name
@@ -48,7 +48,7 @@ abbrev pub chain : List ℕ → Partition → List ℕ
 chain m p = follow (p .free) m (p .front)
 
 abbrev pub isFree : List ℕ → Partition → ℕ → Bool
-isFree m p a = some (eqb a) (chain m p)
+isFree m p a = any (eqb a) (chain m p)
 
 -- a chain of n buffers from an address on, behind the buffer `before`: real buffers, links agreeing both ways, up to the kept rear,
 -- 0 at the ends

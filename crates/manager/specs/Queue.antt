@@ -7,7 +7,7 @@ use lib.ListN.{take, drop}
 use lib.Dec.{ltb, eqb}
 use Rattle.manager.specs.Record.{tasks, noWaiter, regionOf, withQueue}
 use Rattle.manager.specs.Result.{pad}
-use Rattle.manager.specs.Lists.{some, indexOf}
+use Rattle.manager.specs.Lists.{any, indexOf}
 use Rattle.manager.specs.declared.Manager.{Manager}
 use Rattle.manager.specs.declared.Waiter.{Waiter}
 use Rattle.manager.specs.declared.Notice.{Notice}
@@ -59,7 +59,7 @@ firstOf id ws = indexOf (waitsFor id) ws
 
 -- a task already waits
 abbrev pub waiting : Manager → ℕ → Bool
-waiting d task = some (λ w. eqb (w .task) task) (d .waiters)
+waiting d task = any (λ w. eqb (w .task) task) (d .waiters)
 
 -- Tick: each waiter with ticks left loses one; at 0 it leaves with status 6 and address 0. Ticks 0 waits for ever
 abbrev pub aged : Waiter → Waiter

@@ -7,7 +7,7 @@ use lib.Seq.{sets}
 use lib.Dec.{eqb, leb, ltb}
 use Rattle.arith.specs.Round.{pagesFor}
 use Rattle.arith.specs.Layout.{mapStart, firstPage, pageCount}
-use Rattle.manager.specs.Lists.{some}
+use Rattle.manager.specs.Lists.{any}
 use Rattle.manager.specs.Map.{Segment, isHeldSegment, decode, draw, freeSizes, heldSizes}
 use Rattle.manager.specs.Paged.{Kind, kindOf, free+}
 use Rattle.manager.specs.declared.Region.{Region}
@@ -74,7 +74,7 @@ changed m r a k = withSegments m r (kind r .change (pageAt r a) k (segments m r)
 
 -- something of it is held
 abbrev pub anyHeld : List ℕ → Region → Bool
-anyHeld m r = some isHeldSegment (segments m r)
+anyHeld m r = any isHeldSegment (segments m r)
 
 -- the pages of its free segments and of its held ones
 abbrev pub frees : List ℕ → Region → List ℕ
@@ -92,7 +92,7 @@ abbrev pub placed : List ℕ → Region → ℕ → Place
 placed m r k = kind r .place k (segments m r)
 
 abbrev pub taken : List ℕ → Region → ℕ → List ℕ
-taken m r k = withSegments m r (kind r .take k (segments m r))
+taken m r k = withSegments m r (kind r .allocate k (segments m r))
 
 -- the areas of objects: the whole asked area counts. A region has one
 abbrev pub areasOf : Region → List Area

@@ -7,7 +7,7 @@ use lib.Dec.{eqb, leb, ltb}
 use Rattle.arith.specs.Round.{roundUp}
 use Rattle.manager.specs.Record.{slots, tasks, noRegion, noInformation, regionOf, slotOf, idOf, withRegion}
 use Rattle.manager.specs.Result.{Result, Check, check, checked, refused, done, replied}
-use Rattle.manager.specs.Lists.{some, indexOf}
+use Rattle.manager.specs.Lists.{any, indexOf}
 use Rattle.manager.specs.Map.{largestOf, sumOf}
 use Rattle.manager.specs.Region.{dead, pagesOf, addressOf, opened, heldAt, roomAt, changed, anyHeld, frees, helds, pagesAsked, placed, taken, areas, overlap}
 use Rattle.manager.specs.Queue.{enqueue, waiting, leaving, afterTick}
@@ -30,7 +30,7 @@ answered m d cs act = checked (check (not (sound m d)) InternalError ∷ cs) (re
 
 -- an area that meets another live one
 abbrev pub overlaps : Manager → Area → Bool
-overlaps d a = some (overlap a) (areas d)
+overlaps d a = any (overlap a) (areas d)
 
 -- an area that ends past the memory
 abbrev pub pastMemory : List ℕ → ℕ → ℕ → Bool

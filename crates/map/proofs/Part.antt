@@ -14,7 +14,7 @@ use mir.Syntax.{w32}
 use mir.Val.{Fits}
 use Rattle.arith.specs.Layout.{firstPage}
 use Rattle.arith.proofs.Laws.Layout.{count-zero}
-use Rattle.manager.specs.Lists.{some}
+use Rattle.manager.specs.Lists.{any}
 use Rattle.manager.specs.Map.{decode, isHeldSegment}
 use Rattle.manager.specs.Region.{pagesOf, baseOf, mapAt, mapWords, anyHeld, startsPage, pageAt}
 use Rattle.map.specs.Word.{heldWord, heldWordAt, oneFree}
@@ -39,9 +39,9 @@ module _ (m : List ℕ) (r : Region) (b n : ℕ) (eb : b ≡ mapAt r) (en : n �
   pub words-whole : take (b + n - b) (drop b m) ≡ mapWords m r
   words-whole = let e : b + n - b ≡ n = omega arith in ap (λ (k : ℕ). take k (drop b m)) e ∙ same
 
-pub any-in : (m : List ℕ) (r : Region) (ws : List ℕ) (v : Bool) → ws ≡ mapWords m r → v ≡ some isHeldSegment (decode ws)
+pub any-in : (m : List ℕ) (r : Region) (ws : List ℕ) (v : Bool) → ws ≡ mapWords m r → v ≡ any isHeldSegment (decode ws)
     → v ≡ anyHeld m r
-any-in m r ws v ew ev = ev ∙ ap (λ (l : List ℕ). some isHeldSegment (decode l)) ew
+any-in m r ws v ew ev = ev ∙ ap (λ (l : List ℕ). any isHeldSegment (decode l)) ew
 
 -- the page at an address
 pub page-none : (r : Region) (a : ℕ) → r .page ≡ 0 → 0 ≡ pageAt r a

@@ -9,7 +9,7 @@ use native.Mathlib.Omega.{arith}
 use borrow.Author.Tests.{eq-eqb, ne-eqb, eqb-true}
 use lib.Dec.{eqb}
 use lib.ListN.{length, getD, drop, drop-of-length-le}
-use Rattle.manager.specs.Lists.{some}
+use Rattle.manager.specs.Lists.{any}
 use Rattle.manager.proofs.Laws.Lists.{rest-cons, Seeking, some-next, some-here, some-end}
 use Rattle.manager.specs.Map.{Segment, free, held, isHeld, isHeldSegment, decode}
 use Rattle.manager.specs.Paged.{heldFrom}
@@ -32,13 +32,13 @@ unfolding decode
 decode-end ws i h = ap decode (drop-of-length-le ws h)
 
 -- a segment is held where a word is odd
-pub held-words : (ws : List ℕ) → some isHeldSegment (decode ws) ≡ some isHeld ws
-unfolding decode some
+pub held-words : (ws : List ℕ) → any isHeldSegment (decode ws) ≡ any isHeld ws
+unfolding decode any
 held-words [] = refl
 held-words (w ∷ ws) = go (eqb w 0) (isHeld w) refl refl (held-words ws)
   where
-    go : (z h : Bool) → eqb w 0 ≡ z → isHeld w ≡ h → some isHeldSegment (decode ws) ≡ some isHeld ws
-        → some isHeldSegment (cond z (decode ws) (cond h (held (w / 2)) (free (w / 2)) ∷ decode ws)) ≡ (h || some isHeld ws)
+    go : (z h : Bool) → eqb w 0 ≡ z → isHeld w ≡ h → any isHeldSegment (decode ws) ≡ any isHeld ws
+        → any isHeldSegment (cond z (decode ws) (cond h (held (w / 2)) (free (w / 2)) ∷ decode ws)) ≡ (h || any isHeld ws)
     go true true e g r = let a = eqb-true w 0 e in let b = eqb-true (w % 2) 1 g in absurd (omega arith)
     go true false e g r = r
     go false true e g r = refl
@@ -84,7 +84,7 @@ module _ (g : ℕ → List Segment → ℕ) (p : ℕ) where
   word-free q (suc w) ws h = rw (decode-free (suc w) ws h (λ e. omega arith))
 
 -- the search for a held segment, word by word
-pub any-start : (ws : List ℕ) → Seeking isHeld ws (length ws) (some isHeldSegment (decode ws)) 0
+pub any-start : (ws : List ℕ) → Seeking isHeld ws (length ws) (any isHeldSegment (decode ws)) 0
 any-start ws = record { size = refl; within = omega arith; rest = sym (held-words ws) }
 
 module _ (ws : List ℕ) (r : Bool) (i : ℕ) (v : Seeking isHeld ws (length ws) r i) where

@@ -8,7 +8,7 @@ use native.Mathlib.Omega.{arith}
 use borrow.Author.Tests.{eq-eqb, ne-eqb, eqb-true, eqb-false, leb-true}
 use lib.Dec.{eqb, leb}
 use lib.ListN.{length, getD, List·getD-eq-default}
-use Rattle.manager.specs.Lists.{some}
+use Rattle.manager.specs.Lists.{any}
 use Rattle.manager.proofs.Laws.Lists.{and-first, and-second}
 use Rattle.manager.specs.Map.{isHeld, isHeldSegment, decode, soundFrom, soundMap}
 use Rattle.manager.specs.Paged.{heldFrom}
@@ -92,8 +92,8 @@ eqb-suc : (a b : ℕ) (x : Bool) → eqb a b ≡ x → eqb (suc a) (suc b) ≡ x
 eqb-suc a b true e = eq-eqb (suc a) (suc b) (ap suc (eqb-true a b e))
 eqb-suc a b false e = ne-eqb (suc a) (suc b) (λ h. eqb-false a b e (omega arith))
 
-held-behind : (due : ℕ) (ws : List ℕ) → soundFrom due false ws ≡ true → some isHeld ws ≡ not (eqb (length ws) due)
-unfolding soundFrom some
+held-behind : (due : ℕ) (ws : List ℕ) → soundFrom due false ws ≡ true → any isHeld ws ≡ not (eqb (length ws) due)
+unfolding soundFrom any
 held-behind zero [] e = refl
 held-behind (suc due) [] e = absurd (let z : _≡_ {A = ℕ} 0 1 = cc in omega arith)
 held-behind zero (w ∷ ws) e =
@@ -104,7 +104,7 @@ held-behind (suc due) (w ∷ ws) e =
     rw (z, eqb-suc (length ws) due (eqb (length ws) due) refl) (held-behind due ws (and-second (eqb w 0) _ e))
 
 first-by-mark : (w : ℕ) (ws : List ℕ) (b : Bool) → isHeld w ≡ b → 2 ≤ w → soundFrom (w / 2 - 1) b ws ≡ true
-    → (b || some isHeld ws) ≡ not (eqb w (2 * suc (length ws)))
+    → (b || any isHeld ws) ≡ not (eqb w (2 * suc (length ws)))
 first-by-mark w ws true e h g = rw (ne-eqb w (2 * suc (length ws)) (λ x. omega (arith, eqb-true (w % 2) 1 e)))
 first-by-mark w ws false e h g = held-behind (w / 2 - 1) ws g ∙ ap not (by-test (eqb (length ws) (w / 2 - 1)) refl)
   where
@@ -112,8 +112,8 @@ first-by-mark w ws false e h g = held-behind (w / 2 - 1) ws g ∙ ap not (by-tes
     by-test true q = q ∙ sym (eq-eqb w (2 * suc (length ws)) (omega (arith, eqb-true (length ws) (w / 2 - 1) q, eqb-false (w % 2) 1 e)))
     by-test false q = q ∙ sym (ne-eqb w (2 * suc (length ws)) (λ x. eqb-false (length ws) (w / 2 - 1) q (omega arith)))
 
-first-says : (ws : List ℕ) → soundMap ws ≡ true → 1 ≤ length ws → some isHeldSegment (decode ws) ≡ not (eqb (getD ws 0 0) (2 * length ws))
-unfolding soundMap soundFrom some
+first-says : (ws : List ℕ) → soundMap ws ≡ true → 1 ≤ length ws → any isHeldSegment (decode ws) ≡ not (eqb (getD ws 0 0) (2 * length ws))
+unfolding soundMap soundFrom any
 first-says [] e h = absurd (omega arith)
 first-says (w ∷ ws) e h =
     held-words (w ∷ ws)

@@ -1,7 +1,7 @@
 // Where a region's map lies in the memory, and what its words say. Every function is total: any words are read, sound or not.
 use manager::Region;
 ghost use mathlib.Core.Path.{_≡_};
-ghost use Rattle.manager.specs.Lists.{some};
+ghost use Rattle.manager.specs.Lists.{any};
 ghost use Rattle.manager.specs.Map.{decode, soundMap, isHeldSegment};
 ghost use Rattle.manager.specs.Region.{pagesOf, baseOf, pageAt, mapAt, mapWords, anyHeld, pagesAsked};
 ghost use Rattle.map.specs.Word.{heldWord, heldWordAt, oneFree};
@@ -83,7 +83,7 @@ pub fn is_sound(map: &[u32]) -> bool
 
 // Whether a segment is held: its word is odd.
 pub fn any_held(map: &[u32]) -> bool
-    ensures { λ r. ⌜ r ≡ some isHeldSegment (decode (now (map .entry))) ⌝ }
+    ensures { λ r. ⌜ r ≡ any isHeldSegment (decode (now (map .entry))) ⌝ }
 {
     let mut i = 0;
     while i < map.len() {

@@ -15,7 +15,7 @@ use Rattle.manager.specs.declared.Region.{Region}
 use Rattle.manager.specs.declared.Partition.{Partition}
 use Rattle.manager.specs.declared.Area.{Area}
 use Rattle.manager.specs.Record.{slots}
-use Rattle.manager.specs.Lists.{every, some, pairwise}
+use Rattle.manager.specs.Lists.{every, any, pairwise}
 use Rattle.manager.proofs.Laws.Lists.{and-first, and-second, rest-cons, every-cons, every-none, Pairing, pairwise-start, pairwise-next, pairwise-fail, pairwise-end}
 use Rattle.manager.specs.Region.{areasOf, areaOf, regionAreas, partitionAreas, overlap}
 use Rattle.objects.specs.declared.Gathered.{Gathered}
@@ -56,7 +56,7 @@ module _ (a x : Area) (l : List Area) where
   every-by true e h = rw (nowhere-met x e a) h
   every-by false e h = ap (λ (v : Bool). clear a x && v) h
 
-  some-by : (b : Bool) → not (every (clear a) l) ≡ some (overlap a) l → not (not b && every (clear a) l) ≡ (b || some (overlap a) l)
+  some-by : (b : Bool) → not (every (clear a) l) ≡ any (overlap a) l → not (not b && every (clear a) l) ≡ (b || any (overlap a) l)
   some-by true h = refl
   some-by false h = h
 
@@ -65,8 +65,8 @@ unfolding every somewhere
 every-somewhere a [] = refl
 every-somewhere a (x ∷ l) = every-by a x l (nowhere x) refl (every-somewhere a l)
 
-pub some-not : (a : Area) (l : List Area) → not (every (clear a) l) ≡ some (overlap a) l
-unfolding every some
+pub some-not : (a : Area) (l : List Area) → not (every (clear a) l) ≡ any (overlap a) l
+unfolding every any
 some-not a [] = refl
 some-not a (x ∷ l) = some-by a x l (overlap a x) (some-not a l)
 
@@ -257,7 +257,7 @@ module _ (all : List Area) (count : ℕ) where
 
 -- the areas gathered stand for all
 module _ (l : List Area) (g : Gathered) (v : Gathers l areaPlaces g) (r : Bool) where
-  pub some-of : (a : Area) → r ≡ every (λ b. not (overlap a b)) (drop 0 (take (g .count) (g .all))) → not r ≡ some (overlap a) l
+  pub some-of : (a : Area) → r ≡ every (λ b. not (overlap a b)) (drop 0 (take (g .count) (g .all))) → not r ≡ any (overlap a) l
   some-of a h = ap not (h ∙ ap (every (clear a)) (v .all) ∙ every-somewhere a l) ∙ some-not a l
 
   pub pairs-of : r ≡ pairwise (λ a b. not (overlap a b)) (take (g .count) (g .all)) → r ≡ pairwise (λ a b. not (overlap a b)) l

@@ -1,6 +1,6 @@
 // The manager record as words that a caller keeps, and back.
-mod put;
-mod take;
+mod reading;
+mod writing;
 
 use manager::Manager;
 use manager::Order;
@@ -57,15 +57,15 @@ pub fn unpack(words: &[u32]) -> Unpacked
             manager: Manager::new(),
         };
     }
-    if !take::choices(words) {
+    if !reading::choices(words) {
         return Unpacked {
             ok: false,
             manager: Manager::new(),
         };
     }
-    let regions = take::regions(words);
-    let partitions = take::partitions(words);
-    let waiters = take::waiters(words);
+    let regions = reading::regions(words);
+    let partitions = reading::partitions(words);
+    let waiters = reading::waiters(words);
     Unpacked {
         ok: true,
         manager: Manager {
@@ -86,7 +86,7 @@ pub fn pack(d: Manager, words: &mut [u32])
     let regions = d.regions;
     let partitions = d.partitions;
     let waiters = d.waiters;
-    put::regions(words, regions);
-    put::partitions(words, partitions);
-    put::waiters(words, waiters);
+    writing::regions(words, regions);
+    writing::partitions(words, partitions);
+    writing::waiters(words, waiters);
 }

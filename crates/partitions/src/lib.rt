@@ -21,7 +21,7 @@ pub fn create_partition(
 ) -> Answer
     ensures { λ r. ⌜ Performs (createPartition (now (mem .entry)) d name start length size) (now (mem .exit)) r ⌝ }
 {
-    if !invariant::is_sound(mem, d) {
+    if !soundness::is_sound(mem, d) {
         return reply::reply(d, Status::InternalError, 0);
     }
     create::create(mem, d, name, start, length, size)
@@ -31,7 +31,7 @@ pub fn create_partition(
 pub fn ident_partition(mem: &[u32], d: Manager, name: u32) -> Answer
     ensures { λ r. ⌜ Performs (identPartition (now (mem .entry)) d name) (now (mem .entry)) r ⌝ }
 {
-    if !invariant::is_sound(mem, d) {
+    if !soundness::is_sound(mem, d) {
         return reply::reply(d, Status::InternalError, 0);
     }
     if name == 0 {
@@ -48,7 +48,7 @@ pub fn ident_partition(mem: &[u32], d: Manager, name: u32) -> Answer
 pub fn delete_partition(mem: &[u32], d: Manager, id: u32) -> Answer
     ensures { λ r. ⌜ Performs (deletePartition (now (mem .entry)) d id) (now (mem .entry)) r ⌝ }
 {
-    if !invariant::is_sound(mem, d) {
+    if !soundness::is_sound(mem, d) {
         return reply::reply(d, Status::InternalError, 0);
     }
     buffers::delete(mem, d, id)
@@ -58,7 +58,7 @@ pub fn delete_partition(mem: &[u32], d: Manager, id: u32) -> Answer
 pub fn get_buffer(mem: &mut [u32], d: Manager, id: u32) -> Answer
     ensures { λ r. ⌜ Performs (getBuffer (now (mem .entry)) d id) (now (mem .exit)) r ⌝ }
 {
-    if !invariant::is_sound(mem, d) {
+    if !soundness::is_sound(mem, d) {
         return reply::reply(d, Status::InternalError, 0);
     }
     buffers::get(mem, d, id)
@@ -68,7 +68,7 @@ pub fn get_buffer(mem: &mut [u32], d: Manager, id: u32) -> Answer
 pub fn return_buffer(mem: &mut [u32], d: Manager, id: u32, address: u32) -> Answer
     ensures { λ r. ⌜ Performs (returnBuffer (now (mem .entry)) d id address) (now (mem .exit)) r ⌝ }
 {
-    if !invariant::is_sound(mem, d) {
+    if !soundness::is_sound(mem, d) {
         return reply::reply(d, Status::InternalError, 0);
     }
     buffers::give_back(mem, d, id, address)

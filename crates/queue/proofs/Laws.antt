@@ -15,7 +15,7 @@ use Rattle.manager.specs.declared.Waiter.{Waiter}
 use Rattle.manager.specs.declared.Order.{Order}
 use Rattle.manager.specs.declared.Order.the-variants.{Fifo, Priority}
 use Rattle.manager.specs.Record.{tasks, noWaiter, regionOf, withQueue}
-use Rattle.manager.specs.Lists.{some, indexOf}
+use Rattle.manager.specs.Lists.{any, indexOf}
 use Rattle.manager.proofs.Laws.Lists.{Placing, index-start, index-next, index-here, index-end, Seeking, some-start, some-next, some-here, some-end}
 use Rattle.manager.specs.Queue.{goesBefore, push, insert, pull, removeAt, enqueue, dequeue, waitsFor}
 use Rattle.objects.proofs.Laws.{unmapped}
@@ -166,7 +166,7 @@ pub record Asking (task : ℕ) (ws : List Waiter) (w : Bool) (i : ℕ) : Type 0 
   pub rest : Seeking (λ x. eqb (x .task) task) ws tasks w i
 
 module _ (task : ℕ) (ws : List Waiter) where
-  pub ask-start : length ws ≡ tasks → Asking task ws (some (λ x. eqb (x .task) task) ws) 0
+  pub ask-start : length ws ≡ tasks → Asking task ws (any (λ x. eqb (x .task) task) ws) 0
   ask-start h = record { rest = some-start _ ws tasks h }
 
   module _ (w : Bool) (i : ℕ) (v : Asking task ws w i) where

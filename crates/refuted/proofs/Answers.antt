@@ -11,7 +11,7 @@ use lib.Dec.{eqb, leb}
 use Rattle.manager.specs.Record.{noWaiter, slotOf, regionOf, partitionOf, withRegion, withPartition}
 use Rattle.manager.specs.Result.{refused, done}
 use Rattle.manager.specs.Map.{Segment, freeSizes, sumOf, total}
-use Rattle.manager.specs.Paged.{placeFrom, take}
+use Rattle.manager.specs.Paged.{placeFrom, allocate}
 use Rattle.manager.specs.Region.{baseOf, addressOf, pageAt, mapAt, segments, withSegments, heldAt, pagesAsked, placed, taken}
 use Rattle.manager.specs.Queue.{enqueue, dequeue}
 use Rattle.manager.specs.Serve.{onPlace}
@@ -65,7 +65,7 @@ lastFit =
     but segment-get 0 λ m d c a.
     let r = regionOf d (asked c .id) in
     let k = pagesAsked r (asked c .number) in
-    done (withSegments m r (reverse (take k (reverse (segments m r))))) d (addressOf r (lastPlace (segments m r) k))
+    done (withSegments m r (reverse (allocate k (reverse (segments m r))))) d (addressOf r (lastPlace (segments m r) k))
 
 not-lastFit : ¬ Demand3 lastFit
 unfolding everything

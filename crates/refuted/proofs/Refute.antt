@@ -11,7 +11,7 @@ use lib.Dec.{eqb}
 use borrow.Author.Tests.{eq-eqb, eqb-false}
 use Rattle.manager.specs.Status.{numberOf}
 use Rattle.manager.specs.Result.{Result, replied}
-use Rattle.manager.specs.Lists.{some}
+use Rattle.manager.specs.Lists.{any}
 use Rattle.manager.proofs.Laws.Distinct.{on-off, on-in}
 use Rattle.manager.specs.Sound.{sound}
 use Rattle.manager.specs.Examples.{same, told}
@@ -81,7 +81,7 @@ module _ (i : Implementation) (m : List ℕ) (d : Manager) (c : Call) where
       → eqb (f (i .call m d c)) (f (replied m d (i .call m d c .status) (refusedValue m d c (i .call m d c .status)))) ≡ false → ¬ Demand1 i
   refuses-otherwise f r e h = eqb-false _ _ e (ap f (h .call m d c .refusal r))
 
-  pub answers-otherwise : some (eqb (numberOf (i .call m d c .status))) (answersOf c) ≡ false → ¬ Demand1 i
+  pub answers-otherwise : any (eqb (numberOf (i .call m d c .status))) (answersOf c) ≡ false → ¬ Demand1 i
   answers-otherwise e h = on-off _ (answersOf c) (on-in _ (answersOf c) .1 (h .call m d c .numbered)) e
 
   pub passes-unsound : sound m d ≡ false → eqb (numberOf (i .call m d c .status)) 25 ≡ false → ¬ Demand1 i

@@ -24,7 +24,7 @@ pub fn create_region(
 ) -> Answer
     ensures { λ a. ⌜ Performs (createRegion (now (mem .entry)) d name start length page order) (now (mem .exit)) a ⌝ }
 {
-    if !invariant::is_sound(mem, d) {
+    if !soundness::is_sound(mem, d) {
         return reply::reply(d, Status::InternalError, 0);
     }
     create::create(mem, d, name, start, length, page, order)
@@ -34,7 +34,7 @@ pub fn create_region(
 pub fn ident_region(mem: &[u32], d: Manager, name: u32) -> Answer
     ensures { λ a. ⌜ Performs (identRegion (now (mem .entry)) d name) (now (mem .entry)) a ⌝ }
 {
-    if !invariant::is_sound(mem, d) {
+    if !soundness::is_sound(mem, d) {
         return reply::reply(d, Status::InternalError, 0);
     }
     if name == 0 {
@@ -51,7 +51,7 @@ pub fn ident_region(mem: &[u32], d: Manager, name: u32) -> Answer
 pub fn delete_region(mem: &[u32], d: Manager, id: u32) -> Answer
     ensures { λ a. ⌜ Performs (deleteRegion (now (mem .entry)) d id) (now (mem .entry)) a ⌝ }
 {
-    if !invariant::is_sound(mem, d) {
+    if !soundness::is_sound(mem, d) {
         return reply::reply(d, Status::InternalError, 0);
     }
     let r = objects::region_of(d, id);
@@ -76,7 +76,7 @@ pub fn delete_region(mem: &[u32], d: Manager, id: u32) -> Answer
 pub fn region_information(mem: &[u32], d: Manager, id: u32) -> Answer
     ensures { λ a. ⌜ Performs (regionInformation (now (mem .entry)) d id) (now (mem .entry)) a ⌝ }
 {
-    if !invariant::is_sound(mem, d) {
+    if !soundness::is_sound(mem, d) {
         return reply::reply(d, Status::InternalError, 0);
     }
     let r = objects::region_of(d, id);

@@ -8,7 +8,7 @@ use native.Mathlib.Omega.{arith}
 use lib.ListN.{length}
 use Rattle.manager.specs.Map.{Segment, decode, draw, soundMap, total}
 use Rattle.manager.proofs.Laws.Map.{Well, redraw}
-use Rattle.manager.specs.Paged.{take, placeFrom, heldFrom, reachFrom, changeFrom}
+use Rattle.manager.specs.Paged.{allocate, placeFrom, heldFrom, reachFrom, changeFrom}
 use Rattle.manager.proofs.Laws.Paged.{take-none, well-take, total-take, well-change, total-change}
 use Rattle.manager.specs.Region.{pagesOf, mapAt, mapWords, segments, withSegments}
 use Rattle.manager.proofs.Laws.Region.{lent, putBack, lent-is, lent-in, lent-few, lent-some, lent-sound, put-back}
@@ -20,7 +20,7 @@ use Rattle.manager.specs.declared.Place.the-variants.{Nowhere}
 use Rattle.segments.specs.Lending.{Draws, Takes}
 
 -- where nothing is found, nothing changes
-pub untaken : (ws : List ℕ) (k : ℕ) → soundMap ws ≡ true → placeFrom k 0 (decode ws) ≡ Nowhere → ws ≡ draw (take k (decode ws))
+pub untaken : (ws : List ℕ) (k : ℕ) → soundMap ws ≡ true → placeFrom k 0 (decode ws) ≡ Nowhere → ws ≡ draw (allocate k (decode ws))
 untaken ws k ok e = sym (ap draw (take-none k 0 (decode ws) e) ∙ redraw ws ok)
 
 module _ (r : Region) (at n : ℕ) (ea : at ≡ mapAt r) (en : n ≡ pagesOf r) (m : List ℕ) where
@@ -35,11 +35,11 @@ module _ (r : Region) (at n : ℕ) (ea : at ≡ mapAt r) (en : n ≡ pagesOf r) 
       let z : putBack at n m ws ≡ withSegments m r t = ap (putBack at n m) x ∙ put-back r at n ea en m l t e in
       record { memory = z; sited = rw z (sited-with m r l t e w) }
 
-  pub takes : Sited m r → (k : ℕ) → 1 ≤ k → (p : Place) → p ≡ placeFrom k 0 (decode (lent at n m)) → (ws : List ℕ) → ws ≡ draw (take k (decode (lent at n m)))
+  pub takes : Sited m r → (k : ℕ) → 1 ≤ k → (p : Place) → p ≡ placeFrom k 0 (decode (lent at n m)) → (ws : List ℕ) → ws ≡ draw (allocate k (decode (lent at n m)))
       → Takes r k m (putBack at n m ws) p
   takes s k o p ep ws ew =
-      let d = draws (s .laid) (take k (segments m r)) (total-take k (segments m r) ∙ total-segments m r s) (well-take k true (segments m r) o (well-segments m r s)) ws
-      (ew ∙ ap (λ (w : List ℕ). draw (take k (decode w))) (lent-is r at n ea en m)) in
+      let d = draws (s .laid) (allocate k (segments m r)) (total-take k (segments m r) ∙ total-segments m r s) (well-take k true (segments m r) o (well-segments m r s)) ws
+      (ew ∙ ap (λ (w : List ℕ). draw (allocate k (decode w))) (lent-is r at n ea en m)) in
       record { place = ep ∙ ap (λ (w : List ℕ). placeFrom k 0 (decode w)) (lent-is r at n ea en m); memory = d .memory; sited = d .sited }
 
   pub changes : Sited m r → (p k : ℕ) → k ≤ reachFrom p 0 (segments m r) → (ws : List ℕ) → ws ≡ draw (changeFrom p k 0 (decode (lent at n m)))

@@ -29,7 +29,7 @@ pub fn get_segment(
 ) -> Answer
     ensures { λ a. ⌜ Performs (getSegment (now (mem .entry)) d id size wait task priority ticks) (now (mem .exit)) a ⌝ }
 {
-    if !invariant::is_sound(mem, d) {
+    if !soundness::is_sound(mem, d) {
         return reply::reply(d, Status::InternalError, 0);
     }
     if size == 0 {
@@ -60,7 +60,7 @@ pub fn get_segment(
 pub fn return_segment(mem: &mut [u32], d: Manager, id: u32, address: u32) -> Answer
     ensures { λ a. ⌜ Performs (returnSegment (now (mem .entry)) d id address) (now (mem .exit)) a ⌝ }
 {
-    if !invariant::is_sound(mem, d) {
+    if !soundness::is_sound(mem, d) {
         return reply::reply(d, Status::InternalError, 0);
     }
     let r = objects::region_of(d, id);
@@ -79,7 +79,7 @@ pub fn return_segment(mem: &mut [u32], d: Manager, id: u32, address: u32) -> Ans
 pub fn segment_size(mem: &[u32], d: Manager, id: u32, address: u32) -> Answer
     ensures { λ a. ⌜ Performs (segmentSize (now (mem .entry)) d id address) (now (mem .entry)) a ⌝ }
 {
-    if !invariant::is_sound(mem, d) {
+    if !soundness::is_sound(mem, d) {
         return reply::reply(d, Status::InternalError, 0);
     }
     let r = objects::region_of(d, id);
@@ -97,7 +97,7 @@ pub fn segment_size(mem: &[u32], d: Manager, id: u32, address: u32) -> Answer
 pub fn resize_segment(mem: &mut [u32], d: Manager, id: u32, address: u32, size: u32) -> Answer
     ensures { λ a. ⌜ Performs (resizeSegment (now (mem .entry)) d id address size) (now (mem .exit)) a ⌝ }
 {
-    if !invariant::is_sound(mem, d) {
+    if !soundness::is_sound(mem, d) {
         return reply::reply(d, Status::InternalError, 0);
     }
     if size == 0 {

@@ -10,7 +10,7 @@ use native.Mathlib.Omega.{arith}
 use lib.ListN.{length}
 use lib.Dec.{eqb}
 use borrow.Author.Tests.{eqb-true, eqb-false, eq-eqb}
-use Rattle.manager.specs.Lists.{some, In, Distinct}
+use Rattle.manager.specs.Lists.{any, In, Distinct}
 use Rattle.manager.specs.Partition.{buffers, isBuffer, chain}
 use Rattle.manager.proofs.Laws.Distinct.{either, on-off, on-in, distinct-is}
 use Rattle.manager.proofs.Laws.Partition.Buffers.{Shaped, buffer-of, of-buffer}
@@ -22,7 +22,7 @@ use Rattle.trace.specs.Receipts.{buffersFrom, strike}
 
 -- a number is on a list, or not
 pub in-or-not : (a : ℕ) (l : List ℕ) → In a l ⊎ (¬ In a l)
-in-or-not a l = ⊎-elim (λ h. inl (on-in a l .0 h)) (λ h. inr (λ k. on-off a l (on-in a l .1 k) h)) (either (some (eqb a) l))
+in-or-not a l = ⊎-elim (λ h. inl (on-in a l .0 h)) (λ h. inr (λ k. on-off a l (on-in a l .1 k) h)) (either (any (eqb a) l))
 
 -- ---- one number struck
 

@@ -8,7 +8,7 @@ use native.Mathlib.Omega.{arith}
 use lib.ListN.{length, getD}
 use lib.Dec.{leb, ltb}
 use borrow.Author.Tests.{leb-true, leb-false, ltb-false, le-ltb}
-use Rattle.manager.specs.Lists.{every, some as someOf, pairwise}
+use Rattle.manager.specs.Lists.{every, any as someOf, pairwise}
 use Rattle.manager.proofs.Laws.Lists.{and-first, and-second, every-at}
 use Rattle.manager.specs.Region.{overlap}
 use Rattle.manager.specs.declared.Area.{Area}

@@ -7,7 +7,7 @@ use Prim.Native.Nat.{ℕ}
 use lib.ListN.{length}
 use lib.Dec.{eqb}
 use borrow.Author.Tests.{eqb-true, not-true}
-use Rattle.manager.specs.Lists.{every, some, pairwise, adjacent}
+use Rattle.manager.specs.Lists.{every, any, pairwise, adjacent}
 use Rattle.manager.proofs.Laws.Lists.{and-first, and-second}
 use Rattle.manager.specs.Record.{slots, tasks, regionOf}
 use Rattle.manager.specs.Sound.{soundLength, soundRegion, soundPartition, soundAreas, soundPlace, otherTask, inOrder, soundQueue, sound}
@@ -53,9 +53,9 @@ module _ (m : List ℕ) (d : Manager) where
       and-first (every (soundPlace m d) (d .waiters)) (pairwise otherTask (d .waiters) && adjacent (inOrder d) (d .waiters))
       (and-second (soundAreas d) q (and-second ps (soundAreas d && q) (and-second rs (ps && (soundAreas d && q)) (and-second (soundLength m) (rs && (ps && (soundAreas d && q))) e))))
 
-  pub nobody-waits : sound m d ≡ true → (id : ℕ) → anyHeld m (regionOf d id) ≡ false → some (waitsFor id) (d .waiters) ≡ false
+  pub nobody-waits : sound m d ≡ true → (id : ℕ) → anyHeld m (regionOf d id) ≡ false → any (waitsFor id) (d .waiters) ≡ false
   nobody-waits ok id e =
-      by-case (some (waitsFor id) (d .waiters)) (λ b. b ≡ false)
+      by-case (any (waitsFor id) (d .waiters)) (λ b. b ≡ false)
       (λ f.
       let r = in-some (waitsFor id) (d .waiters) f in
       let g = in-every (soundPlace m d) (d .waiters) (places-sound ok) (r .0) (r .1) in

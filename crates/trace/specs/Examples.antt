@@ -47,5 +47,5 @@ holds (calls ss) = follows blank ss (λ t. true)
 holds (words ss ws) = follows blank ss (λ t. same (drawnWords (t .regions 1)) ws)
 
 pub examples : every holds table ≡ true
-unfolding readingOf largest pageCount every draw enter amend inPages drawn note allNoticed without waitOf strike buffersFrom insertBy insertAll waitsIn decided firstId anyId pagesAt lowestRun grantsIn lists.some byReceipts
+unfolding readingOf largest pageCount every draw enter amend inPages drawn note allNoticed without waitOf strike buffersFrom insertBy insertAll waitsIn decided firstId anyId pagesAt lowestRun grantsIn lists.any byReceipts
 examples = refl

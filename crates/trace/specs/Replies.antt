@@ -135,7 +135,7 @@ grantsIn e l (w ∷ ws) =
 
 -- a task waits
 abbrev pub waitsAlready : ℕ → List Wait → Bool
-waitsAlready task ws = lists.some (λ w. eqb (w .task) task) ws
+waitsAlready task ws = lists.any (λ w. eqb (w .task) task) ws
 
 -- "if waiting is allowed 10, 19, 14"
 abbrev pub waitingChecks : Receipts → asking.Wait → ℕ → ℕ → List Check
@@ -161,7 +161,7 @@ resizes false v = record { status = Unsatisfied; value = v; information = noInfo
 -- ---- BUFFERS OF A PARTITION
 
 abbrev pub listed : ℕ → List ℕ → Bool
-listed a l = lists.some (eqb a) l
+listed a l = lists.any (eqb a) l
 
 abbrev pub lentAny : List ℕ → Bool
 lentAny [] = false

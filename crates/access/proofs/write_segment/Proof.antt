@@ -13,7 +13,7 @@ use Rattle.access.proofs.write_segment.Reads as reads
 use Rattle.access.proofs.write_segment.Lts as lts
 use Rattle.access.proofs.copier.copy.Reads as copy-reads
 use Rattle.access.proofs.words_of.Reads as words-of-reads
-use Rattle.invariant.proofs.is_sound.Reads as is-sound-reads
+use Rattle.soundness.proofs.is_sound.Reads as is-sound-reads
 use Rattle.map.proofs.held_word_at.Reads as held-word-at-reads
 use Rattle.objects.proofs.region_of.Reads as region-of-reads
 use Rattle.reply.proofs.reply.Reads as reply-reads

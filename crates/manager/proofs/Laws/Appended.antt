@@ -6,7 +6,7 @@ use mathlib.Core.Bool.{Bool, true, false, _&&_, _||_, and-true, and-assoc, or-as
 use mathlib.Core.List.{List, [], _∷_, _++_}
 use native.Mathlib.Omega.{arith}
 use lib.ListN.{length, replicate}
-use Rattle.manager.specs.Lists.{every, some, indexOf, pairwise}
+use Rattle.manager.specs.Lists.{every, any, indexOf, pairwise}
 use Rattle.manager.proofs.Laws.Lists.{and-first, and-second}
 
 -- what holds of both outcomes of a test holds of the test
@@ -39,10 +39,10 @@ module _ {A : Type 0} where
   every-append t [] b = refl
   every-append t (x ∷ a) b = ap (λ (v : Bool). t x && v) (every-append t a b) ∙ sym (and-assoc (t x) (every t a) (every t b))
 
-  pub some-append : (t : A → Bool) (a b : List A) → some t (a ++ b) ≡ (some t a || some t b)
-  unfolding some
+  pub some-append : (t : A → Bool) (a b : List A) → any t (a ++ b) ≡ (any t a || any t b)
+  unfolding any
   some-append t [] b = refl
-  some-append t (x ∷ a) b = ap (λ (v : Bool). t x || v) (some-append t a b) ∙ sym (or-assoc (t x) (some t a) (some t b))
+  some-append t (x ∷ a) b = ap (λ (v : Bool). t x || v) (some-append t a b) ∙ sym (or-assoc (t x) (any t a) (any t b))
 
   -- a list with z behind it, any number of times
   pub every-same : (t : A → Bool) (z : A) → t z ≡ true → (k : ℕ) → every t (replicate k z) ≡ true
@@ -53,18 +53,18 @@ module _ {A : Type 0} where
   pub every-behind : (t : A → Bool) (z : A) → t z ≡ true → (l : List A) (k : ℕ) → every t (l ++ replicate k z) ≡ every t l
   every-behind t z e l k = every-append t l (replicate k z) ∙ rw (every-same t z e k) (and-true (every t l))
 
-  pub some-same : (t : A → Bool) (z : A) → t z ≡ false → (k : ℕ) → some t (replicate k z) ≡ false
-  unfolding some
+  pub some-same : (t : A → Bool) (z : A) → t z ≡ false → (k : ℕ) → any t (replicate k z) ≡ false
+  unfolding any
   some-same t z e zero = refl
   some-same t z e (suc k) = rw e (some-same t z e k)
 
-  pub some-behind : (t : A → Bool) (z : A) → t z ≡ false → (l : List A) (k : ℕ) → some t (l ++ replicate k z) ≡ some t l
-  some-behind t z e l k = some-append t l (replicate k z) ∙ rw (some-same t z e k) (or-false (some t l))
+  pub some-behind : (t : A → Bool) (z : A) → t z ≡ false → (l : List A) (k : ℕ) → any t (l ++ replicate k z) ≡ any t l
+  some-behind t z e l k = some-append t l (replicate k z) ∙ rw (some-same t z e k) (or-false (any t l))
 
-  pub index-beyond : (t : A → Bool) (l : List A) → some t l ≡ false → indexOf t l ≡ length l
-  unfolding some indexOf
+  pub index-beyond : (t : A → Bool) (l : List A) → any t l ≡ false → indexOf t l ≡ length l
+  unfolding any indexOf
   index-beyond t [] e = refl
-  index-beyond t (x ∷ l) e = rw (or-first (t x) (some t l) e) (ap suc (index-beyond t l (or-second (t x) (some t l) e)))
+  index-beyond t (x ∷ l) e = rw (or-first (t x) (any t l) e) (ap suc (index-beyond t l (or-second (t x) (any t l) e)))
 
   -- z may stand behind each
   module _ (t : A → A → Bool) (z : A) (behind : (x : A) → t x z ≡ true) where

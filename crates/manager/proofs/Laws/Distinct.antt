@@ -9,14 +9,14 @@ use native.Mathlib.Omega.{arith}
 use lib.ListN.{length}
 use lib.Dec.{eqb}
 use borrow.Author.Tests.{eqb-true, eqb-false, eq-eqb, ne-eqb}
-use Rattle.manager.specs.Lists.{some, In, Distinct}
+use Rattle.manager.specs.Lists.{any, In, Distinct}
 
 -- whether a number is on a list
 abbrev pub On : ℕ → List ℕ → Type 0
-On x l = some (eqb x) l ≡ true
+On x l = any (eqb x) l ≡ true
 
 abbrev pub Off : ℕ → List ℕ → Type 0
-Off x l = some (eqb x) l ≡ false
+Off x l = any (eqb x) l ≡ false
 
 pub either : (b : Bool) → (b ≡ true) ⊎ (b ≡ false)
 either true = inl refl
@@ -29,44 +29,44 @@ pub on-off : (x : ℕ) (l : List ℕ) → On x l → Off x l → ⊥
 on-off x l p q = false≢true (sym q ∙ p)
 
 pub on-nil : (x : ℕ) → On x [] → ⊥
-unfolding some
+unfolding any
 on-nil x p = false≢true p
 
 pub off-nil : (x : ℕ) → Off x []
-unfolding some
+unfolding any
 off-nil x = refl
 
 module _ (x y : ℕ) (l : List ℕ) where
   pub on-head : x ≡ y → On x (y ∷ l)
-  unfolding some
+  unfolding any
   on-head e = rw (eq-eqb _ _ e)
 
   pub on-tail : On x l → On x (y ∷ l)
-  unfolding some
+  unfolding any
   on-tail p = ⊎-elim (λ (e : eqb x y ≡ true). rw e) (λ (e : eqb x y ≡ false). rw e p) (either (eqb x y))
 
   pub on-cases : On x (y ∷ l) → (x ≡ y) ⊎ On x l
-  unfolding some
+  unfolding any
   on-cases p = ⊎-elim (λ (e : eqb x y ≡ true). inl (eqb-true x y e)) (λ (e : eqb x y ≡ false). inr (rw e at p)) (either (eqb x y))
 
   pub off-cons : (x ≡ y → ⊥) → Off x l → Off x (y ∷ l)
-  unfolding some
+  unfolding any
   off-cons n p = rw (ne-eqb _ _ n) p
 
   pub off-head : Off x (y ∷ l) → x ≡ y → ⊥
   off-head p e = on-off x (y ∷ l) (on-head e) p
 
   pub off-tail : Off x (y ∷ l) → Off x l
-  off-tail p = ⊎-elim (λ q. absurd (on-off x (y ∷ l) (on-tail q) p)) (λ q. q) (either (some (eqb x) l))
+  off-tail p = ⊎-elim (λ q. absurd (on-off x (y ∷ l) (on-tail q) p)) (λ q. q) (either (any (eqb x) l))
 
 -- not on a list, from that it can't be
 pub off-by : (x : ℕ) (l : List ℕ) → (On x l → ⊥) → Off x l
-off-by x l n = ⊎-elim (λ p. absurd (n p)) (λ q. q) (either (some (eqb x) l))
+off-by x l n = ⊎-elim (λ p. absurd (n p)) (λ q. q) (either (any (eqb x) l))
 
 -- NO REPEATS
 unfoldable pub distinct : List ℕ → Bool
 distinct [] = true
-distinct (x ∷ l) = not (some (eqb x) l) && distinct l
+distinct (x ∷ l) = not (any (eqb x) l) && distinct l
 
 module _ (x : ℕ) (l : List ℕ) where
   pub distinct-cons : Off x l → distinct l ≡ true → distinct (x ∷ l) ≡ true
@@ -75,7 +75,7 @@ module _ (x : ℕ) (l : List ℕ) where
 
   pub distinct-head : distinct (x ∷ l) ≡ true → Off x l
   unfolding distinct
-  distinct-head p = ⊎-elim (λ (e : some (eqb x) l ≡ true). absurd (false≢true (rw e at p))) (λ e. e) (either (some (eqb x) l))
+  distinct-head p = ⊎-elim (λ (e : any (eqb x) l ≡ true). absurd (false≢true (rw e at p))) (λ e. e) (either (any (eqb x) l))
 
   pub distinct-tail : distinct (x ∷ l) ≡ true → distinct l ≡ true
   unfolding distinct

@@ -9,7 +9,7 @@ use native.Mathlib.Numerals.{add-one}
 use native.Mathlib.Omega.{arith}
 use lib.ListN.{length, getD, drop, drop-of-length-le, length-drop}
 use lib.Seq.{drop-cons}
-use Rattle.manager.specs.Lists.{every, some, indexOf, pairwise, adjacent}
+use Rattle.manager.specs.Lists.{every, any, indexOf, pairwise, adjacent}
 
 -- two tests, both true
 pub and-first : (a b : Bool) → (a && b) ≡ true → a ≡ true
@@ -35,13 +35,13 @@ module _ {A : Type 0} where
     unfolding every
     every-none h = ap (every t) (drop-of-length-le l h)
 
-    pub some-cons : (z : A) → i < length l → some t (drop i l) ≡ (t (getD l i z) || some t (drop (i + 1) l))
-    unfolding some
-    some-cons z h = ap (some t) (rest-cons l i z h)
+    pub some-cons : (z : A) → i < length l → any t (drop i l) ≡ (t (getD l i z) || any t (drop (i + 1) l))
+    unfolding any
+    some-cons z h = ap (any t) (rest-cons l i z h)
 
-    pub some-none : length l ≤ i → some t (drop i l) ≡ false
-    unfolding some
-    some-none h = ap (some t) (drop-of-length-le l h)
+    pub some-none : length l ≤ i → any t (drop i l) ≡ false
+    unfolding any
+    some-none h = ap (any t) (drop-of-length-le l h)
 
     pub index-cons : (z : A) → i < length l
         → indexOf t (drop i l) ≡ cond (t (getD l i z)) 0 (suc (indexOf t (drop (i + 1) l)))
@@ -115,9 +115,9 @@ module _ {A : Type 0} where
   pub record Seeking (t : A → Bool) (l : List A) (n : ℕ) (w : Bool) (i : ℕ) : Type 0 where
     pub size : length l ≡ n
     pub within : i ≤ n
-    pub rest : some t (drop i l) ≡ w
+    pub rest : any t (drop i l) ≡ w
 
-  pub some-start : (t : A → Bool) (l : List A) (n : ℕ) → length l ≡ n → Seeking t l n (some t l) 0
+  pub some-start : (t : A → Bool) (l : List A) (n : ℕ) → length l ≡ n → Seeking t l n (any t l) 0
   some-start t l n e = record { size = e; within = omega arith; rest = refl }
 
   module _ (t : A → Bool) (l : List A) (n : ℕ) (w : Bool) (i : ℕ) (v : Seeking t l n w i) where

@@ -11,7 +11,7 @@ use borrow.Author.Tests.{leb-true, eqb-true, eq-eqb, ne-eqb}
 use Rattle.manager.specs.Map.{Segment, free, held, isHeldSegment, draw, decode, soundMap, total}
 use Rattle.manager.specs.Map.{sizeOf}
 use Rattle.manager.proofs.Laws.Map.{Well, well-after, well-decoded, sound-drawn, total-cons}
-use Rattle.manager.specs.Paged.{free+, held+, lead, rest, placeFrom, take, heldFrom, reachFrom, changeFrom}
+use Rattle.manager.specs.Paged.{free+, held+, lead, rest, placeFrom, allocate, heldFrom, reachFrom, changeFrom}
 use Rattle.manager.specs.declared.Place.the-variants.{At, Nowhere}
 
 -- ---- free pages in front of a map
@@ -88,13 +88,13 @@ rest-none (held n ∷ s) w = refl
 
 -- ---- get
 
-pub well-take : (k : ℕ) (before : Bool) (s : List Segment) → 1 ≤ k → Well before s → Well before (take k s)
-unfolding take
+pub well-take : (k : ℕ) (before : Bool) (s : List Segment) → 1 ≤ k → Well before s → Well before (allocate k s)
+unfolding allocate
 well-take k before [] o w = tt
 well-take k before (held n ∷ s) o w = (w .0, w .1, well-take k true s o (w .2))
 well-take k before (free n ∷ s) o w = go (leb k n) refl (well-take k false s o (w .2))
   where
-    go : (b : Bool) → leb k n ≡ b → Well false (take k s) → Well before (cond b (held k ∷ free+ (n - k) s) (free n ∷ take k s))
+    go : (b : Bool) → leb k n ≡ b → Well false (allocate k s) → Well before (cond b (held k ∷ free+ (n - k) s) (free n ∷ allocate k s))
     go true e ih = (o, or-true before, well-free (n - k) s (well-after false s (w .2)))
       where
         or-true : (b : Bool) → (b || true) ≡ true
@@ -102,24 +102,24 @@ well-take k before (free n ∷ s) o w = go (leb k n) refl (well-take k false s o
         or-true false = refl
     go false e ih = (w .0, w .1, ih)
 
-pub total-take : (k : ℕ) (s : List Segment) → total (take k s) ≡ total s
-unfolding take total
+pub total-take : (k : ℕ) (s : List Segment) → total (allocate k s) ≡ total s
+unfolding allocate total
 total-take k [] = refl
 total-take k (held n ∷ s) = omega (arith, total-take k s)
 total-take k (free n ∷ s) = go (leb k n) refl (total-take k s)
   where
-    go : (b : Bool) → leb k n ≡ b → total (take k s) ≡ total s → total (cond b (held k ∷ free+ (n - k) s) (free n ∷ take k s)) ≡ n + total s
+    go : (b : Bool) → leb k n ≡ b → total (allocate k s) ≡ total s → total (cond b (held k ∷ free+ (n - k) s) (free n ∷ allocate k s)) ≡ n + total s
     go true e ih = omega (arith, total-free (n - k) s, leb-true k n e)
     go false e ih = omega arith
 
 -- where nothing is placed, nothing is taken
-pub take-none : (k at : ℕ) (s : List Segment) → placeFrom k at s ≡ Nowhere → take k s ≡ s
-unfolding placeFrom take
+pub take-none : (k at : ℕ) (s : List Segment) → placeFrom k at s ≡ Nowhere → allocate k s ≡ s
+unfolding placeFrom allocate
 take-none k at [] e = refl
 take-none k at (held n ∷ s) e = ap (λ (t : List Segment). held n ∷ t) (take-none k (at + n) s e)
 take-none k at (free n ∷ s) e = go (leb k n) refl (λ e′. take-none k (at + n) s e′)
   where
-    go : (b : Bool) → leb k n ≡ b → (placeFrom k (at + n) s ≡ Nowhere → take k s ≡ s) → cond (leb k n) (held k ∷ free+ (n - k) s) (free n ∷ take k s) ≡ free n ∷ s
+    go : (b : Bool) → leb k n ≡ b → (placeFrom k (at + n) s ≡ Nowhere → allocate k s ≡ s) → cond (leb k n) (held k ∷ free+ (n - k) s) (free n ∷ allocate k s) ≡ free n ∷ s
     go true f ih =
         let a : At at ≡ Nowhere = rw f at e in
         absurd (let z : _≡_ {A = ℕ} 0 1 = cc in omega arith)
@@ -133,9 +133,9 @@ pub record Hit (k at i : ℕ) (s : List Segment) : Type 0 where
   pub is : s ≡ pre ++ (free pages ∷ post)
   pub page : at + total pre ≡ i
   pub room : k ≤ pages
-  pub gives : take k s ≡ pre ++ (held k ∷ free+ (pages - k) post)
+  pub gives : allocate k s ≡ pre ++ (held k ∷ free+ (pages - k) post)
 
-hit-past : {k at i : ℕ} {s : List Segment} (g : Segment) → take k (g ∷ s) ≡ g ∷ take k s → Hit k (at + sizeOf g) i s → Hit k at i (g ∷ s)
+hit-past : {k at i : ℕ} {s : List Segment} (g : Segment) → allocate k (g ∷ s) ≡ g ∷ allocate k s → Hit k (at + sizeOf g) i s → Hit k at i (g ∷ s)
 hit-past {k} {at} {i} {s} g e h =
     record {
       pre = g ∷ h .pre;
@@ -148,7 +148,7 @@ hit-past {k} {at} {i} {s} g e h =
     }
 
 pub hit : (k at : ℕ) (s : List Segment) (i : ℕ) → placeFrom k at s ≡ At i → Hit k at i s
-unfolding placeFrom take total
+unfolding placeFrom allocate total
 hit k at [] i e = absurd (let z : _≡_ {A = ℕ} 0 1 = cc in omega arith)
 hit k at (held n ∷ s) i e = hit-past (held n) refl (hit k (at + n) s i e)
 hit k at (free n ∷ s) i e = go (leb k n) refl (λ e′. hit k (at + n) s i e′)
@@ -305,5 +305,5 @@ held-within p at (held n ∷ s) = go (eqb at p) (held-within p (at + n) s)
 
 -- a get keeps a sound map sound and its length
 module _ (ws : List ℕ) (ok : soundMap ws ≡ true) where
-  pub sound-take : (k : ℕ) → 1 ≤ k → soundMap (draw (take k (decode ws))) ≡ true
-  sound-take k o = sound-drawn (take k (decode ws)) (well-take k true (decode ws) o (well-decoded ws ok))
+  pub sound-take : (k : ℕ) → 1 ≤ k → soundMap (draw (allocate k (decode ws))) ≡ true
+  sound-take k o = sound-drawn (allocate k (decode ws)) (well-take k true (decode ws) o (well-decoded ws ok))

@@ -2,7 +2,7 @@
 use Prim.Native.Nat.{_-_}
 use lib.ListN.{length}
 use borrow.Author.Needs.{needs}
-use Rattle.manager.specs.Lists.{some}
+use Rattle.manager.specs.Lists.{any}
 use Rattle.manager.proofs.Laws.Lists.{Seeking}
 use Rattle.manager.specs.Map.{decode, isHeld, isHeldSegment}
 use Rattle.map.proofs.Scan.{finding}
@@ -10,7 +10,7 @@ use Rattle.map.proofs.any_held.Statement.{statement}
 use Rattle.map.proofs.any_held.Tie as tie
 
 abbrev Inv-loop : tie.InvT-loop
-Inv-loop map i₀ i = Seeking isHeld map (length map) (some isHeldSegment (decode map)) i
+Inv-loop map i₀ i = Seeking isHeld map (length map) (any isHeldSegment (decode map)) i
 
 abbrev μ-loop : tie.MeasureT-loop
 μ-loop map i₀ i = length map - i

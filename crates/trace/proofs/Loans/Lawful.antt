@@ -7,7 +7,7 @@ use mathlib.Core.Logic.{_⊎_, inl, inr, _↔_}
 use Prim.Native.Nat.{ℕ, _+_, _≤_, _<_}
 use native.Mathlib.Omega.{arith}
 use lib.ListN.{length}
-use Rattle.manager.specs.Lists.{some}
+use Rattle.manager.specs.Lists.{any}
 use Rattle.manager.specs.Map.{Segment, isHeldSegment, draw, decode, freeSizes, heldSizes}
 use Rattle.manager.specs.Paged.{Kind, free+}
 use Rattle.manager.specs.declared.Place.{Place}
@@ -35,7 +35,7 @@ pub record Lawful (K : Kind) (R : Reading) : Type 0 where
   pub chosen-serves : {n : ℕ} {l : List Loan} {k p : ℕ} → R .Chosen n l k p → Serves R n l k p
   pub placed : {n : ℕ} {l : List Loan} {s : List Segment} → Drawing R n l s → (j : ℕ) → 0 < j → K .place (R .rounded j) s ≡ R .place n l (R .rounded j)
   pub got : {n : ℕ} {l : List Loan} {s : List Segment} → Drawing R n l s → (j : ℕ) → 0 < j
-      → Gets R n l (R .rounded j) (K .place (R .rounded j) s) (K .take (R .rounded j) s)
+      → Gets R n l (R .rounded j) (K .place (R .rounded j) s) (K .allocate (R .rounded j) s)
   -- what is found at a page
   pub held : {n : ℕ} {l : List Loan} {s : List Segment} → Drawing R n l s → (p k : ℕ) → Lent l p k → K .held p s ≡ k
   pub lent : {n : ℕ} {l : List Loan} {s : List Segment} → Drawing R n l s → (p : ℕ) → 0 < K .held p s → Lent l p (K .held p s)
@@ -58,8 +58,8 @@ pub record Lawful (K : Kind) (R : Reading) : Type 0 where
   pub held-pages : {n : ℕ} {l : List Loan} {s : List Segment} → Drawing R n l s → heldSizes s ≡ loanPages l
   pub free-runs : {n : ℕ} {l : List Loan} {s : List Segment} → Drawing R n l s → freeSizes s ≡ R .runs n l
   pub counted : {n : ℕ} {l : List Loan} {s : List Segment} → Drawing R n l s → sum (loanPages l) + freePages s ≡ n
-  pub any-none : {n : ℕ} {s : List Segment} → Drawing R n [] s → some isHeldSegment s ≡ false
-  pub any-some : {n a k : ℕ} {l : List Loan} {s : List Segment} → Drawing R n (loan a k ∷ l) s → some isHeldSegment s ≡ true
+  pub any-none : {n : ℕ} {s : List Segment} → Drawing R n [] s → any isHeldSegment s ≡ false
+  pub any-some : {n a k : ℕ} {l : List Loan} {s : List Segment} → Drawing R n (loan a k ∷ l) s → any isHeldSegment s ≡ true
   -- a loan has a page and lies in the region, and no two overlap
   pub lent-some : {n : ℕ} {l : List Loan} → R .Fits n l → (p k : ℕ) → Lent l p k → 0 < k
   pub lent-within : {n : ℕ} {l : List Loan} → R .Fits n l → (p k : ℕ) → Lent l p k → p + k ≤ n

@@ -6,10 +6,10 @@ use mathlib.Core.List.{List, []}
 use Prim.Native.Nat.{ℕ, _+_, _≤_, _<_}
 use native.Mathlib.Omega.{arith}
 use lib.ListN.{length}
-use Rattle.manager.specs.Lists.{some}
+use Rattle.manager.specs.Lists.{any}
 use Rattle.manager.specs.Map.{Segment, isHeldSegment, draw, decode, soundMap, freeSizes, heldSizes}
 use Rattle.manager.proofs.Laws.Map.{redraw}
-use Rattle.manager.specs.Paged.{paged, kindOf, placeFrom, take, heldFrom, reachFrom, changeFrom}
+use Rattle.manager.specs.Paged.{paged, kindOf, placeFrom, allocate, heldFrom, reachFrom, changeFrom}
 use Rattle.manager.specs.declared.Order.{Order}
 use Rattle.manager.specs.declared.Place.{Place}
 use Rattle.trace.specs.Loans.{Loan, amend, Lent, Run, loanPages, sum, Held}
@@ -26,7 +26,7 @@ gets o (gave p e i b run low) = given p (record { fits = i; is = e }) (record { 
 gets o (lacks e no-run) = nothing (record { fits = o; is = e }) (λ q u. no-run q (omega arith) (u .run))
 
 module _ {n : ℕ} {l : List Loan} {s : List Segment} (d : Drawing pages n l s) where
-  got : (k : ℕ) → 0 < k → Gets pages n l k (placeFrom k 0 s) (take k s)
+  got : (k : ℕ) → 0 < k → Gets pages n l k (placeFrom k 0 s) (allocate k s)
   got k z = rw (d .is) (gets (d .fits) (got-from n k 0 l (d .fits) z))
 
   -- the place is the lowest run by the loans
@@ -101,8 +101,8 @@ paged-lawful =
       held-pages = held-pages;
       free-runs = free-runs;
       counted = counted;
-      any-none = λ {n} {s} d. ap (some isHeldSegment) (d .is) ∙ words.any-none n 0;
-      any-some = λ {n} {a} {k} {l} {s} d. ap (some isHeldSegment) (d .is) ∙ words.any-some n 0 a k l;
+      any-none = λ {n} {s} d. ap (any isHeldSegment) (d .is) ∙ words.any-none n 0;
+      any-some = λ {n} {a} {k} {l} {s} d. ap (any isHeldSegment) (d .is) ∙ words.any-some n 0 a k l;
       lent-some = λ {n} {l} o p k x. draws.lent-some n 0 l p k o x;
       lent-within = λ {n} {l} o p k x. draws.lent-within n 0 l p k o x;
       no-overlap = λ {n} {l} o. draws.no-overlap n 0 l o;

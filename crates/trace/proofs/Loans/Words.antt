@@ -7,7 +7,7 @@ use mathlib.Core.List.{List, [], _∷_}
 use Prim.Native.Nat.{ℕ, zero, suc, _+_, _-_, _≤_}
 use native.Mathlib.Omega.{arith}
 use lib.ListN.{length}
-use Rattle.manager.specs.Lists.{some}
+use Rattle.manager.specs.Lists.{any}
 use Rattle.manager.specs.Map.{Segment, free, held, isHeldSegment, draw, decode, soundMap, freeSizes, heldSizes, total}
 use Rattle.manager.proofs.Laws.Map.{Well, sound-drawn, reread, well-decoded, length-draw, total-decoded}
 use Rattle.manager.specs.Paged.{free+}
@@ -65,8 +65,8 @@ free-sum (suc m) [] = refl
 free-sum (suc m) (free n ∷ s) = omega arith
 free-sum (suc m) (held n ∷ s) = refl
 
-any-free : (m : ℕ) (s : List Segment) → some isHeldSegment (free+ m s) ≡ some isHeldSegment s
-unfolding free+ some
+any-free : (m : ℕ) (s : List Segment) → any isHeldSegment (free+ m s) ≡ any isHeldSegment s
+unfolding free+ any
 any-free zero s = refl
 any-free (suc m) [] = refl
 any-free (suc m) (free n ∷ s) = refl
@@ -101,13 +101,13 @@ pub counted : (n : ℕ) (l : List Loan) → Ordered n 0 l → sum (loanPages l) 
 counted n l o = omega (arith, counted-from n 0 l o)
 
 -- SOMETHING IS HELD WHERE THERE IS A LOAN
-pub any-none : (n at : ℕ) → some isHeldSegment (drawn n at []) ≡ false
-unfolding some
-any-none n at = ap (some isHeldSegment) (drawn-next n at []) ∙ any-free (n - at) []
+pub any-none : (n at : ℕ) → any isHeldSegment (drawn n at []) ≡ false
+unfolding any
+any-none n at = ap (any isHeldSegment) (drawn-next n at []) ∙ any-free (n - at) []
 
-pub any-some : (n at a k : ℕ) (l : List Loan) → some isHeldSegment (drawn n at (loan a k ∷ l)) ≡ true
-unfolding some
-any-some n at a k l = ap (some isHeldSegment) (drawn-next n at (loan a k ∷ l)) ∙ any-free (a - at) (held k ∷ drawn n (a + k) l)
+pub any-some : (n at a k : ℕ) (l : List Loan) → any isHeldSegment (drawn n at (loan a k ∷ l)) ≡ true
+unfolding any
+any-some n at a k l = ap (any isHeldSegment) (drawn-next n at (loan a k ∷ l)) ∙ any-free (a - at) (held k ∷ drawn n (a + k) l)
 
 -- ---- from a map to its loans
 

@@ -10,7 +10,7 @@ use lib.ListN.{length, replicate, length-append, replicate-append-replicate}
 use lib.Seq.{take-append-seam, drop-append-seam}
 use Rattle.manager.specs.Record.{noWaiter}
 use Rattle.manager.specs.Result.{pad}
-use Rattle.manager.specs.Lists.{every, some, indexOf, pairwise, adjacent, In}
+use Rattle.manager.specs.Lists.{every, any, indexOf, pairwise, adjacent, In}
 use Rattle.manager.specs.Queue.{goesBefore, insert, removeAt}
 use Rattle.manager.proofs.Laws.Queue as places
 use Rattle.manager.specs.declared.Waiter.{Waiter}
@@ -100,21 +100,21 @@ module _ {A : Type 0} where
   every-in t [] h = refl
   every-in t (x ∷ l) h = rw (h x (inl refl)) (every-in t l (λ y k. h y (inr k)))
 
-  pub some-in : (t : A → Bool) (l : List A) (x : A) → In x l → t x ≡ true → some t l ≡ true
-  unfolding some In
+  pub some-in : (t : A → Bool) (l : List A) (x : A) → In x l → t x ≡ true → any t l ≡ true
+  unfolding any In
   some-in t [] x h e = absurd h
   some-in t (y ∷ l) x (inl f) e = rw (ap t f ∙ e)
   some-in t (y ∷ l) x (inr k) e = or-true (t y) (some-in t l x k e)
     where
-      or-true : (b : Bool) → some t l ≡ true → (b || some t l) ≡ true
+      or-true : (b : Bool) → any t l ≡ true → (b || any t l) ≡ true
       or-true true h = refl
       or-true false h = h
 
-  pub in-some : (t : A → Bool) (l : List A) → some t l ≡ true → (x : A) × In x l × (t x ≡ true)
-  unfolding some In
+  pub in-some : (t : A → Bool) (l : List A) → any t l ≡ true → (x : A) × In x l × (t x ≡ true)
+  unfolding any In
   in-some t [] e = absurd (true-false false e refl)
   in-some t (y ∷ l) e =
-      by-case (t y) (λ b. (b || some t l) ≡ true → t y ≡ b → (x : A) × In x (y ∷ l) × (t x ≡ true))
+      by-case (t y) (λ b. (b || any t l) ≡ true → t y ≡ b → (x : A) × In x (y ∷ l) × (t x ≡ true))
       (λ f k b. (y, inl refl, f))
       (λ f k b. let r = in-some t l k in (r .0, inr (r .1), r .2))
       e refl

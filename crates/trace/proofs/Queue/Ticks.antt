@@ -121,11 +121,11 @@ keep-later p (w ∷ ws) =
 -- THE NOTICES STRIKE THE WAITS OF THEIR TASKS
 -- one of q that is due has the task of x
 abbrev lateIn : List Wait → Wait → Bool
-lateIn q x = Lists.some (λ w. due w && eqb (x .task) (w .task)) q
+lateIn q x = Lists.any (λ w. due w && eqb (x .task) (w .task)) q
 
 notices-strike : (q l : List Wait) (t : Receipts) → Distinct (tasksOf l)
     → allNoticed (dueIn q) (withWaits l t) ≡ withWaits (keep (λ x. not (lateIn q x)) l) t
-unfolding allNoticed dueIn Lists.some
+unfolding allNoticed dueIn Lists.any
 notices-strike [] l t d = ap (λ (ws : List Wait). withWaits ws t) (sym (keep-all (λ x. true) l (λ x m. refl)))
 notices-strike (w ∷ q) l t d =
     by-case (due w)

@@ -11,7 +11,7 @@ use lib.Dec.{eqb, leb}
 use borrow.Author.Tests.{eqb-false, leb-true, not-true}
 use Rattle.arith.specs.Round.{pagesFor}
 use Rattle.arith.specs.Layout.{pageCount}
-use Rattle.manager.specs.Lists.{every, some as someOf, pairwise, adjacent, In, Distinct}
+use Rattle.manager.specs.Lists.{every, any as someOf, pairwise, adjacent, In, Distinct}
 use Rattle.manager.proofs.Laws.Lists.{and-first, and-second}
 use Rattle.manager.specs.Map.{Segment, free, held, isHeldSegment}
 use Rattle.manager.specs.Record.{slots, tasks, noWaiter, regionOf}

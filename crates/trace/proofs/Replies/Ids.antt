@@ -37,8 +37,8 @@ module _ {A : Type 0} (z : A) (p : A → Bool) (q : ℕ → Bool) where
       rw (← (h 0 k (omega arith) (omega arith)))
       (by-case (p x) (λ b. cond b k (firstId q (length l) (suc k)) ≡ k + cond b 0 (suc (indexOf p l))) (λ e. omega arith) (λ e. omega arith))
 
-  pub any-some : (l : List A) (k : ℕ) → ((i j : ℕ) → i < length l → j ≡ k + i → p (getD l i z) ≡ q j) → lists.some p l ≡ anyId q (length l) k
-  unfolding anyId lists.some
+  pub any-some : (l : List A) (k : ℕ) → ((i j : ℕ) → i < length l → j ≡ k + i → p (getD l i z) ≡ q j) → lists.any p l ≡ anyId q (length l) k
+  unfolding anyId lists.any
   any-some [] k h = refl
   any-some (x ∷ l) k h =
       rw (h 0 k (omega arith) (omega arith), any-some l (suc k) (λ i j u e. h (suc i) j (omega arith) (omega arith)))
@@ -50,13 +50,13 @@ past-slots i j e =
 
 -- ---- areas
 
-region-areas : (f : Area → Bool) (rs : List Region) → lists.some f (regionAreas rs) ≡ lists.some (λ r. f (areaFor r)) rs
-unfolding regionAreas lists.some
+region-areas : (f : Area → Bool) (rs : List Region) → lists.any f (regionAreas rs) ≡ lists.any (λ r. f (areaFor r)) rs
+unfolding regionAreas lists.any
 region-areas f [] = refl
 region-areas f (r ∷ rs) = rw (region-areas f rs)
 
-partition-areas : (f : Area → Bool) (ps : List Partition) → lists.some f (partitionAreas ps) ≡ lists.some (λ p. f (areaOf p)) ps
-unfolding partitionAreas lists.some
+partition-areas : (f : Area → Bool) (ps : List Partition) → lists.any f (partitionAreas ps) ≡ lists.any (λ p. f (areaOf p)) ps
+unfolding partitionAreas lists.any
 partition-areas f [] = refl
 partition-areas f (p ∷ ps) = rw (partition-areas f ps)
 
@@ -137,12 +137,12 @@ module _ (m : List ℕ) (d : Manager) (t : Receipts) (v : Picture m d t) where
   partition-id name n = first-partition (λ p. eqb (p .name) name) (λ o. has (λ e. eqb (e .name) name) o) (partition-named m name n)
 
   -- AN AREA MEETS A LIVE ONE
-  regions-meet : (a : Area) → lists.some (λ r. overlap a (areaFor r)) (d .regions) ≡ anyId (λ j. has (λ e. shared (a .start) (a .length) (e .start) (e .bytes)) (t .regions j)) slots 1
+  regions-meet : (a : Area) → lists.any (λ r. overlap a (areaFor r)) (d .regions) ≡ anyId (λ j. has (λ e. shared (a .start) (a .length) (e .start) (e .bytes)) (t .regions j)) slots 1
   regions-meet a =
       let q : Option RegionEntry → Bool = λ o. has (λ e. shared (a .start) (a .length) (e .start) (e .bytes)) o in
       rw (v .region-slots) at (any-some noRegion (λ r. overlap a (areaFor r)) (λ j. q (t .regions j)) (d .regions) 1 (region-place (λ r. overlap a (areaFor r)) q (region-meets m a)))
 
-  partitions-meet : (a : Area) → lists.some (λ p. overlap a (areaOf p)) (d .partitions) ≡ anyId (λ j. has (λ e. shared (a .start) (a .length) (e .start) (e .bytes)) (t .partitions j)) slots 1
+  partitions-meet : (a : Area) → lists.any (λ p. overlap a (areaOf p)) (d .partitions) ≡ anyId (λ j. has (λ e. shared (a .start) (a .length) (e .start) (e .bytes)) (t .partitions j)) slots 1
   partitions-meet a =
       let q : Option PartitionEntry → Bool = λ o. has (λ e. shared (a .start) (a .length) (e .start) (e .bytes)) o in
       rw (v .partition-slots) at (any-some noPartition (λ p. overlap a (areaOf p)) (λ j. q (t .partitions j)) (d .partitions) 1 (partition-place (λ p. overlap a (areaOf p)) q (partition-meets m a)))

@@ -9,7 +9,7 @@ use native.Mathlib.Omega.{arith}
 use lib.ListN.{length, getD, length-set}
 use lib.Seq.{getD-set-other}
 use lib.Dec.{eqb}
-use Rattle.manager.specs.Lists.{some}
+use Rattle.manager.specs.Lists.{any}
 use Rattle.manager.specs.Partition.{buffers, bufferAt, isBuffer, nextOf, setNext, link, follow, chain, isFree, linked, soundChain, linkAll, afterGet, afterReturn}
 use Rattle.manager.proofs.Laws.Distinct.{On, Off, same-or-not, on-off, on-head, on-tail}
 use Rattle.manager.specs.declared.Partition.{Partition}
@@ -86,7 +86,7 @@ module _ (m : List ℕ) (p : Partition) (s : Shaped p) (e : soundChain m p ≡ t
   rear-from zero z h = absurd (h refl)
   rear-from (suc n) z h =
       let f : linked (suc n) m p 0 (p .front) ≡ true = ap (λ (k : ℕ). linked k m p 0 (p .front)) (sym z) ∙ e in
-      ap (λ (k : ℕ). some (eqb (p .rear)) (follow k m (p .front))) z ∙ rear-on m p n 0 (p .front) f
+      ap (λ (k : ℕ). any (eqb (p .rear)) (follow k m (p .front))) z ∙ rear-on m p n 0 (p .front) f
 
   pub rear-free : (p .free ≡ 0 → ⊥) → isFree m p (p .rear) ≡ true
   rear-free h = rear-from (p .free) refl h

@@ -1,0 +1,34 @@
+-- A partition's words are stored one by one. Assumes nothing.
+use Rattle.packing.proofs.Laws.{one-by-one}
+use native.Mathlib.Omega.{arith}
+use lib.ListN.{length-set}
+use borrow.Author.Needs.{needs}
+use Rattle.packing.proofs.writing.partition.Statement.{statement}
+use Rattle.packing.proofs.writing.partition.Tie as tie
+
+pub partition-spec : {M : Type 1} → statement M
+partition-spec =
+    tie.close
+    (tie.spec
+    (λ c. search needs)
+    (λ c. search needs)
+    (λ c. search needs)
+    (λ c. search needs)
+    (λ c. simp length-set (omega (arith, c .pre)))
+    (λ c. search needs)
+    (λ c. search needs)
+    (λ c. simp length-set (omega (arith, c .pre)))
+    (λ c. search needs)
+    (λ c. search needs)
+    (λ c. simp length-set (omega (arith, c .pre)))
+    (λ c. search needs)
+    (λ c. search needs)
+    (λ c. simp length-set (omega (arith, c .pre)))
+    (λ c. search needs)
+    (λ c. search needs)
+    (λ c. simp length-set (omega (arith, c .pre)))
+    (λ c. search needs)
+    (λ c. search needs)
+    (λ c. simp length-set (omega (arith, c .pre)))
+    (λ c. search needs)
+    (λ c. search (needs, one-by-one)))

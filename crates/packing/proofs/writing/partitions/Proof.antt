@@ -1,0 +1,31 @@
+-- The partitions before k are put, and those from k on give the whole. Assumes nothing.
+use Prim.Native.Nat.{_-_}
+use Rattle.packing.specs.Packing.{partitionWords, partitionsAt}
+use Rattle.packing.proofs.Laws.{packing, Putting}
+use borrow.Author.Needs.{needs}
+use Rattle.packing.proofs.writing.partitions.Statement.{statement}
+use Rattle.packing.proofs.writing.partitions.Tie as tie
+
+abbrev Inv-loop : tie.InvT-loop
+Inv-loop words₀ all k₀ words k = Putting partitionWords 7 8 partitionsAt all words₀ words k
+
+abbrev μ-loop : tie.MeasureT-loop
+μ-loop words₀ all k₀ words k = 8 - k
+
+pub partitions-spec : {M : Type 1} → statement M
+partitions-spec =
+    tie.close
+    (tie.spec
+    Inv-loop
+    μ-loop
+    (λ c. search (needs, packing))
+    (λ c. search (needs, packing))
+    (λ c. search (needs, packing))
+    (λ c. search (needs, packing))
+    (λ c. search (needs, packing))
+    (λ c κs. search (needs, packing))
+    (λ c. search (needs, packing))
+    (λ c. search (needs, packing))
+    (λ c. search (needs, packing))
+    (λ c. search (needs, packing))
+    (λ c. search (needs, packing)))

@@ -1,0 +1,23 @@
+-- `sound_partition` meets its contract: the tests in a row are the definition's. Assumes nothing.
+use Rattle.manager.specs.Sound.{soundPartition, livePartition}
+use Rattle.soundness.proofs.Chain.{laid-told}
+use Rattle.soundness.proofs.Tests.{choices, tests}
+use borrow.Author.Needs.{needs}
+use Rattle.soundness.proofs.slots.sound_partition.Statement.{statement}
+use Rattle.soundness.proofs.slots.sound_partition.Tie as tie
+
+pub sound-partition-spec : {M : Type 1} → statement M
+unfolding soundPartition livePartition
+sound-partition-spec =
+    tie.close
+    (tie.spec
+    (λ c κs. search needs)
+    (λ c. search (needs, choices, tests))
+    (λ c κs. search needs)
+    (λ c. search (needs, choices, tests))
+    (λ c. search (needs, choices, tests))
+    (λ c κs. search needs)
+    (λ c. search (needs, choices, tests))
+    (λ c κs. laid-told _ _ _ _ (c .before .before .before .before .before .is-inside .ensures) (c .before .before .before .before .if2 .left) (c .before .before .if3 .left)
+    (c .before .sound-size .ensures) (c .if4 .left))
+    (λ c. search (needs, choices, tests)))

@@ -1,0 +1,31 @@
+-- `sound_regions` meets its contract: a loop over the places, by the laws of the test over a list. Assumes nothing.
+use Prim.Native.Nat.{_-_}
+use Rattle.soundness.proofs.Tests.{each}
+use Rattle.manager.specs.Lists.{every}
+use Rattle.manager.proofs.Laws.Lists.{Passing}
+use Rattle.manager.specs.Sound.{soundRegion}
+use borrow.Author.Needs.{needs}
+use Rattle.soundness.proofs.slots.sound_regions.Statement.{statement}
+use Rattle.soundness.proofs.slots.sound_regions.Tie as tie
+
+abbrev Inv-loop : tie.InvT-loop
+Inv-loop mem regions i₀ i = Passing (soundRegion mem) regions 8 (every (soundRegion mem) regions) i
+
+abbrev μ-loop : tie.MeasureT-loop
+μ-loop mem regions i₀ i = 8 - i
+
+pub sound-regions-spec : {M : Type 1} → statement M
+sound-regions-spec =
+    tie.close
+    (tie.spec
+    Inv-loop
+    μ-loop
+    (λ c. search (needs, each))
+    (λ c. search needs)
+    (λ c. search needs)
+    (λ c. search needs)
+    (λ c κs. search needs)
+    (λ c. search (needs, each))
+    (λ c. search needs)
+    (λ c. search (needs, each))
+    (λ c. search (needs, each)))

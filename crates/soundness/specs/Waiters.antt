@@ -1,0 +1,36 @@
+-- What a sound waiter is, by the facts of the region that it waits in: `soundWaiter` in two parts, a function of the code each. Assumes
+-- nothing.
+use Prim.Native.Nat.{ℕ}
+use mathlib.Core.Bool.{Bool, false, not, _&&_}
+use mathlib.Core.List.{List, []}
+use lib.Dec.{leb}
+use Rattle.manager.specs.Record.{tasks, noRegion}
+use Rattle.manager.specs.Region.{dead, anyHeld, pagesOf, pagesAsked}
+use Rattle.manager.specs.declared.Manager.{Manager}
+use Rattle.manager.specs.declared.Region.{Region}
+use Rattle.manager.specs.declared.Waiter.{Waiter}
+use Rattle.soundness.specs.declared.places.Facts.{Facts}
+
+-- a record that has only regions and a queue
+abbrev pub queueOf : List Region → List Waiter → Manager
+queueOf rs ws = record { regions = rs; partitions = []; waiters = ws }
+
+-- what is asked of a region: its pages, and "in a live region with something held"
+abbrev pub factsOf : List ℕ → ℕ → Region → Facts
+factsOf m id r = record { id = id; region = r; pages = pagesOf r; held = not (dead r) && anyHeld m r }
+
+abbrev pub noFacts : Facts
+noFacts = record { id = 0; region = noRegion; pages = 0; held = false }
+
+-- no waiter goes before this one
+abbrev pub frontWaiter : Waiter
+frontWaiter = record { task = 1; region = 0; size = 0; priority = 0; ticks = 0 }
+
+-- "with a size from 1 that region can hold, a priority from 1 to 255"
+abbrev pub soundRequest : Facts → Waiter → Bool
+soundRequest f w =
+    leb 1 (w .size) && (leb (pagesAsked (f .region) (w .size)) (f .pages) && (leb 1 (w .priority) && leb (w .priority) 255))
+
+-- "each waiting task of 1 to 16, in a live region with something held"
+abbrev pub soundIn : Facts → Waiter → Bool
+soundIn f w = leb (w .task) tasks && (f .held && soundRequest f w)
