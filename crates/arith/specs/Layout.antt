@@ -1,4 +1,4 @@
--- Where the map and the pages of an area lie, and how many pages there are: document 01, "Regions: Layout".
+-- Where the map and the pages of an area lie, and how many pages there are: rules 3.3 and 3.4.
 use Prim.Native.Nat.{ℕ, zero, suc, _+_, _*_, _/_}
 use mathlib.Core.Bool.{Bool, cond}
 use lib.Dec.{leb, eqb}

@@ -1,4 +1,4 @@
--- Roundings to whole multiples: the numbers of document 01, "Regions".
+-- Roundings to whole multiples: rules 3.1 and 3.2.
 use Prim.Native.Nat.{ℕ, _+_, _-_, _*_, _/_}
 
 -- "Regions: Layout", "Page size": the first multiple of p at or above x, where p is not 0

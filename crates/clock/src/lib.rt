@@ -1,4 +1,4 @@
-// The clock tick: document 01, "Regions", Tick. It answers 25 first, where the records are not sound. The function is total: any
+// The clock tick: rules 7.3 and 11.9. It answers 25 first, where the records are not sound. The function is total: any
 // record and memory have their answer.
 use manager::Answer;
 use manager::Manager;

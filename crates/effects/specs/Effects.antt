@@ -1,4 +1,4 @@
--- Document 01, demand 1: "Whatever numbers, manager record and memory words it is given, each directive ends with one of the numbered
+-- Demand 1: "Whatever numbers, manager record and memory words it is given, each directive ends with one of the numbered
 -- answers. It checks its records itself; a refusal changes no word and no field; only its own bookkeeping words are ever written." It is
 -- stated of any implementation, over any memory and record and not only over those that a list of calls reaches. Assumes nothing.
 use mathlib.Core.Path.{_≡_}

@@ -1,4 +1,4 @@
--- Document 01: reading and writing a held segment. Assumes nothing.
+-- Rules 13: reading and writing a held segment. Assumes nothing.
 use Prim.Native.Nat.{ℕ, _+_, _-_, _*_, _/_}
 use mathlib.Core.Bool.{Bool, cond, not, _||_}
 use mathlib.Core.List.{List, [], _∷_}

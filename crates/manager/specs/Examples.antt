@@ -1,4 +1,4 @@
--- Document 01, "Bench examples": the ones marked M, as one table about the definitions; the theorem that all of it holds is in proofs/.
+-- The bench examples, as one table about the definitions; the theorem that all of it holds is in proofs/.
 -- Region A: start 4, length 1,020, page 64. Memory 16,384 words. Assumes nothing.
 use Prim.Native.Nat.{ℕ, _+_, _*_}
 use mathlib.Core.Bool.{Bool, true, false, _&&_}

@@ -1,4 +1,4 @@
--- Tests over a whole list: what the definitions of document 01 say of every slot, place or area; and what is on a list. Assumes nothing.
+-- Tests over a whole list: what the definitions say of every slot, place or area; and what is on a list. Assumes nothing.
 use Prim.Native.Nat.{ℕ, zero, suc}
 use mathlib.Core.Path.{_≡_}
 use mathlib.Core.Bool.{Bool, true, false, cond, _&&_, _||_}

@@ -1,4 +1,4 @@
--- Document 01, "Regions: Map": a region's map as segments, the words that draw it, and what a sound map is. Assumes nothing.
+-- Rules 4: a region's map as segments, the words that draw it, and what a sound map is. Assumes nothing.
 use Prim.Native.Nat.{ℕ, zero, suc, _+_, _-_, _*_, _/_, _%_, max}
 use mathlib.Core.Bool.{Bool, true, false, cond, _&&_, _||_}
 use mathlib.Core.List.{List, [], _∷_, _++_}

@@ -1,4 +1,4 @@
--- Document 01, "Regions: Get, Return, Resize": how a region of pages places, frees and resizes segments. A kind of region is one
+-- Rules 5: how a region of pages places, frees and resizes segments. A kind of region is one
 -- record of such functions, and the directives and the queue are stated over it. Assumes nothing.
 use Prim.Native.Nat.{ℕ, zero, suc, _+_, _-_}
 use mathlib.Core.Bool.{Bool, cond}

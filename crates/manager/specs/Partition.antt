@@ -1,4 +1,4 @@
--- Document 01, "Partitions (002)": the buffers of a partition and the chain of the free ones. Assumes nothing.
+-- Rules 9: the buffers of a partition and the chain of the free ones. Assumes nothing.
 use Prim.Native.Nat.{ℕ, zero, suc, _+_, _-_, _*_, _/_, _%_}
 use mathlib.Core.Bool.{Bool, true, false, cond, _&&_}
 use mathlib.Core.List.{List, [], _∷_}

@@ -1,4 +1,4 @@
--- Document 01: the directives on partitions. Each has its checks in the order of "Order of checks". Assumes nothing.
+-- Rules 12: the directives on partitions. Each has its checks in the order of "Order of checks". Assumes nothing.
 use Prim.Native.Nat.{ℕ, _+_, _-_, _*_, _%_}
 use mathlib.Core.Bool.{Bool, true, false, cond, not}
 use mathlib.Core.List.{List, [], _∷_}

@@ -1,4 +1,4 @@
--- Document 01, "Regions: Queue, Tick": the wait queue. The record keeps one array of waiters, by region and within a region in the
+-- Rules 7: the wait queue. The record keeps one array of waiters, by region and within a region in the
 -- order in which they are served; unused places are at the end. Assumes nothing.
 use Prim.Native.Nat.{ℕ, _-_}
 use mathlib.Core.Bool.{Bool, true, false, cond, not, _&&_, _||_}

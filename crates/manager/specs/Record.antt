@@ -1,4 +1,4 @@
--- Document 01, "What the desk looks after": the manager record, its limits, and a fresh one. Assumes nothing.
+-- Rules 1 (the paper's desk): the manager record, its limits, and a fresh one. Assumes nothing.
 use Prim.Native.Nat.{ℕ, zero, suc}
 use mathlib.Core.List.{List}
 use lib.ListN.{getD, set, replicate}

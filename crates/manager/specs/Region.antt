@@ -1,4 +1,4 @@
--- Document 01, "Regions: Layout": where a region's map and pages lie in the memory. Assumes nothing.
+-- Rules 6: where a region's map and pages lie in the memory. Assumes nothing.
 use Prim.Native.Nat.{ℕ, _+_, _-_, _*_, _/_, _%_}
 use mathlib.Core.Bool.{Bool, cond, not, _&&_}
 use mathlib.Core.List.{List, [], _∷_, _++_}

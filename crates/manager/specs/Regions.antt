@@ -1,4 +1,4 @@
--- Document 01: the directives on regions and the clock tick. Each has its checks in the order of "Order of checks". Assumes nothing.
+-- Rules 11: the directives on regions and the clock tick. Each has its checks in the order of "Order of checks". Assumes nothing.
 use Prim.Native.Nat.{ℕ, _+_, _*_}
 use mathlib.Core.Bool.{Bool, true, false, cond, not, _&&_}
 use mathlib.Core.List.{List, [], _∷_, _++_}

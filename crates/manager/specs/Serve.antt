@@ -1,4 +1,4 @@
--- Document 01, "Regions: Return": the first waiter is tried by the get rule; if served, the next; the first who can't be served
+-- Rules 8: the first waiter is tried by the get rule; if served, the next; the first who can't be served
 -- ends it. Assumes nothing.
 use Prim.Native.Nat.{ℕ, zero, suc}
 use mathlib.Core.Bool.{Bool, cond}

@@ -1,4 +1,4 @@
--- Document 01, "Sound books": what a sound manager record over a memory is, clause by clause. Assumes nothing.
+-- Rules 10 (the paper's sound books): what a sound manager record over a memory is, clause by clause. Assumes nothing.
 use Prim.Native.Nat.{ℕ, _+_, _*_, _%_, _≤_}
 use mathlib.Core.Path.{_≡_}
 use mathlib.Core.Bool.{Bool, true, false, cond, not, _&&_, _||_}

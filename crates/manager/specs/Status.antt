@@ -1,4 +1,4 @@
--- Document 01, "When the desk says no": the numbers of the answers. Assumes nothing.
+-- Rule 2.1: the numbers of the answers. Assumes nothing.
 use Prim.Native.Nat.{ℕ}
 use Rattle.manager.specs.declared.Status.{Status}
 use Rattle.manager.specs.declared.Status.the-variants.{Successful, InvalidName, InvalidId, TooMany, Timeout, InvalidSize, InvalidAddress, InvalidNumber, ResourceInUse, Unsatisfied, IncorrectState, InvalidPriority, InternalError, Waiting}

@@ -16,7 +16,7 @@ pub enum Wait {
     Yes,
 }
 
-// The answers of document 01's table, under their RTEMS names. `Waiting` is the house's own: the task now waits.
+// The answers (rule 2.1), under their RTEMS names. `Waiting` is the house's own: the task now waits.
 pub enum Status {
     Successful,
     InvalidName,
@@ -92,7 +92,7 @@ pub enum Place {
     Nowhere,
 }
 
-// The manager record (document 01's desk). The queue is kept by region, and within one in the order in which it is served.
+// The manager record (the paper's desk). The queue is kept by region, and within one in the order in which it is served.
 pub struct Manager {
     pub regions: [Region; Manager::SLOTS],
     pub partitions: [Partition; Manager::SLOTS],
@@ -210,7 +210,7 @@ impl Manager {
     }
 }
 
-// The number of a status in document 01's table.
+// The number of a status (rule 2.1).
 pub fn number(s: Status) -> u32
     ensures { λ r. ⌜ r ≡ numberOf s ⌝ }
 {

@@ -1,4 +1,4 @@
-// The directives on partitions: document 01, "Partitions (002)". Each answers 25 first, where the records are not sound. Every function
+// The directives on partitions: rules 12. Each answers 25 first, where the records are not sound. Every function
 // is total: any record, memory and numbers have their answer.
 mod buffers;
 mod create;

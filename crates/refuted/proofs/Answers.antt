@@ -1,4 +1,4 @@
--- WRONG ANSWERS: the managers 1 to 31, each of which breaks one rule of document 01 (those that it shuts out by name and those of its slips
+-- WRONG ANSWERS: the managers 1 to 31, each of which breaks one rule (those that it shuts out by name and those of its slips
 -- among them), and for each a list of calls of which the last is not answered as the receipts say. So none of them meets demand 3. The
 -- managers 32 to 46, which don't meet demand 1, are in Effects. Assumes nothing.
 use mathlib.Core.Path.{refl}

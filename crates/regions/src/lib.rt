@@ -1,4 +1,4 @@
-// The directives on whole regions: document 01, "Regions". Each answers 25 first, where the records are not sound. Every function
+// The directives on whole regions: rules 11. Each answers 25 first, where the records are not sound. Every function
 // here is total: any record, memory and numbers have their answer.
 mod create;
 mod tally;

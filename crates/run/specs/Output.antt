@@ -1,4 +1,4 @@
--- Document 01, "The program": "Output: `status=`, `value=` (six for info, zeros if refused), then for each notice `task=`, `with=`, `value=`."
+-- Rule 15.3: "Output: `status=`, `value=` (six for info, zeros if refused), then for each notice `task=`, `with=`, `value=`."
 -- Assumes nothing.
 use Prim.Native.Nat.{ℕ, suc, _+_, _*_, _≤_}
 use Prim.Native.String.{String}

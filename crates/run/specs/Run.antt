@@ -1,4 +1,4 @@
--- Document 01, "The program": the whole run, from a script and a memory to what is written. Assumes nothing.
+-- Rule 15.3: the whole run, from a script and a memory to what is written. Assumes nothing.
 use Prim.Native.Nat.{ℕ, _+_, _*_, _/_}
 use mathlib.Core.List.{List, [], _∷_, _++_}
 use mathlib.Core.Bool.{cond}

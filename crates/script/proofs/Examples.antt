@@ -1,4 +1,4 @@
--- Scripts and what they are read as, computed: document 01's whole case, and lines that are bad. Assumes nothing.
+-- Scripts and what they are read as, computed: a whole script, and lines that are bad. Assumes nothing.
 use mathlib.Core.Path.{_≡_, refl}
 use mathlib.Core.List.{List, [], _∷_, _++_}
 use Rattle.text.specs.Bytes.{bytes}

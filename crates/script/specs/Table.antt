@@ -1,4 +1,4 @@
--- Document 01, "The program": the keys of a script with the largest number of each, and the calls with their keys. A new key or call is
+-- Rule 15.2: the keys of a script with the largest number of each, and the calls with their keys. A new key or call is
 -- written here: nothing else in specs/ or in the laws names one, but for the proof that each call has its row (proofs/Rows.antt). Assumes nothing.
 use Prim.Native.Nat.{ℕ, zero, suc}
 use Prim.Native.String.{String, _++_}

@@ -1,4 +1,4 @@
-// The tables of document 01's script. Each text is held with those of the others, one after another: text k is from place k of the
+// The tables of scripts, rule 15.2. Each text is held with those of the others, one after another: text k is from place k of the
 // places to place k + 1. The numbers of a call's keys are held the same way.
 
 // The keys, and the largest number of each.

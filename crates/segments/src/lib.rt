@@ -1,4 +1,4 @@
-// The directives on the segments of a region: document 01, "Regions". Each answers 25 first, where the records are not sound, and
+// The directives on the segments of a region: rules 11.4 to 11.7. Each answers 25 first, where the records are not sound, and
 // then makes its checks in their order. Every function here is total: any record, memory and numbers have their answer.
 mod allocation;
 mod checks;

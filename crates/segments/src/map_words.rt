@@ -52,7 +52,7 @@ fn take_at(map: &mut [u32], i: usize, k: u32)
 }
 
 // Takes k pages where there is room, and says where.
-pub(crate) fn allocate(map: &mut [u32], k: u32) -> Place
+pub(crate) fn take(map: &mut [u32], k: u32) -> Place
     requires { ⌜ (soundMap (now map) ≡ true) × (length (now map) ≤ 16384) ⌝ }
     requires { ⌜ 1 ≤ k ⌝ }
     ensures { λ r. ⌜ (r ≡ placeFrom k 0 (decode (now (map .entry)))) × (now (map .exit) ≡ draw (allocate k (decode (now (map .entry))))) ⌝ }

@@ -1,4 +1,4 @@
-// The check of all records: whether the manager record and the memory's words are as document 01, "Sound books", has them. It ends on
+// The check of all records: whether the manager record and the memory's words are as rules 10 have them. It ends on
 // any input, however damaged, and changes nothing.
 mod chains;
 mod places;

@@ -1,4 +1,4 @@
--- A text as its bytes, so that definitions can name keys and calls as document 01 does. Assumes nothing.
+-- A text as its bytes, so that definitions can name keys and calls as the rules do. Assumes nothing.
 use Prim.Native.Nat.{ℕ}
 use Prim.Native.Char.{code}
 use Prim.Native.String.{String, [], _∷_}

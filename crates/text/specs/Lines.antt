@@ -1,4 +1,4 @@
--- Document 01, "The program": "Lines end in a newline, at most 64 bytes with it; numbers are decimal, below 2^32, without leading zeros."
+-- Rule 15.1: "Lines end in a newline, at most 64 bytes with it; numbers are decimal, below 2^32, without leading zeros."
 -- What reading finds, as definitions on the list of bytes. Assumes nothing.
 use Prim.Native.Nat.{ℕ, zero, suc, _+_, _-_, _*_}
 use mathlib.Core.List.{List, [], _∷_}

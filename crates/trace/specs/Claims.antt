@@ -1,6 +1,6 @@
--- Document 01, demand 3: what holds after every list of calls, a field for each sentence. "By the receipts" is said by the receipts
+-- Demand 3: what holds after every list of calls, a field for each sentence. "By the receipts" is said by the receipts
 -- alone. The heart is `replies`: every reply is the one that the receipts give. The fields about single answers follow from it, and say
--- what it comes to in the words of document 01. Of the record only the queue and the kept front of a chain are looked at; of the memory
+-- what it comes to in the words of the demand. Of the record only the queue and the kept front of a chain are looked at; of the memory
 -- the maps, the chains and what clients hold. Assumes nothing.
 use mathlib.Core.Path.{_≡_}
 use mathlib.Core.Bool.{cond, not, _&&_}

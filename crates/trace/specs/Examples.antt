@@ -1,4 +1,4 @@
--- Document 01, "Bench examples": the ones marked M, answered by the receipts alone. The table is the one of the definitions; here no
+-- The bench examples, answered by the receipts alone. The table is the one of the definitions; here no
 -- memory and no record is kept, and each answer is entered into the receipts by which the next call is answered. Assumes nothing.
 use mathlib.Core.Path.{_≡_, refl}
 use mathlib.Core.Bool.{Bool, true, _&&_}

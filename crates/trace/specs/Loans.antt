@@ -1,4 +1,4 @@
--- Document 01, "Receipts, for demand 3": the loans of one region, and which pages they hold. The receipts keep a loan at the address that was
+-- Rule 14.2: the loans of one region, and which pages they hold. The receipts keep a loan at the address that was
 -- answered. Which pages it covers is read off the same list with each address turned into the number of its page (`inPages`). Nothing here
 -- looks at a map or at a memory. Assumes nothing.
 use mathlib.Core.Path.{_≡_}

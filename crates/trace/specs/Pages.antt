@@ -1,4 +1,4 @@
--- Document 01, "Regions: Get, Resize" by the receipts: a region of pages. A get takes the lowest run of unheld pages, and a loan can grow into
+-- Rules 5.1 and 5.3 by the receipts: a region of pages. A get takes the lowest run of unheld pages, and a loan can grow into
 -- the unheld pages behind it. Assumes nothing.
 use mathlib.Core.Bool.{cond}
 use mathlib.Core.List.{List, [], _∷_}

@@ -1,4 +1,4 @@
--- Document 01, "Regions: Queue, Tick" by the receipts: the order in which the waits stand, and whose time runs out at a tick. Assumes
+-- Rules 7 by the receipts: the order in which the waits stand, and whose time runs out at a tick. Assumes
 -- nothing.
 use mathlib.Core.Bool.{Bool, cond, _&&_, _||_}
 use mathlib.Core.List.{List, [], _∷_}

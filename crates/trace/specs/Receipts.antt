@@ -1,4 +1,4 @@
--- Document 01, "Receipts, for demand 3": written from the arguments and answers of the calls, never from the record or the memory.
+-- Rules 14.1 and 14.2, the receipts: written from the arguments and answers of the calls, never from the record or the memory.
 -- Assumes nothing.
 use mathlib.Core.Bool.{Bool, cond}
 use mathlib.Core.List.{List, [], _∷_, _++_}

@@ -1,4 +1,4 @@
--- Document 01 by the receipts: what every call is answered, from its arguments, the receipts and the memory's length. No word of the
+-- Rule 14.3, rules 11 to 13 by the receipts: what every call is answered, from its arguments, the receipts and the memory's length. No word of the
 -- memory and no field of the record is looked at. Assumes nothing.
 use mathlib.Core.Bool.{Bool, true, false, cond, not, _&&_, _||_}
 use mathlib.Core.List.{List, [], _∷_}

@@ -1,4 +1,4 @@
--- Document 01, demand 3: every list of calls from a fresh start, refused ones included, with clients writing what they like into what
+-- Rule 14.4, demand 3: every list of calls from a fresh start, refused ones included, with clients writing what they like into what
 -- they hold. Assumes nothing.
 use mathlib.Core.Path.{_≡_}
 use mathlib.Core.List.{List}
