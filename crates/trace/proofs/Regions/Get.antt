@@ -27,7 +27,6 @@ use Rattle.trace.specs.Loans.{Loan, enter}
 use Rattle.trace.specs.Receipts.{Receipts, RegionEntry, Wait, pagesIn, addressIn, lend, pagesOver}
 use Rattle.trace.specs.Claims.{Full}
 use Rattle.trace.proofs.Invariant.{regionFor, RegionIs, WaitIs, Inv, with-waits}
-use Rattle.trace.proofs.Loans.Lawful.{found}
 use Rattle.trace.proofs.Segments.{regular, full-lends}
 use Rattle.trace.proofs.Map.{Steps, Gives, gave, none, shows}
 use Rattle.trace.proofs.Queue.Enter.{new-waiter, new-time}
