@@ -19,8 +19,9 @@ use Rattle.trace.proofs.Start.{start-inv}
 use Rattle.trace.proofs.Theorem.{runs, theorem}
 use Rattle.effects.specs.Effects.{CallEffects}
 use Rattle.effects.proofs.Theorem.{calls as effects}
+use Rattle.script.specs.Table.{Row, rowOf}
 use Rattle.script.specs.Reading.{Script, readAll}
-use Rattle.run.specs.Output.{noticesText, answerText, valuesText, asksInformation}
+use Rattle.run.specs.Output.{noticesText, answerText, valuesText}
 use Rattle.run.specs.Run.{answers, runScript, runAll}
 use Rattle.end_to_end.specs.Program.{valuesOf, replyText, repliesText, written, ProgramByReceipts}
 
@@ -55,7 +56,7 @@ module _ (m : List ℕ) (some : 1 ≤ length m) (most : length m ≤ mostWords) 
   answers-by s r [] = refl
   answers-by s r (c ∷ cs) =
       let a = perform (s .memory) (s .manager) c in
-      let six = asksInformation c in
+      let six = rowOf c .sixValues in
       let e : replyOf a ≡ byReceipts (length (s .memory)) (s .receipts) c = theorem m some most s r .replies c in
       let first : answerText six (answerOf a) ≡ replyText six (byReceipts (length (s .memory)) (s .receipts) c) = answer-text six a ∙ ap (replyText six) e in
       let rest : answers (a .memory) (a .manager) cs ≡ repliesText (length (a .memory)) (note c (replyOf a) (s .receipts)) cs

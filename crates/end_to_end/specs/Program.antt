@@ -11,9 +11,10 @@ use Rattle.manager.specs.Status.{numberOf}
 use Rattle.manager.specs.declared.Call.{Call}
 use Rattle.trace.specs.Receipts.{Receipts, Reply, blank, note}
 use Rattle.trace.specs.Replies.{byReceipts}
+use Rattle.script.specs.Table.{Row, rowOf}
 use Rattle.script.specs.Reading.{Script, readAll}
-use Rattle.run.specs.Output.{line, asksInformation, informationText, noticesText}
-use Rattle.run.specs.Run.{badText, runAll}
+use Rattle.run.specs.Output.{line, informationText, noticesText}
+use Rattle.run.specs.Run.{mostScript, badText, runAll}
 
 -- a reply as it is written: its status, its value or the six values of an information call, and its notices
 abbrev pub valuesOf : Bool → Reply → List ℕ
@@ -28,11 +29,11 @@ unfoldable pub repliesText : ℕ → Receipts → List Call → List ℕ
 repliesText n t [] = []
 repliesText n t (c ∷ cs) =
     let r = byReceipts n t c in
-    replyText (asksInformation c) r ++ repliesText n (note c r t) cs
+    replyText (rowOf c .sixValues) r ++ repliesText n (note c r t) cs
 
 -- "reads at most 32,768 bytes"; the first bad or missing line ends the run
 unfoldable pub written : ℕ → List ℕ → List ℕ
-written n s = cond (ltb 32768 (length s)) (line "bad=" 0) (repliesText n blank (readAll s .calls) ++ badText s (readAll s .bad))
+written n s = cond (ltb mostScript (length s)) (line "bad=" 0) (repliesText n blank (readAll s .calls) ++ badText s (readAll s .bad))
 
 -- END TO END: the output of every script, over any memory of an allowed length
 abbrev pub ProgramByReceipts : Type 0
