@@ -2,29 +2,29 @@
 -- Then a reply, and a store where there is one, perform it. Assumes nothing.
 use Prim.Native.Nat.{ℕ, suc, _+_, _-_, _*_, _/_, _%_, _≤_, _<_}
 use mathlib.Core.Path.{_≡_, refl, ap, sym, _∙_}
-use mathlib.Core.Bool.{Bool, true, false, not, cond, _||_, true≢false}
-use mathlib.Core.List.{List, [], _∷_}
+use mathlib.Core.Bool.{Bool, true, false, not, cond, _||_}
+use mathlib.Core.List.{List, []}
 use mathlib.Core.Logic.{⊎-elim}
 use native.Mathlib.Omega.{arith}
 use native.Mathlib.Numerals.{add-one}
 use native.Mathlib.Nat.{div-le-self}
 use lib.ListN.{length}
-use lib.Dec.{eqb, leb, ltb}
-use borrow.Author.Tests.{eq-eqb, ne-eqb, lt-ltb, le-ltb, le-leb, lt-leb, ltb-false, eqb-false, not-true, not-false}
-use Rattle.manager.specs.Record.{slots, slotOf, idOf, noPartition, partitionOf, withPartition}
-use Rattle.manager.specs.Result.{Result, Performs, Check, check, checked, answerOf, replied, refused, done}
+use lib.Dec.{eqb, ltb}
+use borrow.Author.Tests.{eq-eqb, ne-eqb, le-leb, lt-leb, ltb-false, eqb-false, not-true, not-false}
+use Rattle.manager.proofs.Laws.Appended.{or-first, or-second}
+use Rattle.manager.specs.Record.{slotOf, noPartition, partitionOf, withPartition}
+use Rattle.manager.specs.Result.{Result, Performs, checked, answerOf, replied, refused, done}
 use Rattle.manager.specs.Sound.{sound, livePartition}
-use Rattle.manager.specs.Partition.{deadPartition, buffers, isBuffer, isFree, linkAll, afterGet, gotten, afterReturn, returned}
+use Rattle.manager.specs.Partition.{buffers, isBuffer, isFree, linkAll, afterGet, gotten, afterReturn, returned}
 use Rattle.manager.proofs.Laws.Distinct.{same-or-not}
 use Rattle.manager.proofs.Laws.Partition.Live.{live-laid, live-chain, sound-live, sound-most}
 use Rattle.manager.proofs.Laws.Partition.Repeats.{free-fewer}
-use Rattle.manager.specs.Regions.{overlaps, pastMemory}
+use Rattle.manager.specs.Regions.{overlaps}
 use Rattle.manager.specs.Partitions.{partitionNamed, newPartition, createPartition, identPartition, deletePartition, getBuffer, returnBuffer}
 use Rattle.partitions.specs.Checks.{sizeRefused}
 use Rattle.partitions.specs.Acts.{makes, handsOut, takesBack}
 use Rattle.manager.specs.declared.Manager.{Manager}
 use Rattle.manager.specs.declared.Partition.{Partition}
-use Rattle.manager.specs.declared.Area.{Area}
 use Rattle.manager.specs.declared.Answer.{Answer}
 use Rattle.manager.specs.declared.Status.{Status}
 use Rattle.manager.specs.declared.Status.the-variants.{Successful, InvalidName, InvalidId, TooMany, InvalidSize, InvalidAddress, ResourceInUse, Unsatisfied, InternalError}
@@ -202,14 +202,6 @@ sizes-one bytes size x y =
     ∙ ap (λ (z : Result). cond a x (cond b x z)) (cond-or c (d || e) x y)
     ∙ ap (λ (z : Result). cond a x z) (cond-or b (c || (d || e)) x y)
     ∙ cond-or a (b || (c || (d || e))) x y
-
-or-first : (a b : Bool) → (a || b) ≡ false → a ≡ false
-or-first true b e = e
-or-first false b e = refl
-
-or-second : (a b : Bool) → (a || b) ≡ false → b ≡ false
-or-second true b e = absurd (true≢false e)
-or-second false b e = e
 
 module _ (bytes size : ℕ) (b : Bool) (r : b ≡ sizeRefused bytes size) (e : b ≡ false) where
   none : sizeRefused bytes size ≡ false

@@ -128,7 +128,7 @@ decode-start : (w : ℕ) (ws : List ℕ) → 1 ≤ w → decode (w ∷ ws) ≡ s
 unfolding decode
 decode-start w ws h = rw (not-zero w h)
 
-decode-skip : (w : ℕ) (ws : List ℕ) → w ≡ 0 → decode (w ∷ ws) ≡ decode ws
+pub decode-skip : (w : ℕ) (ws : List ℕ) → w ≡ 0 → decode (w ∷ ws) ≡ decode ws
 unfolding decode
 decode-skip w ws e = rw e
 
