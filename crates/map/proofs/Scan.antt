@@ -11,6 +11,7 @@ use lib.Dec.{eqb}
 use lib.ListN.{length, getD, drop, drop-of-length-le}
 use Rattle.manager.specs.Lists.{any}
 use Rattle.manager.proofs.Laws.Lists.{rest-cons, Seeking, some-next, some-here, some-end}
+use Rattle.manager.proofs.Laws.Map.{decode-skip}
 use Rattle.manager.specs.Map.{Segment, free, held, isHeld, isHeldSegment, decode}
 use Rattle.manager.specs.Paged.{heldFrom}
 
@@ -22,10 +23,6 @@ decode-held w ws h = rw (ne-eqb w 0 (λ e. omega arith), eq-eqb (w % 2) 1 h)
 pub decode-free : (w : ℕ) (ws : List ℕ) → (w % 2 ≡ 1 → ⊥) → (w ≡ 0 → ⊥) → decode (w ∷ ws) ≡ free (w / 2) ∷ decode ws
 unfolding decode
 decode-free w ws h k = rw (ne-eqb w 0 k, ne-eqb (w % 2) 1 h)
-
-pub decode-skip : (w : ℕ) (ws : List ℕ) → w ≡ 0 → decode (w ∷ ws) ≡ decode ws
-unfolding decode
-decode-skip w ws h = rw (eq-eqb w 0 h)
 
 pub decode-end : (ws : List ℕ) (i : ℕ) → length ws ≤ i → decode (drop i ws) ≡ []
 unfolding decode
