@@ -1,7 +1,7 @@
 -- A scan of a map's words, one by one: each word that is not 0 starts a segment, held where it is odd, and adds its pages to the page
 -- number; a word 0 adds none. `atPage` is what a function says of the held segment that starts at page p. Assumes nothing.
 use Prim.Native.Nat.{ℕ, zero, suc, _+_, _/_, _%_, _≤_, _<_}
-use mathlib.Core.Path.{_≡_, refl, sym, ap, _∙_}
+use mathlib.Core.Path.{_≡_, refl, sym, ap}
 use mathlib.Core.Bool.{Bool, true, false, cond, _||_}
 use mathlib.Core.List.{List, [], _∷_}
 use native.Mathlib.Nat.{add-zero}
@@ -10,7 +10,7 @@ use borrow.Author.Tests.{eq-eqb, ne-eqb, eqb-true}
 use lib.Dec.{eqb}
 use lib.ListN.{length, getD, drop, drop-of-length-le}
 use Rattle.manager.specs.Lists.{any}
-use Rattle.manager.proofs.Laws.Lists.{rest-cons, Seeking, some-next, some-here, some-end}
+use Rattle.manager.proofs.Laws.Lists.{Seeking, some-next, some-here, some-end}
 use Rattle.manager.proofs.Laws.Map.{decode-skip}
 use Rattle.manager.specs.Map.{Segment, free, held, isHeld, isHeldSegment, decode}
 use Rattle.manager.specs.Paged.{heldFrom}

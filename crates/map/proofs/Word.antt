@@ -1,27 +1,27 @@
 -- In a tiled map a word is odd exactly where a held segment starts, and its page is the word's place: so one word says what a scan of the
 -- words before it finds (`one-word`). Assumes nothing.
-use Prim.Native.Nat.{ℕ, zero, suc, _+_, _-_, _*_, _/_, _%_, _≤_, _<_}
+use Prim.Native.Nat.{ℕ, zero, suc, _+_, _-_, _*_, _/_, _%_, _≤_}
 use mathlib.Core.Path.{_≡_, refl, sym, ap, _∙_}
-use mathlib.Core.Bool.{Bool, true, false, cond, not, _&&_, _||_}
+use mathlib.Core.Bool.{Bool, true, false, cond, not, _||_}
 use mathlib.Core.List.{List, [], _∷_}
 use native.Mathlib.Omega.{arith}
-use borrow.Author.Tests.{eq-eqb, ne-eqb, eqb-true, eqb-false, leb-true}
-use lib.Dec.{eqb, leb}
-use lib.ListN.{length, getD, List·getD-eq-default}
+use borrow.Author.Tests.{eq-eqb, ne-eqb, eqb-true, eqb-false}
+use lib.Dec.{eqb}
+use lib.ListN.{length, getD}
 use Rattle.manager.specs.Lists.{any}
 use Rattle.manager.proofs.Laws.Map.{head-parts, rest-parts, no-end, decode-start, decode-skip, size-of, held-of as mark-of, total-cons, total-decoded, sound-tiled}
 use Rattle.manager.proofs.Laws.Apart.{Well, well-decoded}
 use Rattle.manager.specs.Map.{Segment, free, held, segmentOf, isHeld, isHeldSegment, decode, tiledFrom, tiled, soundMap, total}
 use Rattle.manager.specs.Paged.{apart, heldFrom}
 use Rattle.manager.specs.Record.{regionOf}
-use Rattle.manager.specs.Region.{dead, heldAt, anyHeld, mapWords, pageAt, pagesOf, startsPage}
+use Rattle.manager.specs.Region.{heldAt, anyHeld, mapWords, pageAt, pagesOf, startsPage}
 use Rattle.manager.specs.Sound.{sound}
 use Rattle.manager.specs.Sound.{Sited}
 use Rattle.manager.proofs.Laws.Sound.{sited, tiled-map, map-long}
 use Rattle.manager.specs.declared.Manager.{Manager}
 use Rattle.manager.specs.declared.Region.{Region}
 use Rattle.map.specs.Word.{heldWord, heldWordAt, oneFree}
-use Rattle.map.proofs.Scan.{atPage, pages, held-is, past, held-words, word-held, word-hit, word-free}
+use Rattle.map.proofs.Scan.{atPage, pages, held-is, past, word-held, word-hit, word-free}
 
 none-here : (i k : ℕ) → heldWord [] k ≡ atPage pages (i + k) (i + 0) (decode [])
 unfolding atPage decode

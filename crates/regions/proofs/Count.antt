@@ -1,8 +1,8 @@
 -- Counting the segments of a map on a walk: what is counted so far with what is left gives the whole, and no number is above the
 -- map's length. Assumes nothing.
-use Prim.Native.Nat.{ℕ, zero, suc, _+_, _-_, _*_, _/_, _%_, _≤_, _<_, max}
-use mathlib.Core.Path.{_≡_, refl, sym, ap, _∙_}
-use mathlib.Core.Bool.{Bool, true, false}
+use Prim.Native.Nat.{ℕ, suc, _+_, _*_, _/_, _%_, _≤_, _<_, max}
+use mathlib.Core.Path.{_≡_, sym, ap, _∙_}
+use mathlib.Core.Bool.{true}
 use mathlib.Core.List.{List, [], _∷_}
 use native.Mathlib.Nat.{add-zero, zero-add, zero-max, max-zero, max-le, mul-le-mul, lt-of-le-of-lt}
 use native.Mathlib.Omega.{arith}
@@ -11,8 +11,7 @@ use mir.Syntax.{w32}
 use mir.Val.{Fits}
 use borrow.Author.Needs.{fits-under}
 use Rattle.manager.specs.Map.{Segment, free, held, decode, tiled, freeSizes, heldSizes, largestOf, sumOf, total}
-use Rattle.manager.specs.Map.{sizeOf}
-use Rattle.manager.proofs.Laws.Map.{Sized, sized-decoded, total-decoded, Here, walk-start, walk-step, walk-end, says-free, says-held, next-here}
+use Rattle.manager.proofs.Laws.Map.{Sized, sized-decoded, total-decoded, Here, walk-start, walk-end, says-free, says-held, next-here}
 use Rattle.manager.specs.Record.{noInformation}
 use Rattle.manager.specs.Regions.{informationOf}
 use Rattle.manager.specs.declared.Information.{Information}

@@ -1,17 +1,16 @@
 -- What a get does to the words: where first fit finds room, the low end of that free segment is held. Assumes nothing.
-use Prim.Native.Nat.{ℕ, zero, suc, _+_, _-_, _*_, _/_, _%_, _≤_, _<_}
-use mathlib.Core.Path.{_≡_, refl, sym, ap, _∙_}
-use mathlib.Core.Bool.{Bool, true, false}
-use mathlib.Core.List.{List, [], _∷_, _++_}
+use Prim.Native.Nat.{ℕ, zero, suc, _+_, _-_, _/_, _≤_}
+use mathlib.Core.Path.{_≡_, sym, ap, _∙_}
+use mathlib.Core.Bool.{true, false}
+use mathlib.Core.List.{List, _∷_, _++_}
 use native.Mathlib.Omega.{arith}
 use lib.ListN.{length, getD}
-use Rattle.manager.specs.Map.{Segment, free, held, wordsOf, draw, decode, soundMap, total}
-use Rattle.manager.proofs.Laws.Map.{sound-tiled, redraw, draw-append, draw-cons, length-draw, total-decoded}
+use Rattle.manager.specs.Map.{Segment, free, held, wordsOf, draw, decode, soundMap}
+use Rattle.manager.proofs.Laws.Map.{sound-tiled, redraw, draw-append, draw-cons, length-draw}
 use Rattle.manager.proofs.Laws.Apart.{Well, well-decoded, well-at}
 use Rattle.manager.specs.Paged.{apart, free+, placeFrom, allocate}
-use Rattle.manager.proofs.Laws.Paged.{Hit, hit, free-none, free-front}
-use Rattle.manager.specs.declared.Place.{Place}
-use Rattle.manager.specs.declared.Place.the-variants.{At, Nowhere}
+use Rattle.manager.proofs.Laws.Paged.{hit, free-none, free-front}
+use Rattle.manager.specs.declared.Place.the-variants.{At}
 use Rattle.segments.specs.MapWords.{holding}
 use Rattle.segments.proofs.Words.{word-at, words-in, holding-words}
 

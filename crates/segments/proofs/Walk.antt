@@ -1,17 +1,14 @@
 -- Walks of a tiled map from segment to segment: what is left of a search from here on gives the whole. Assumes nothing.
-use Prim.Native.Nat.{ℕ, zero, suc, _+_, _-_, _/_, _%_, _≤_, _<_}
+use Prim.Native.Nat.{ℕ, _+_, _/_, _%_, _≤_, _<_}
 use mathlib.Core.Path.{_≡_, refl, sym, ap, _∙_}
-use mathlib.Core.Bool.{Bool, true, false, cond}
-use mathlib.Core.List.{List, [], _∷_}
-use native.Mathlib.Omega.{arith}
+use mathlib.Core.Bool.{true}
+use mathlib.Core.List.{List}
 use lib.ListN.{length, getD, drop}
-use lib.Dec.{leb}
 use borrow.Author.Tests.{le-leb, lt-leb, eq-eqb, ne-eqb}
-use Rattle.manager.specs.Map.{Segment, decode, tiled}
-use Rattle.manager.proofs.Laws.Map.{size-of, Here, Step, walk-start, walk-step, walk-end, says-free, says-held, next-here}
+use Rattle.manager.specs.Map.{decode, tiled}
+use Rattle.manager.proofs.Laws.Map.{size-of, Here, walk-start, walk-step, walk-end, says-free, says-held, next-here}
 use Rattle.manager.specs.Paged.{placeFrom}
 use Rattle.segments.specs.MapWords.{beforeFrom}
-use Rattle.manager.specs.declared.Place.{Place}
 use Rattle.manager.specs.declared.Place.the-variants.{At, Nowhere}
 
 -- the search has come to page i

@@ -2,10 +2,10 @@
 -- segment that is held or not, so that an induction over the list carries it. Assumes nothing.
 use Prim.Native.Nat.{ℕ, _≤_}
 use mathlib.Core.Path.{_≡_, refl, sym, ap, _∙_}
-use mathlib.Core.Bool.{Bool, true, false, _&&_, _||_}
+use mathlib.Core.Bool.{Bool, true, _&&_, _||_}
 use mathlib.Core.List.{List, [], _∷_, _++_}
 use Rattle.manager.specs.Lists.{adjacent}
-use Rattle.manager.specs.Map.{Segment, free, held, isHeldSegment, sizeOf, draw, decode, soundMap}
+use Rattle.manager.specs.Map.{Segment, isHeldSegment, sizeOf, draw, decode, soundMap}
 use Rattle.manager.specs.Paged.{apart, oneHeld}
 use Rattle.manager.proofs.Laws.Map.{Sized, both-true, sized-decoded, sound-tiled, sound-proper, sound-drawn}
 
