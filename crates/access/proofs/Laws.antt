@@ -16,7 +16,7 @@ use Rattle.arith.proofs.Laws.Layout.{count-end}
 use Rattle.manager.specs.Access.{readSegment, writeSegment}
 use Rattle.manager.proofs.Laws.Lists.{and-first, and-second}
 use Rattle.manager.specs.Map.{held, total}
-use Rattle.manager.proofs.Laws.Map.{Well, total-append, total-cons}
+use Rattle.manager.proofs.Laws.Map.{Sized, total-append, total-cons}
 use Rattle.manager.specs.Paged.{heldFrom}
 use Rattle.manager.proofs.Laws.Paged.{Spot, spot, held-at}
 use Rattle.manager.specs.Record.{regionOf}
@@ -27,7 +27,7 @@ use Rattle.manager.specs.Result.{Result, Performs, answerOf, checked, refused, 
 use Rattle.manager.proofs.Laws.Result.{performs-by, performs-reply}
 use Rattle.manager.specs.Sound.{sound}
 use Rattle.manager.specs.Sound.{Sited}
-use Rattle.manager.proofs.Laws.Sound.{sited, well-segments, total-segments}
+use Rattle.manager.proofs.Laws.Sound.{sited, sized-segments, total-segments}
 use Rattle.manager.specs.declared.Answer.{Answer}
 use Rattle.manager.specs.declared.Manager.{Manager}
 use Rattle.manager.specs.declared.Region.{Region}
@@ -84,9 +84,9 @@ module _ (m : List ℕ) (r : Region) (s : Sited m r) where
     where
       go : Spot p 0 (segments m r) → p + heldFrom p 0 (segments m r) ≤ pagesOf r
       go x =
-          let w : Well true (x .pre ++ (held (x .pages) ∷ x .post)) = rw (x .is) at (well-segments m r s) in
+          let w : Sized (x .pre ++ (held (x .pages) ∷ x .post)) = rw (x .is) at (sized-segments m r s) in
           let n : heldFrom p 0 (segments m r) ≡ x .pages =
-          ap (heldFrom p 0) (x .is) ∙ held-at p 0 true 0 (x .pre) (x .pages) (x .post) w (x .page) in
+          ap (heldFrom p 0) (x .is) ∙ held-at p 0 0 (x .pre) (x .pages) (x .post) w (x .page) in
           let t : total (segments m r) ≡ total (x .pre ++ (held (x .pages) ∷ x .post)) = ap total (x .is) in
           omega (
             arith,

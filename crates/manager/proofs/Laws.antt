@@ -4,6 +4,7 @@ pub mod Appended
 pub mod Distinct
 pub mod Result
 pub mod Map
+pub mod Apart
 pub mod Paged
 pub mod Sound
 pub mod Region

@@ -1,6 +1,6 @@
 -- Rules 4: a region's map as segments, the words that draw it, and what a sound map is. Assumes nothing.
 use Prim.Native.Nat.{ℕ, zero, suc, _+_, _-_, _*_, _/_, _%_, max}
-use mathlib.Core.Bool.{Bool, true, false, cond, _&&_, _||_}
+use mathlib.Core.Bool.{Bool, true, false, cond, _&&_}
 use mathlib.Core.List.{List, [], _∷_, _++_}
 use lib.ListN.{replicate}
 use lib.Dec.{eqb, leb}
@@ -37,17 +37,20 @@ unfoldable pub decode : List ℕ → List Segment
 decode [] = []
 decode (w ∷ ws) = cond (eqb w 0) (decode ws) (segmentOf w ∷ decode ws)
 
--- words of a sound map from within: first `due` words 0, the rest of a segment that is held or not, and then whole segments,
--- each of at least a page, no two free ones adjoining
-unfoldable pub soundFrom : ℕ → Bool → List ℕ → Bool
-soundFrom zero before [] = true
-soundFrom (suc due) before [] = false
-soundFrom zero before (w ∷ ws) = leb 2 w && ((before || isHeld w) && soundFrom (w / 2 - 1) (isHeld w) ws)
-soundFrom (suc due) before (w ∷ ws) = eqb w 0 && soundFrom due before ws
+-- words that segments fill, from within one: first `due` words 0, which end it, and then whole segments, each of at least a page
+unfoldable pub tiledFrom : ℕ → List ℕ → Bool
+tiledFrom zero [] = true
+tiledFrom (suc due) [] = false
+tiledFrom zero (w ∷ ws) = leb 2 w && tiledFrom (w / 2 - 1) ws
+tiledFrom (suc due) (w ∷ ws) = eqb w 0 && tiledFrom due ws
 
--- Map: a sound one
-unfoldable pub soundMap : List ℕ → Bool
-soundMap ws = soundFrom 0 true ws
+-- Map: its segments fill its pages, and all words but their first ones are 0
+unfoldable pub tiled : List ℕ → Bool
+tiled ws = tiledFrom 0 ws
+
+-- a sound one is tiled, by segments that stand as a kind of region lets them stand
+unfoldable pub soundMap : (List Segment → Bool) → List ℕ → Bool
+soundMap proper ws = tiled ws && proper (decode ws)
 
 -- the sizes of the free segments and of the held ones, and how many pages a map has
 unfoldable pub freeSizes : List Segment → List ℕ

@@ -1,13 +1,21 @@
 -- Rules 5: how a region of pages places, frees and resizes segments. A kind of region is one
 -- record of such functions, and the directives and the queue are stated over it. Assumes nothing.
 use Prim.Native.Nat.{ℕ, zero, suc, _+_, _-_}
-use mathlib.Core.Bool.{Bool, cond}
+use mathlib.Core.Bool.{Bool, cond, _||_}
 use mathlib.Core.List.{List, [], _∷_}
 use lib.Dec.{eqb, leb}
-use Rattle.manager.specs.Map.{Segment, free, held, soundMap}
+use Rattle.manager.specs.Lists.{adjacent}
+use Rattle.manager.specs.Map.{Segment, free, held, isHeldSegment}
 use Rattle.manager.specs.declared.Order.{Order}
 use Rattle.manager.specs.declared.Place.{Place}
 use Rattle.manager.specs.declared.Place.the-variants.{At, Nowhere}
+
+-- Map: no two free segments adjoin
+abbrev pub oneHeld : Segment → Segment → Bool
+oneHeld g h = isHeldSegment g || isHeldSegment h
+
+unfoldable pub apart : List Segment → Bool
+apart s = adjacent oneHeld s
 
 -- m free pages in front of a map: none for 0, and joined to a free segment that the map starts with
 unfoldable pub free+ : ℕ → List Segment → List Segment
@@ -67,8 +75,8 @@ changeFrom p k at (held n ∷ s) = cond (eqb at p) (held+ k (free+ (n + lead s -
 pub record Kind : Type 0 where
   -- the pages that are given for k pages asked for
   pub rounded : ℕ → ℕ
-  -- the words of a sound map
-  pub sound : List ℕ → Bool
+  -- how the segments of a sound map stand
+  pub proper : List Segment → Bool
   -- where k pages are placed, and the map after that
   pub place : ℕ → List Segment → Place
   pub allocate : ℕ → List Segment → List Segment
@@ -81,7 +89,7 @@ abbrev pub paged : Kind
 paged =
     record {
       rounded = λ k. k;
-      sound = soundMap;
+      proper = apart;
       place = λ k s. placeFrom k 0 s;
       allocate = allocate;
       held = λ p s. heldFrom p 0 s;

@@ -50,7 +50,7 @@ emptyPartition p =
 -- "region sizes as their creates allow, page sizes rounded; maps as above"
 unfoldable pub liveRegion : List ℕ → Region → Bool
 liveRegion m r =
-    inside m (r .start) (r .length) && (soundPage (r .page) && (leb 1 (pagesOf r) && kind r .sound (mapWords m r)))
+    inside m (r .start) (r .length) && (soundPage (r .page) && (leb 1 (pagesOf r) && soundMap (kind r .proper) (mapWords m r)))
 
 -- "partition sizes as their creates allow; chains that run from front to rear over real buffers"
 unfoldable pub livePartition : List ℕ → Partition → Bool
@@ -123,4 +123,4 @@ pub record Laid (m : List ℕ) (r : Region) : Type 0 where
 -- and whose map is sound: a live region
 pub record Sited (m : List ℕ) (r : Region) : Type 0 where
   pub laid : Laid m r
-  pub sound : soundMap (mapWords m r) ≡ true
+  pub sound : soundMap (kind r .proper) (mapWords m r) ≡ true

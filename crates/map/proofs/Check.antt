@@ -2,7 +2,7 @@
 -- Assumes nothing.
 use Prim.Native.Nat.{ℕ, zero, suc, _+_, _-_, _/_, _%_, _≤_, _<_}
 use mathlib.Core.Path.{_≡_, refl, sym, ap, _∙_}
-use mathlib.Core.Bool.{Bool, true, false, _||_}
+use mathlib.Core.Bool.{Bool, true, false, _&&_, _||_}
 use mathlib.Core.List.{List, [], _∷_}
 use native.Mathlib.Numerals.{sub-one}
 use native.Mathlib.Omega.{arith}
@@ -10,7 +10,15 @@ use borrow.Author.Tests.{eq-eqb, ne-eqb, le-leb, lt-leb}
 use lib.Dec.{eqb}
 use lib.ListN.{length, getD, drop, drop-of-length-le}
 use Rattle.manager.proofs.Laws.Lists.{rest-cons}
-use Rattle.manager.specs.Map.{soundFrom, soundMap}
+use Rattle.manager.proofs.Laws.Map.{decode-start, decode-skip, held-of}
+use Rattle.manager.proofs.Laws.Apart.{apartFrom, apart-is}
+use Rattle.manager.specs.Map.{decode, tiledFrom, tiled, soundMap}
+use Rattle.manager.specs.Paged.{apart}
+
+-- what the words from one on have to be, with `due` words of a segment that is held or not still to come: tiled, and no two free
+-- segments adjoining
+abbrev soundFrom : ℕ → Bool → List ℕ → Bool
+soundFrom due before ws = tiledFrom due ws && apartFrom before (decode ws)
 
 -- HOW FAR THE CHECK HAS COME: to word i
 pub record Checking (ws : List ℕ) (r : Bool) (i due before : ℕ) : Type 0 where
@@ -18,9 +26,10 @@ pub record Checking (ws : List ℕ) (r : Bool) (i due before : ℕ) : Type 0 whe
   pub mark : before < 2
   pub rest : soundFrom due (eqb before 1) (drop i ws) ≡ r
 
-pub check-start : (ws : List ℕ) → Checking ws (soundMap ws) 0 0 1
-unfolding soundMap
-check-start ws = record { within = omega arith; mark = omega arith; rest = refl }
+pub check-start : (ws : List ℕ) → Checking ws (soundMap apart ws) 0 0 1
+unfolding soundMap tiled
+check-start ws =
+    record { within = omega arith; mark = omega arith; rest = ap (λ (b : Bool). tiledFrom 0 ws && b) (sym (apart-is (decode ws))) }
 
 one-held : (m n : ℕ) → m < 2 → n < 2 → (m + n ≡ 0 → ⊥) → (eqb m 1 || eqb n 1) ≡ true
 one-held zero zero p q ne = absurd (ne refl)
@@ -32,32 +41,44 @@ one-held (suc (suc m)) n p q ne = absurd (omega arith)
 none-held : (m n : ℕ) → m + n ≡ 0 → (eqb m 1 || eqb n 1) ≡ false
 none-held m n e = rw (ne-eqb m 1 (λ k. omega arith), ne-eqb n 1 (λ k. omega arith))
 
+-- a test behind one that fails, or between two
+and-no : (a : Bool) → (a && false) ≡ false
+and-no true = refl
+and-no false = refl
+
+and-yes : (a b c : Bool) → b ≡ true → (a && (b && c)) ≡ (a && c)
+and-yes a b c e = rw e
+
 -- one word, where a segment is due to start, and where words 0 are due
 module _ (b w : ℕ) (ws : List ℕ) where
   first-small : w < 2 → soundFrom 0 (eqb b 1) (w ∷ ws) ≡ false
-  unfolding soundFrom
+  unfolding tiledFrom
   first-small h = rw (lt-leb 2 w h)
 
+  -- the words behind the first, and the first segment before those behind it
+  first-is : 2 ≤ w → soundFrom 0 (eqb b 1) (w ∷ ws)
+      ≡ (tiledFrom (w / 2 - 1) ws && ((eqb b 1 || eqb (w % 2) 1) && apartFrom (eqb (w % 2) 1) (decode ws)))
+  unfolding tiledFrom apartFrom
+  first-is h = rw (le-leb 2 w h, decode-start w ws (omega arith), held-of w)
+
   first-free : 2 ≤ w → b + w % 2 ≡ 0 → soundFrom 0 (eqb b 1) (w ∷ ws) ≡ false
-  unfolding soundFrom
-  first-free h e = rw (le-leb 2 w h, none-held b (w % 2) e)
+  first-free h e = first-is h ∙ rw (none-held b (w % 2) e) (and-no (tiledFrom (w / 2 - 1) ws))
 
   first-good : 2 ≤ w → b < 2 → (b + w % 2 ≡ 0 → ⊥) → soundFrom 0 (eqb b 1) (w ∷ ws) ≡ soundFrom (w / 2 - 1) (eqb (w % 2) 1) ws
-  unfolding soundFrom
-  first-good h k e = rw (le-leb 2 w h, one-held b (w % 2) k (omega arith) e)
+  first-good h k e = first-is h ∙ and-yes (tiledFrom (w / 2 - 1) ws) _ _ (one-held b (w % 2) k (omega arith) e)
 
   due-bad : (due : ℕ) → (due ≡ 0 → ⊥) → (w ≡ 0 → ⊥) → soundFrom due (eqb b 1) (w ∷ ws) ≡ false
-  unfolding soundFrom
+  unfolding tiledFrom
   due-bad zero h e = absurd (h refl)
   due-bad (suc due) h e = rw (ne-eqb w 0 e)
 
   due-good : (due : ℕ) → (due ≡ 0 → ⊥) → w ≡ 0 → soundFrom due (eqb b 1) (w ∷ ws) ≡ soundFrom (due - 1) (eqb b 1) ws
-  unfolding soundFrom
+  unfolding tiledFrom
   due-good zero h e = absurd (h refl)
-  due-good (suc due) h e = rw (eq-eqb w 0 e, sub-one)
+  due-good (suc due) h e = rw (decode-skip w ws e, eq-eqb w 0 e, sub-one)
 
 end : (due b : ℕ) → soundFrom due (eqb b 1) [] ≡ eqb due 0
-unfolding soundFrom
+unfolding tiledFrom decode apartFrom
 end zero b = refl
 end (suc due) b = sym (ne-eqb (suc due) 0 (λ e. omega arith))
 

@@ -1,27 +1,27 @@
--- In a sound map a word is odd exactly where a held segment starts, and its page is the word's place: so one word says what a scan of the
+-- In a tiled map a word is odd exactly where a held segment starts, and its page is the word's place: so one word says what a scan of the
 -- words before it finds (`one-word`). Assumes nothing.
 use Prim.Native.Nat.{ℕ, zero, suc, _+_, _-_, _*_, _/_, _%_, _≤_}
 use mathlib.Core.Path.{_≡_, refl, sym, ap, _∙_}
-use mathlib.Core.Bool.{Bool, true, false, cond, not, _&&_, _||_}
+use mathlib.Core.Bool.{Bool, true, false, cond, not, _||_}
 use mathlib.Core.List.{List, [], _∷_}
 use native.Mathlib.Omega.{arith}
-use borrow.Author.Tests.{eq-eqb, ne-eqb, eqb-true, eqb-false, leb-true}
-use lib.Dec.{eqb, leb}
+use borrow.Author.Tests.{eq-eqb, ne-eqb, eqb-true, eqb-false}
+use lib.Dec.{eqb}
 use lib.ListN.{length, getD}
 use Rattle.manager.specs.Lists.{any}
-use Rattle.manager.proofs.Laws.Lists.{and-first, and-second}
-use Rattle.manager.proofs.Laws.Map.{decode-skip}
-use Rattle.manager.specs.Map.{isHeld, isHeldSegment, decode, soundFrom, soundMap}
-use Rattle.manager.specs.Paged.{heldFrom}
+use Rattle.manager.proofs.Laws.Map.{head-parts, rest-parts, no-end, decode-start, decode-skip, size-of, held-of as mark-of, total-cons, total-decoded, sound-tiled}
+use Rattle.manager.proofs.Laws.Apart.{Well, well-decoded}
+use Rattle.manager.specs.Map.{Segment, free, held, segmentOf, isHeld, isHeldSegment, decode, tiledFrom, tiled, soundMap, total}
+use Rattle.manager.specs.Paged.{apart, heldFrom}
 use Rattle.manager.specs.Record.{regionOf}
 use Rattle.manager.specs.Region.{heldAt, anyHeld, mapWords, pageAt, pagesOf, startsPage}
 use Rattle.manager.specs.Sound.{sound}
 use Rattle.manager.specs.Sound.{Sited}
-use Rattle.manager.proofs.Laws.Sound.{sited, map-long}
+use Rattle.manager.proofs.Laws.Sound.{sited, tiled-map, map-long}
 use Rattle.manager.specs.declared.Manager.{Manager}
 use Rattle.manager.specs.declared.Region.{Region}
 use Rattle.map.specs.Word.{heldWord, heldWordAt, oneFree}
-use Rattle.map.proofs.Scan.{atPage, pages, held-is, past, held-words, word-held, word-hit, word-free}
+use Rattle.map.proofs.Scan.{atPage, pages, held-is, past, word-held, word-hit, word-free}
 
 none-here : (i k : ℕ) → heldWord [] k ≡ atPage pages (i + k) (i + 0) (decode [])
 unfolding atPage decode
@@ -61,64 +61,56 @@ module _ (w : ℕ) (ws : List ℕ) (i : ℕ) where
         (rw (a, b) at h) ∙ first-by (isHeld w) k refl
 
 -- the word at place k of the words from word i on, of which the first `due` belong to a segment that was begun
-told : (due : ℕ) (before : Bool) (ws : List ℕ) (i k : ℕ) → soundFrom due before ws ≡ true
-    → heldWord ws k ≡ atPage pages (i + k) (i + due) (decode ws)
-unfolding soundFrom
-told zero before [] i k e = none-here i k
-told (suc due) before [] i k e = absurd (let z : _≡_ {A = ℕ} 0 1 = cc in omega arith)
-told (suc due) before (w ∷ ws) i zero e = inner-here w ws i due (eqb-true w 0 (and-first (eqb w 0) (soundFrom due before ws) e))
-told (suc due) before (w ∷ ws) i (suc k) e =
-    inner-next w ws i due k (eqb-true w 0 (and-first (eqb w 0) (soundFrom due before ws) e))
-    (told due before ws (suc i) k (and-second (eqb w 0) (soundFrom due before ws) e))
-told zero before (w ∷ ws) i zero e =
-    first-here w ws i (leb-true 2 w (and-first (leb 2 w) ((before || isHeld w) && soundFrom (w / 2 - 1) (isHeld w) ws) e)) (isHeld w) refl
-told zero before (w ∷ ws) i (suc k) e =
-    let f : ((before || isHeld w) && soundFrom (w / 2 - 1) (isHeld w) ws) ≡ true = and-second (leb 2 w) _ e in
-    first-next w ws i (leb-true 2 w (and-first (leb 2 w) _ e)) k
-    (told (w / 2 - 1) (isHeld w) ws (suc i) k (and-second (before || isHeld w) _ f))
+told : (due : ℕ) (ws : List ℕ) (i k : ℕ) → tiledFrom due ws ≡ true → heldWord ws k ≡ atPage pages (i + k) (i + due) (decode ws)
+told zero [] i k e = none-here i k
+told (suc due) [] i k e = absurd (no-end due e)
+told (suc due) (w ∷ ws) i zero e = inner-here w ws i due (rest-parts due w ws e .0)
+told (suc due) (w ∷ ws) i (suc k) e =
+    let p = rest-parts due w ws e in
+    inner-next w ws i due k (p .0) (told due ws (suc i) k (p .1))
+told zero (w ∷ ws) i zero e = first-here w ws i (head-parts w ws e .0) (isHeld w) refl
+told zero (w ∷ ws) i (suc k) e =
+    let p = head-parts w ws e in
+    first-next w ws i (p .0) k (told (w / 2 - 1) ws (suc i) k (p .1))
 
-pub one-word : (ws : List ℕ) (p : ℕ) → soundMap ws ≡ true → heldWord ws p ≡ heldFrom p 0 (decode ws)
-unfolding soundMap
+pub one-word : (ws : List ℕ) (p : ℕ) → tiled ws ≡ true → heldWord ws p ≡ heldFrom p 0 (decode ws)
+unfolding tiled
 one-word ws p e =
     let a : 0 + p ≡ p = omega arith in
     let b : 0 + 0 ≡ 0 = omega arith in
-    (rw (a, b) at (told 0 true ws 0 p e)) ∙ held-is p 0 (decode ws)
+    (rw (a, b) at (told 0 ws 0 p e)) ∙ held-is p 0 (decode ws)
 
 -- a region whose map is sound: the word of a page says the segment that starts there
 pub held-of : (m : List ℕ) (r : Region) → Sited m r → (a n : ℕ) → n ≡ heldWordAt m r a → n ≡ heldAt m r a
-held-of m r s a n en = en ∙ ap (λ (k : ℕ). cond (startsPage r a) k 0) (one-word (mapWords m r) (pageAt r a) (s .sound))
+held-of m r s a n en = en ∙ ap (λ (k : ℕ). cond (startsPage r a) k 0) (one-word (mapWords m r) (pageAt r a) (tiled-map m r s))
 
--- NOTHING HELD. Behind a free segment of which `due` words are to come stands a held one, if anything
-eqb-suc : (a b : ℕ) (x : Bool) → eqb a b ≡ x → eqb (suc a) (suc b) ≡ x
-eqb-suc a b true e = eq-eqb (suc a) (suc b) (ap suc (eqb-true a b e))
-eqb-suc a b false e = ne-eqb (suc a) (suc b) (λ h. eqb-false a b e (omega arith))
+-- NOTHING HELD. Behind a free segment stands a held one, if anything
+behind-free : (t : List Segment) → Well false t → any isHeldSegment t ≡ not (eqb (total t) 0)
+unfolding any total
+behind-free [] v = refl
+behind-free (free n ∷ t) v = absurd (let z : _≡_ {A = ℕ} 0 1 = cc in omega arith)
+behind-free (held n ∷ t) v = rw (ne-eqb (n + total t) 0 (λ e. omega (arith, v .0)))
 
-held-behind : (due : ℕ) (ws : List ℕ) → soundFrom due false ws ≡ true → any isHeld ws ≡ not (eqb (length ws) due)
-unfolding soundFrom any
-held-behind zero [] e = refl
-held-behind (suc due) [] e = absurd (let z : _≡_ {A = ℕ} 0 1 = cc in omega arith)
-held-behind zero (w ∷ ws) e =
-    let f : (isHeld w && soundFrom (w / 2 - 1) (isHeld w) ws) ≡ true = and-second (leb 2 w) _ e in
-    rw (and-first (isHeld w) _ f, ne-eqb (suc (length ws)) 0 (λ h. omega arith))
-held-behind (suc due) (w ∷ ws) e =
-    let z : w ≡ 0 = eqb-true w 0 (and-first (eqb w 0) _ e) in
-    rw (z, eqb-suc (length ws) due (eqb (length ws) due) refl) (held-behind due ws (and-second (eqb w 0) _ e))
-
-first-by-mark : (w : ℕ) (ws : List ℕ) (b : Bool) → isHeld w ≡ b → 2 ≤ w → soundFrom (w / 2 - 1) b ws ≡ true
-    → (b || any isHeld ws) ≡ not (eqb w (2 * suc (length ws)))
-first-by-mark w ws true e h g = rw (ne-eqb w (2 * suc (length ws)) (λ x. omega (arith, eqb-true (w % 2) 1 e)))
-first-by-mark w ws false e h g = held-behind (w / 2 - 1) ws g ∙ ap not (by-test (eqb (length ws) (w / 2 - 1)) refl)
+-- so nothing is held exactly where the first word says a free segment of all n pages
+first-by-mark : (w n : ℕ) (t : List Segment) (b : Bool) → isHeld w ≡ b → w / 2 + total t ≡ n → Well b t
+    → (b || any isHeldSegment t) ≡ not (eqb w (2 * n))
+first-by-mark w n t true e h v = rw (ne-eqb w (2 * n) (λ x. omega (arith, eqb-true (w % 2) 1 e)))
+first-by-mark w n t false e h v = behind-free t v ∙ ap not (by-test (eqb (total t) 0) refl)
   where
-    by-test : (x : Bool) → eqb (length ws) (w / 2 - 1) ≡ x → eqb (length ws) (w / 2 - 1) ≡ eqb w (2 * suc (length ws))
-    by-test true q = q ∙ sym (eq-eqb w (2 * suc (length ws)) (omega (arith, eqb-true (length ws) (w / 2 - 1) q, eqb-false (w % 2) 1 e)))
-    by-test false q = q ∙ sym (ne-eqb w (2 * suc (length ws)) (λ x. eqb-false (length ws) (w / 2 - 1) q (omega arith)))
+    by-test : (x : Bool) → eqb (total t) 0 ≡ x → eqb (total t) 0 ≡ eqb w (2 * n)
+    by-test true q = q ∙ sym (eq-eqb w (2 * n) (omega (arith, eqb-true (total t) 0 q, eqb-false (w % 2) 1 e)))
+    by-test false q = q ∙ sym (ne-eqb w (2 * n) (λ x. eqb-false (total t) 0 q (omega arith)))
 
-first-says : (ws : List ℕ) → soundMap ws ≡ true → 1 ≤ length ws → any isHeldSegment (decode ws) ≡ not (eqb (getD ws 0 0) (2 * length ws))
-unfolding soundMap soundFrom any
+first-says : (ws : List ℕ) → soundMap apart ws ≡ true → 1 ≤ length ws → any isHeldSegment (decode ws) ≡ not (eqb (getD ws 0 0) (2 * length ws))
+unfolding tiled any
 first-says [] e h = absurd (omega arith)
 first-says (w ∷ ws) e h =
-    held-words (w ∷ ws)
-    ∙ first-by-mark w ws (isHeld w) refl (leb-true 2 w (and-first (leb 2 w) _ e)) (and-second (leb 2 w) _ e)
+    let p = head-parts w ws (sound-tiled apart (w ∷ ws) e) in
+    let d : decode (w ∷ ws) ≡ segmentOf w ∷ decode ws = decode-start w ws (omega (arith, p .0)) in
+    let v : Well true (segmentOf w ∷ decode ws) = rw d at (well-decoded (w ∷ ws) e) in
+    let n : w / 2 + total (decode ws) ≡ suc (length ws) =
+    rw (← size-of w, ← total-cons (segmentOf w) (decode ws), ← d) (total-decoded (w ∷ ws) (sound-tiled apart (w ∷ ws) e)) in
+    rw (d, mark-of w) (first-by-mark w (suc (length ws)) (decode ws) (isHeld w) refl n (rw (mark-of w) at (v .2)))
 
 -- a region whose map is sound
 pub free-of : (m : List ℕ) (r : Region) → Sited m r → (b : Bool) → b ≡ oneFree m r → not b ≡ anyHeld m r

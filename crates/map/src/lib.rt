@@ -3,6 +3,7 @@ use manager::Region;
 ghost use mathlib.Core.Path.{_≡_};
 ghost use Rattle.manager.specs.Lists.{any};
 ghost use Rattle.manager.specs.Map.{decode, soundMap, isHeldSegment};
+ghost use Rattle.manager.specs.Paged.{apart};
 ghost use Rattle.manager.specs.Region.{pagesOf, baseOf, pageAt, mapAt, mapWords, anyHeld, pagesAsked};
 ghost use Rattle.map.specs.Word.{heldWord, heldWordAt, oneFree};
 
@@ -51,9 +52,9 @@ pub fn map_words<'a>(mem: &'a [u32], r: Region) -> &'a [u32]
     &mem[at..end]
 }
 
-// Whether the words are a sound map. `due` words of the segment that was begun are still to come; `before` is 1 where it is held.
+// Whether the words are a sound map of a region of pages. `due` words of the segment that was begun are still to come; `before` is 1 where it is held.
 pub fn is_sound(map: &[u32]) -> bool
-    ensures { λ r. ⌜ r ≡ soundMap (now (map .entry)) ⌝ }
+    ensures { λ r. ⌜ r ≡ soundMap apart (now (map .entry)) ⌝ }
 {
     let mut i = 0;
     let mut due: u32 = 0;

@@ -1,8 +1,8 @@
 -- Counting the segments of a map on a walk: what is counted so far with what is left gives the whole, and no number is above the
 -- map's length. Assumes nothing.
-use Prim.Native.Nat.{ℕ, zero, suc, _+_, _-_, _*_, _/_, _%_, _≤_, _<_, max}
-use mathlib.Core.Path.{_≡_, refl, sym, ap, _∙_}
-use mathlib.Core.Bool.{Bool, true, false}
+use Prim.Native.Nat.{ℕ, suc, _+_, _*_, _/_, _%_, _≤_, _<_, max}
+use mathlib.Core.Path.{_≡_, sym, ap, _∙_}
+use mathlib.Core.Bool.{true}
 use mathlib.Core.List.{List, [], _∷_}
 use native.Mathlib.Nat.{add-zero, zero-add, zero-max, max-zero, max-le, mul-le-mul, lt-of-le-of-lt}
 use native.Mathlib.Omega.{arith}
@@ -10,9 +10,8 @@ use lib.ListN.{length, getD, drop}
 use mir.Syntax.{w32}
 use mir.Val.{Fits}
 use borrow.Author.Needs.{fits-under}
-use Rattle.manager.specs.Map.{Segment, free, held, decode, soundMap, freeSizes, heldSizes, largestOf, sumOf, total}
-use Rattle.manager.specs.Map.{sizeOf}
-use Rattle.manager.proofs.Laws.Map.{Well, well-decoded, total-decoded, Here, walk-start, walk-step, walk-end, says-free, says-held, next-here}
+use Rattle.manager.specs.Map.{Segment, free, held, decode, tiled, freeSizes, heldSizes, largestOf, sumOf, total}
+use Rattle.manager.proofs.Laws.Map.{Sized, sized-decoded, total-decoded, Here, walk-start, walk-end, says-free, says-held, next-here}
 use Rattle.manager.specs.Record.{noInformation}
 use Rattle.manager.specs.Regions.{informationOf}
 use Rattle.manager.specs.declared.Information.{Information}
@@ -94,11 +93,11 @@ pub record Within (s : List Segment) (n : ℕ) : Type 0 where
   pub free-most : largestOf (freeSizes s) ≤ sumOf (freeSizes s)
   pub held-most : largestOf (heldSizes s) ≤ sumOf (heldSizes s)
 
-within : (before : Bool) (s : List Segment) → Well before s → Within s (total s)
+within : (s : List Segment) → Sized s → Within s (total s)
 unfolding freeSizes heldSizes largestOf sumOf total
-within before [] w = record { pages = omega arith; frees = omega arith; helds = omega arith; free-most = omega arith; held-most = omega arith }
-within before (free n ∷ s) w =
-    let h = within false s (w .2) in
+within [] w = record { pages = omega arith; frees = omega arith; helds = omega arith; free-most = omega arith; held-most = omega arith }
+within (free n ∷ s) w =
+    let h = within s (w .1) in
     record {
       pages = omega arith;
       frees = omega (arith, w .0);
@@ -106,8 +105,8 @@ within before (free n ∷ s) w =
       free-most = max-le {a = n} (omega arith) (omega arith);
       held-most = h .held-most;
     }
-within before (held n ∷ s) w =
-    let h = within true s (w .2) in
+within (held n ∷ s) w =
+    let h = within s (w .1) in
     record {
       pages = omega arith;
       frees = h .frees;
@@ -116,15 +115,15 @@ within before (held n ∷ s) w =
       held-most = max-le {a = n} (omega arith) (omega arith);
     }
 
-pub words-within : (ws : List ℕ) → soundMap ws ≡ true → Within (decode ws) (length ws)
-words-within ws ok = rw total-decoded at (within true (decode ws) (well-decoded ws ok))
+pub words-within : (ws : List ℕ) → tiled ws ≡ true → Within (decode ws) (length ws)
+words-within ws ok = rw total-decoded at (within (decode ws) (sized-decoded ws ok))
 
 -- the walk has come to page i, with t counted
 pub record Counting (ws : List ℕ) (i : ℕ) (t : Information) : Type 0 where
   pub here : Here ws i
   pub left : plus t (counted (decode (drop i ws))) ≡ counted (decode ws)
 
-module _ (ws : List ℕ) (ok : soundMap ws ≡ true) (short : length ws ≤ 16384) where
+module _ (ws : List ℕ) (ok : tiled ws ≡ true) (short : length ws ≤ 16384) where
   pub count-start : Counting ws 0 noInformation
   count-start = record { here = walk-start ws ok; left = plus-none (counted (decode ws)) }
 

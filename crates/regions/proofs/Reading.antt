@@ -10,13 +10,13 @@ use borrow.Author.Tests.{eq-eqb, ne-eqb, le-leb, lt-leb, not-true, not-false}
 use Rattle.manager.specs.Record.{tasks, noRegion, noNotice, regionOf, slotOf, withRegion}
 use Rattle.manager.specs.Result.{Result, Performs, checked, refused, done}
 use Rattle.manager.proofs.Laws.Result.{performs-replied}
-use Rattle.manager.specs.Map.{decode, soundMap, freeSizes, heldSizes}
+use Rattle.manager.specs.Map.{decode, tiled, freeSizes, heldSizes}
 use Rattle.manager.specs.Region.{mapWords, anyHeld}
 use Rattle.map.specs.Word.{oneFree}
 use Rattle.map.proofs.Word.{free-told}
 use Rattle.manager.specs.Regions.{regionNamed, identRegion, deleteRegion, regionInformation, informationOf}
 use Rattle.manager.specs.Sound.{sound, Sited}
-use Rattle.manager.proofs.Laws.Sound.{live-sited, map-long, pages-few}
+use Rattle.manager.proofs.Laws.Sound.{tiled-map, live-sited, map-long, pages-few}
 use Rattle.manager.specs.declared.Manager.{Manager}
 use Rattle.manager.specs.declared.Region.{Region}
 use Rattle.manager.specs.declared.Information.{Information}
@@ -77,7 +77,7 @@ module _ (m : List ℕ) (d : Manager) (b : Bool) (eb : b ≡ sound m d) where
           unfolding deleteRegion checked
           delete-done g i ei e x = rw (← eb, s, ← er, ne-eqb _ _ l, ← ec, g, x, ei)
 
-        -- information: the map of a live region is sound, and short
+        -- information: the map of a live region is tiled, and short
         live : Sited m r
         live = live-sited m d (sym eb ∙ s) id r er l
 
@@ -85,8 +85,8 @@ module _ (m : List ℕ) (d : Manager) (b : Bool) (eb : b ≡ sound m d) where
         page-small = live .laid .page-high
 
         module _ (ws : List ℕ) (ew : ws ≡ mapWords m r) where
-          pub map-sound : soundMap ws ≡ true
-          map-sound = rw ew (live .sound)
+          pub map-tiled : tiled ws ≡ true
+          map-tiled = rw ew (tiled-map m r live)
 
           pub map-short : length ws ≤ 16384
           map-short = rw ew (omega (arith, map-long m r (live .laid), pages-few m r (live .laid)))
@@ -101,4 +101,4 @@ pub ruleset naming = (performs-replied, ident-unsound, ident-nameless, ident-non
 
 pub ruleset deleting = (performs-replied, delete-unsound, delete-dead, delete-held, delete-done, not-true, not-false)
 
-pub ruleset informing = (performs-replied, information-unsound, information-dead, page-small, map-sound, map-short, information-done, not-true, not-false)
+pub ruleset informing = (performs-replied, information-unsound, information-dead, page-small, map-tiled, map-short, information-done, not-true, not-false)

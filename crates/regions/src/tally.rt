@@ -4,7 +4,7 @@ ghost use mathlib.Core.Path.{_≡_};
 ghost use mathlib.Core.Bool.{true};
 ghost use Prim.Native.Nat.{ℕ, _+_, _≤_, max};
 ghost use lib.ListN.{length};
-ghost use Rattle.manager.specs.Map.{soundMap, decode, freeSizes, heldSizes};
+ghost use Rattle.manager.specs.Map.{tiled, decode, freeSizes, heldSizes};
 ghost use Rattle.manager.specs.Regions.{informationOf};
 ghost use Rattle.regions.specs.Count.{counted, withFree, withHeld, Small};
 
@@ -48,7 +48,7 @@ fn add_held(t: Information, pages: u32) -> Information
 
 // The segments of a map, counted and in pages.
 fn count(map: &[u32]) -> Information
-    requires { ⌜ (soundMap (now map) ≡ true) × (length (now map) ≤ 16384) ⌝ }
+    requires { ⌜ (tiled (now map) ≡ true) × (length (now map) ≤ 16384) ⌝ }
     ensures { λ r. ⌜ (r ≡ counted (decode (now (map .entry)))) × Small r ⌝ }
 {
     let mut t = Information {
@@ -75,7 +75,7 @@ fn count(map: &[u32]) -> Information
 
 // The same in bytes.
 pub(crate) fn tally(map: &[u32], page: u32) -> Information
-    requires { ⌜ (soundMap (now map) ≡ true) × (length (now map) ≤ 16384) × (page ≤ 4096) ⌝ }
+    requires { ⌜ (tiled (now map) ≡ true) × (length (now map) ≤ 16384) × (page ≤ 4096) ⌝ }
     ensures { λ r. ⌜ r ≡ informationOf page (freeSizes (decode (now (map .entry)))) (heldSizes (decode (now (map .entry)))) ⌝ }
 {
     let t = count(map);

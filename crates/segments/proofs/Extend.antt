@@ -7,9 +7,10 @@ use mathlib.Core.List.{List, _∷_, _++_}
 use native.Mathlib.Omega.{arith}
 use native.Mathlib.Nat.{add-zero}
 use lib.ListN.{length, getD, set}
-use Rattle.manager.specs.Map.{held, wordsOf, draw, decode, soundMap}
-use Rattle.manager.proofs.Laws.Map.{Well, reread, well-decoded, sound-drawn, draw-append, draw-cons}
-use Rattle.manager.specs.Paged.{free+, lead, rest, heldFrom, reachFrom, changeFrom}
+use Rattle.manager.specs.Map.{held, wordsOf, draw, decode, tiled, soundMap}
+use Rattle.manager.proofs.Laws.Map.{sound-tiled, reread, draw-append, draw-cons}
+use Rattle.manager.proofs.Laws.Apart.{Well, well-sized, well-decoded, well-drawn}
+use Rattle.manager.specs.Paged.{apart, free+, lead, rest, heldFrom, reachFrom, changeFrom}
 use Rattle.manager.proofs.Laws.Paged.{well-rest, lead-none, rest-none, well-change}
 use Rattle.segments.specs.MapWords.{holding, Extends}
 use Rattle.segments.proofs.Words.{holding-words}
@@ -18,7 +19,7 @@ use Rattle.segments.proofs.Stands.{Follower, none, kept, joins, Stands,
 
 -- ---- the tests of `extend`
 
-module _ (p : ℕ) (ws : List ℕ) (ok : soundMap ws ≡ true) (l : 1 ≤ heldFrom p 0 (decode ws)) where
+module _ (p : ℕ) (ws : List ℕ) (ok : soundMap apart ws ≡ true) (l : 1 ≤ heldFrom p 0 (decode ws)) where
   here : Stands p ws
   here = stands p ws ok l
 
@@ -65,7 +66,7 @@ module _ (p : ℕ) (ws : List ℕ) (ok : soundMap ws ≡ true) (l : 1 ≤ heldFr
 pub ruleset extending = (extend-end, extend-held, extend-free)
 
 -- how many pages it could have
-module _ (p : ℕ) (ws : List ℕ) (ok : soundMap ws ≡ true) (l : 1 ≤ heldFrom p 0 (decode ws)) where
+module _ (p : ℕ) (ws : List ℕ) (ok : soundMap apart ws ≡ true) (l : 1 ≤ heldFrom p 0 (decode ws)) where
   pub reach-end : length ws ≤ p + getD ws p 0 / 2 → getD ws p 0 / 2 ≡ reachFrom p 0 (decode ws)
   reach-end h = extend-end p ws ok l h .pages
 
@@ -83,7 +84,7 @@ pub ruleset reaching = (reach-end, reach-held, reach-free)
 
 -- the map is sound, and has a held segment of so many pages at page p that cannot have more
 pub record Extended (p : ℕ) (ws : List ℕ) (k : ℕ) (out : List ℕ) : Type 0 where
-  pub sound : soundMap out ≡ true
+  pub sound : soundMap apart out ≡ true
   pub some : 1 ≤ k
   pub held : heldFrom p 0 (decode out) ≡ k
   pub reach : reachFrom p 0 (decode out) ≡ k
@@ -91,7 +92,7 @@ pub record Extended (p : ℕ) (ws : List ℕ) (k : ℕ) (out : List ℕ) : Type 
   pub freed : changeFrom p 0 0 (decode out) ≡ changeFrom p 0 0 (decode ws)
   pub cut : (j : ℕ) → 1 ≤ j → j ≤ k → holding p k j out ≡ draw (changeFrom p j 0 (decode ws))
 
-module _ (p : ℕ) (ws : List ℕ) (ok : soundMap ws ≡ true) (l : 1 ≤ heldFrom p 0 (decode ws)) (k : ℕ) (out : List ℕ) (x : Extends p ws k out) where
+module _ (p : ℕ) (ws : List ℕ) (ok : soundMap apart ws ≡ true) (l : 1 ≤ heldFrom p 0 (decode ws)) (k : ℕ) (out : List ℕ) (x : Extends p ws k out) where
   was : Stands p ws
   was = stands p ws ok l
 
@@ -119,7 +120,7 @@ module _ (p : ℕ) (ws : List ℕ) (ok : soundMap ws ≡ true) (l : 1 ≤ heldFr
         pre = was .pre;
         pages = k;
         post = rest (was .post);
-        says = ap decode out-is ∙ reread (was .pre ++ (held k ∷ rest (was .post))) out-well;
+        says = ap decode out-is ∙ reread (was .pre ++ (held k ∷ rest (was .post))) (well-sized true (was .pre ++ (held k ∷ rest (was .post))) out-well);
         well = out-well;
         page = was .page;
         words = out-is ∙ draw-append (was .pre) (held k ∷ rest (was .post)) ∙ ap (λ (u : List ℕ). draw (was .pre) ++ u) (draw-cons (held k) (rest (was .post)));
@@ -131,7 +132,7 @@ module _ (p : ℕ) (ws : List ℕ) (ok : soundMap ws ≡ true) (l : 1 ≤ heldFr
       let z : lead (rest (was .post)) ≡ 0 = lead-none (rest (was .post)) rest-well in
       let y : rest (rest (was .post)) ≡ rest (was .post) = rest-none (rest (was .post)) rest-well in
       record {
-        sound = rw out-is (sound-drawn (was .pre ++ (held k ∷ rest (was .post))) out-well);
+        sound = rw out-is (well-drawn (was .pre ++ (held k ∷ rest (was .post))) out-well);
         some = some p out now-stands;
         held = held-is p out now-stands;
         reach = reach-is p out now-stands ∙ rw z (add-zero k);
@@ -145,15 +146,18 @@ module _ (p : ℕ) (ws : List ℕ) (ok : soundMap ws ≡ true) (l : 1 ≤ heldFr
       }
 
 -- what a resize and a return have of `extend`
-module _ (p : ℕ) (ws : List ℕ) (ok : soundMap ws ≡ true) (l : 1 ≤ heldFrom p 0 (decode ws)) (k : ℕ) (out : List ℕ) (x : Extends p ws k out) where
+module _ (p : ℕ) (ws : List ℕ) (ok : soundMap apart ws ≡ true) (l : 1 ≤ heldFrom p 0 (decode ws)) (k : ℕ) (out : List ℕ) (x : Extends p ws k out) where
   pub within-reach : (j : ℕ) → j ≤ reachFrom p 0 (decode ws) → j ≤ k
   within-reach j h = omega (arith, x .pages)
 
   pub room-out : p + k ≤ length out
   room-out = extended p ws ok l k out x .room
 
-  pub sound-out : soundMap out ≡ true
+  pub sound-out : soundMap apart out ≡ true
   sound-out = extended p ws ok l k out x .sound
+
+  pub tiled-out : tiled out ≡ true
+  tiled-out = sound-tiled apart out sound-out
 
   pub some-out : 1 ≤ k
   some-out = extended p ws ok l k out x .some
@@ -170,4 +174,4 @@ module _ (p : ℕ) (ws : List ℕ) (ok : soundMap ws ≡ true) (l : 1 ≤ heldFr
   pub returned : (last : List ℕ) → last ≡ draw (changeFrom p 0 0 (decode out)) → last ≡ draw (changeFrom p 0 0 (decode ws))
   returned last e = e ∙ ap draw (extended p ws ok l k out x .freed)
 
-pub ruleset changing = (within-reach, room-out, sound-out, some-out, held-out, reach-out, resized, returned)
+pub ruleset changing = (within-reach, room-out, sound-out, tiled-out, some-out, held-out, reach-out, resized, returned)

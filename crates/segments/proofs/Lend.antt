@@ -6,9 +6,10 @@ use mathlib.Core.Bool.{true}
 use mathlib.Core.List.{List}
 use native.Mathlib.Omega.{arith}
 use lib.ListN.{length}
-use Rattle.manager.specs.Map.{Segment, decode, draw, soundMap, total}
-use Rattle.manager.proofs.Laws.Map.{Well, redraw}
-use Rattle.manager.specs.Paged.{allocate, placeFrom, heldFrom, reachFrom, changeFrom}
+use Rattle.manager.specs.Map.{Segment, decode, draw, tiled, soundMap, total}
+use Rattle.manager.proofs.Laws.Map.{redraw}
+use Rattle.manager.proofs.Laws.Apart.{Well, well-sized, well-proper}
+use Rattle.manager.specs.Paged.{apart, allocate, placeFrom, heldFrom, reachFrom, changeFrom}
 use Rattle.manager.proofs.Laws.Paged.{take-none, well-take, total-take, well-change, total-change}
 use Rattle.manager.specs.Region.{pagesOf, mapAt, mapWords, segments, withSegments}
 use Rattle.manager.proofs.Laws.Region.{lent, putBack, lent-is, lent-in, lent-few, lent-some, lent-sound, put-back}
@@ -20,7 +21,7 @@ use Rattle.manager.specs.declared.Place.the-variants.{Nowhere}
 use Rattle.segments.specs.Lending.{Draws, Takes}
 
 -- where nothing is found, nothing changes
-pub untaken : (ws : List ℕ) (k : ℕ) → soundMap ws ≡ true → placeFrom k 0 (decode ws) ≡ Nowhere → ws ≡ draw (allocate k (decode ws))
+pub untaken : (ws : List ℕ) (k : ℕ) → tiled ws ≡ true → placeFrom k 0 (decode ws) ≡ Nowhere → ws ≡ draw (allocate k (decode ws))
 untaken ws k ok e = sym (ap draw (take-none k 0 (decode ws) e) ∙ redraw ws ok)
 
 module _ (r : Region) (at n : ℕ) (ea : at ≡ mapAt r) (en : n ≡ pagesOf r) (m : List ℕ) where
@@ -33,7 +34,7 @@ module _ (r : Region) (at n : ℕ) (ea : at ≡ mapAt r) (en : n ≡ pagesOf r) 
   draws : (l : Laid m r) (t : List Segment) → total t ≡ pagesOf r → Well true t → (ws : List ℕ) → ws ≡ draw t → Draws r m (putBack at n m ws) t
   draws l t e w ws x =
       let z : putBack at n m ws ≡ withSegments m r t = ap (putBack at n m) x ∙ put-back r at n ea en m l t e in
-      record { memory = z; sited = rw z (sited-with m r l t e w) }
+      record { memory = z; sited = rw z (sited-with m r l t e (well-sized true t w) (well-proper t w)) }
 
   pub takes : Sited m r → (k : ℕ) → 1 ≤ k → (p : Place) → p ≡ placeFrom k 0 (decode (lent at n m)) → (ws : List ℕ) → ws ≡ draw (allocate k (decode (lent at n m)))
       → Takes r k m (putBack at n m ws) p
@@ -56,7 +57,7 @@ pub ruleset drawing = (lent-in, lent-few, lent-some, lent-sound, lent-held, lent
 
 -- the reach, in the words of the map, which are sound and few
 module _ (m : List ℕ) (r : Region) (ws : List ℕ) (ew : ws ≡ mapWords m r) (s : Sited m r) where
-  pub words-sound : soundMap ws ≡ true
+  pub words-sound : soundMap apart ws ≡ true
   words-sound = rw ew (s .sound)
 
   pub words-few : length ws ≤ 16384

@@ -9,8 +9,9 @@ use lib.ListN.{length, getD, set}
 use lib.Dec.{eqb}
 use borrow.Author.Tests.{eq-eqb, ne-eqb}
 use Rattle.manager.specs.Map.{Segment, free, held, isHeldSegment, sizeOf, wordsOf, draw, decode, soundMap, total}
-use Rattle.manager.proofs.Laws.Map.{Well, markOf, well-at, draw-append, draw-cons, length-draw, total-append, total-cons}
-use Rattle.manager.specs.Paged.{free+, lead, rest, heldFrom, reachFrom, changeFrom}
+use Rattle.manager.proofs.Laws.Map.{markOf, draw-append, draw-cons, length-draw, total-append, total-cons}
+use Rattle.manager.proofs.Laws.Apart.{Well, well-at}
+use Rattle.manager.specs.Paged.{apart, free+, lead, rest, heldFrom, reachFrom, changeFrom}
 use Rattle.manager.proofs.Laws.Paged.{onto, onto-append, onto-last, free-join, well-rest}
 use Rattle.segments.specs.MapWords.{beforeFrom}
 use Rattle.segments.proofs.Words.{word-at, set-past, set-mark, join-words}
@@ -172,7 +173,7 @@ module _ (p q : ℕ) (ws : List ℕ) (h : Stands p ws) (z : lead (h .post) ≡ 0
       release-from
       (rw (e, h .says) (before-at p p 0 true (h .pre) (h .pages) (h .post) (h .well) (omega (arith, h .page))))
 
-pub released : (p q pages : ℕ) (ws : List ℕ) → soundMap ws ≡ true → 1 ≤ pages → heldFrom p 0 (decode ws) ≡ pages → reachFrom p 0 (decode ws) ≡ pages
+pub released : (p q pages : ℕ) (ws : List ℕ) → soundMap apart ws ≡ true → 1 ≤ pages → heldFrom p 0 (decode ws) ≡ pages → reachFrom p 0 (decode ws) ≡ pages
     → q ≡ beforeFrom p p 0 (decode ws) → Released p q pages ws
 released p q pages ws ok o eh er e =
     let h = stands p ws ok (omega arith) in

@@ -7,8 +7,9 @@ use mathlib.Core.List.{List, [], _∷_, _++_, append-assoc}
 use native.Mathlib.Omega.{arith}
 use lib.ListN.{length, getD, set, length-append}
 use Rattle.manager.specs.Map.{Segment, free, held, wordsOf, draw, decode, soundMap, total}
-use Rattle.manager.proofs.Laws.Map.{Well, redraw, well-decoded, well-at, draw-append, draw-cons, length-draw, length-words}
-use Rattle.manager.specs.Paged.{free+, held+, lead, rest, heldFrom, reachFrom, changeFrom}
+use Rattle.manager.proofs.Laws.Map.{Sized, sound-tiled, redraw, draw-append, draw-cons, length-draw, length-words}
+use Rattle.manager.proofs.Laws.Apart.{Well, well-sized, well-decoded, well-at}
+use Rattle.manager.specs.Paged.{apart, free+, held+, lead, rest, heldFrom, reachFrom, changeFrom}
 use Rattle.manager.proofs.Laws.Paged.{onto, onto-last, spot, held-at, reach-at, change-at, free-none}
 use Rattle.segments.specs.MapWords.{Extends}
 use Rattle.segments.proofs.Words.{word-at, words-in, set-past, join-words}
@@ -47,7 +48,7 @@ pub record Stands (p : ℕ) (ws : List ℕ) : Type 0 where
   pub page : total pre ≡ p
   pub words : ws ≡ draw pre ++ (wordsOf pages 1 ++ draw post)
 
-pub stands : (p : ℕ) (ws : List ℕ) → soundMap ws ≡ true → 1 ≤ heldFrom p 0 (decode ws) → Stands p ws
+pub stands : (p : ℕ) (ws : List ℕ) → soundMap apart ws ≡ true → 1 ≤ heldFrom p 0 (decode ws) → Stands p ws
 stands p ws ok l =
     let h = spot p 0 (decode ws) l in
     record {
@@ -57,10 +58,13 @@ stands p ws ok l =
       says = h .is;
       well = rw (h .is) at (well-decoded ws ok);
       page = omega (arith, h .page);
-      words = sym (redraw ws ok) ∙ ap draw (h .is) ∙ draw-append (h .pre) (held (h .pages) ∷ h .post) ∙ ap (λ (u : List ℕ). draw (h .pre) ++ u) (draw-cons (held (h .pages)) (h .post));
+      words = sym (redraw ws (sound-tiled apart ws ok)) ∙ ap draw (h .is) ∙ draw-append (h .pre) (held (h .pages) ∷ h .post) ∙ ap (λ (u : List ℕ). draw (h .pre) ++ u) (draw-cons (held (h .pages)) (h .post));
     }
 
 module _ (p : ℕ) (ws : List ℕ) (h : Stands p ws) where
+  sized : Sized (h .pre ++ (held (h .pages) ∷ h .post))
+  sized = well-sized true (h .pre ++ (held (h .pages) ∷ h .post)) (h .well)
+
   pub some : 1 ≤ h .pages
   some = well-at true (h .pre) (held (h .pages)) (h .post) (h .well) .0
 
@@ -77,13 +81,13 @@ module _ (p : ℕ) (ws : List ℕ) (h : Stands p ws) where
   within = words-in (draw (h .pre)) (draw (h .post)) ws (h .pages) 1 p (h .words) pre-long
 
   pub held-is : heldFrom p 0 (decode ws) ≡ h .pages
-  held-is = ap (heldFrom p 0) (h .says) ∙ held-at p 0 true 0 (h .pre) (h .pages) (h .post) (h .well) (omega (arith, h .page))
+  held-is = ap (heldFrom p 0) (h .says) ∙ held-at p 0 0 (h .pre) (h .pages) (h .post) sized (omega (arith, h .page))
 
   pub reach-is : reachFrom p 0 (decode ws) ≡ h .pages + lead (h .post)
-  reach-is = ap (reachFrom p 0) (h .says) ∙ reach-at p 0 true 0 (h .pre) (h .pages) (h .post) (h .well) (omega (arith, h .page))
+  reach-is = ap (reachFrom p 0) (h .says) ∙ reach-at p 0 0 (h .pre) (h .pages) (h .post) sized (omega (arith, h .page))
 
   pub change-is : (k : ℕ) → changeFrom p k 0 (decode ws) ≡ onto (h .pre) (held+ k (free+ (h .pages + lead (h .post) - k) (rest (h .post))))
-  change-is k = ap (changeFrom p k 0) (h .says) ∙ change-at p k true 0 (h .pre) (h .pages) (h .post) (h .well) (omega (arith, h .page))
+  change-is k = ap (changeFrom p k 0) (h .says) ∙ change-at p k 0 (h .pre) (h .pages) (h .post) sized (omega (arith, h .page))
 
   -- with k pages held, the map before stays
   pub resize-is : (k : ℕ) → 1 ≤ k → changeFrom p k 0 (decode ws) ≡ h .pre ++ (held k ∷ free+ (h .pages + lead (h .post) - k) (rest (h .post)))
@@ -118,13 +122,13 @@ module _ (p : ℕ) (ws : List ℕ) (h : Stands p ws) where
       post-well
 
   -- nothing to take in
-  pub alone : soundMap ws ≡ true → lead (h .post) ≡ 0 → Extends p ws (h .pages) ws
+  pub alone : soundMap apart ws ≡ true → lead (h .post) ≡ 0 → Extends p ws (h .pages) ws
   alone ok e =
       let r : h .pages + lead (h .post) ≡ h .pages = omega arith in
       let g : changeFrom p (h .pages) 0 (decode ws) ≡ h .pre ++ (held (h .pages) ∷ rest (h .post)) = rw r at grown in
       record {
         pages = sym (reach-is ∙ r);
-        words = sym (ap draw (g ∙ rw (apart-rest (h .post) post-well e) (sym (h .says))) ∙ redraw ws ok);
+        words = sym (ap draw (g ∙ rw (apart-rest (h .post) post-well e) (sym (h .says))) ∙ redraw ws (sound-tiled apart ws ok));
       }
 
   -- a free follower

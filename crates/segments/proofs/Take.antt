@@ -1,16 +1,16 @@
 -- What a get does to the words: where first fit finds room, the low end of that free segment is held. Assumes nothing.
-use Prim.Native.Nat.{ℕ, zero, suc, _+_, _-_, _*_, _/_, _%_, _≤_, _<_}
-use mathlib.Core.Path.{_≡_, refl, sym, ap, _∙_}
-use mathlib.Core.Bool.{Bool, true, false}
-use mathlib.Core.List.{List, [], _∷_, _++_}
+use Prim.Native.Nat.{ℕ, zero, suc, _+_, _-_, _/_, _≤_}
+use mathlib.Core.Path.{_≡_, sym, ap, _∙_}
+use mathlib.Core.Bool.{true, false}
+use mathlib.Core.List.{List, _∷_, _++_}
 use native.Mathlib.Omega.{arith}
 use lib.ListN.{length, getD}
-use Rattle.manager.specs.Map.{Segment, free, held, wordsOf, draw, decode, soundMap, total}
-use Rattle.manager.proofs.Laws.Map.{Well, redraw, well-decoded, well-at, draw-append, draw-cons, length-draw, total-decoded}
-use Rattle.manager.specs.Paged.{free+, placeFrom, allocate}
-use Rattle.manager.proofs.Laws.Paged.{Hit, hit, free-none, free-front}
-use Rattle.manager.specs.declared.Place.{Place}
-use Rattle.manager.specs.declared.Place.the-variants.{At, Nowhere}
+use Rattle.manager.specs.Map.{Segment, free, held, wordsOf, draw, decode, soundMap}
+use Rattle.manager.proofs.Laws.Map.{sound-tiled, redraw, draw-append, draw-cons, length-draw}
+use Rattle.manager.proofs.Laws.Apart.{Well, well-decoded, well-at}
+use Rattle.manager.specs.Paged.{apart, free+, placeFrom, allocate}
+use Rattle.manager.proofs.Laws.Paged.{hit, free-none, free-front}
+use Rattle.manager.specs.declared.Place.the-variants.{At}
 use Rattle.segments.specs.MapWords.{holding}
 use Rattle.segments.proofs.Words.{word-at, words-in, holding-words}
 
@@ -25,7 +25,7 @@ pub record Took (k i : ℕ) (ws : List ℕ) : Type 0 where
   pub within : i + getD ws i 0 / 2 ≤ length ws
   pub held : holding i (getD ws i 0 / 2) k ws ≡ draw (allocate k (decode ws))
 
-pub took : (k i : ℕ) (ws : List ℕ) → soundMap ws ≡ true → 1 ≤ k → placeFrom k 0 (decode ws) ≡ At i → Took k i ws
+pub took : (k i : ℕ) (ws : List ℕ) → soundMap apart ws ≡ true → 1 ≤ k → placeFrom k 0 (decode ws) ≡ At i → Took k i ws
 took k i ws ok o e =
     let h = hit k 0 (decode ws) i e in
     let p = draw (h .pre) in
@@ -33,7 +33,7 @@ took k i ws ok o e =
     let n = h .pages in
     let w : Well false (h .post) = well-at true (h .pre) (free n) (h .post) (rw (h .is) at (well-decoded ws ok)) .1 in
     let l : length p ≡ i = omega (arith, length-draw (h .pre), h .page) in
-    let x : ws ≡ p ++ (wordsOf n 0 ++ t) = sym (redraw ws ok) ∙ ap draw (h .is) ∙ draw-append (h .pre) (free n ∷ h .post) ∙ ap (λ (u : List ℕ). p ++ u) (draw-cons (free n) (h .post)) in
+    let x : ws ≡ p ++ (wordsOf n 0 ++ t) = sym (redraw ws (sound-tiled apart ws ok)) ∙ ap draw (h .is) ∙ draw-append (h .pre) (free n ∷ h .post) ∙ ap (λ (u : List ℕ). p ++ u) (draw-cons (free n) (h .post)) in
     let v : getD ws i 0 / 2 ≡ n = omega (arith, word-at p t ws n 0 i x l (omega (arith, h .room))) in
     let y : draw (allocate k (decode ws)) ≡ p ++ (wordsOf k 1 ++ (wordsOf (n - k) 0 ++ t)) =
     ap draw (h .gives)

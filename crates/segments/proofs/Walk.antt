@@ -1,17 +1,14 @@
--- Walks of a sound map from segment to segment: what is left of a search from here on gives the whole. Assumes nothing.
-use Prim.Native.Nat.{ℕ, zero, suc, _+_, _-_, _/_, _%_, _≤_, _<_}
+-- Walks of a tiled map from segment to segment: what is left of a search from here on gives the whole. Assumes nothing.
+use Prim.Native.Nat.{ℕ, _+_, _/_, _%_, _≤_, _<_}
 use mathlib.Core.Path.{_≡_, refl, sym, ap, _∙_}
-use mathlib.Core.Bool.{Bool, true, false, cond}
-use mathlib.Core.List.{List, [], _∷_}
-use native.Mathlib.Omega.{arith}
+use mathlib.Core.Bool.{true}
+use mathlib.Core.List.{List}
 use lib.ListN.{length, getD, drop}
-use lib.Dec.{leb}
 use borrow.Author.Tests.{le-leb, lt-leb, eq-eqb, ne-eqb}
-use Rattle.manager.specs.Map.{Segment, decode, soundMap}
-use Rattle.manager.proofs.Laws.Map.{size-of, Here, Step, walk-start, walk-step, walk-end, says-free, says-held, next-here}
+use Rattle.manager.specs.Map.{decode, tiled}
+use Rattle.manager.proofs.Laws.Map.{size-of, Here, walk-start, walk-step, walk-end, says-free, says-held, next-here}
 use Rattle.manager.specs.Paged.{placeFrom}
 use Rattle.segments.specs.MapWords.{beforeFrom}
-use Rattle.manager.specs.declared.Place.{Place}
 use Rattle.manager.specs.declared.Place.the-variants.{At, Nowhere}
 
 -- the search has come to page i
@@ -19,7 +16,7 @@ pub record Placing (ws : List ℕ) (k i : ℕ) : Type 0 where
   pub here : Here ws i
   pub left : placeFrom k i (decode (drop i ws)) ≡ placeFrom k 0 (decode ws)
 
-pub place-start : (ws : List ℕ) (k : ℕ) → soundMap ws ≡ true → Placing ws k 0
+pub place-start : (ws : List ℕ) (k : ℕ) → tiled ws ≡ true → Placing ws k 0
 place-start ws k ok = record { here = walk-start ws ok; left = refl }
 
 module _ (ws : List ℕ) (k i : ℕ) (p : Placing ws k i) where
@@ -51,7 +48,7 @@ pub record Seeking (ws : List ℕ) (p q i : ℕ) : Type 0 where
   pub here : Here ws i
   pub left : beforeFrom p q i (decode (drop i ws)) ≡ beforeFrom p p 0 (decode ws)
 
-pub seek-start : (ws : List ℕ) (p : ℕ) → soundMap ws ≡ true → Seeking ws p p 0
+pub seek-start : (ws : List ℕ) (p : ℕ) → tiled ws ≡ true → Seeking ws p p 0
 seek-start ws p ok = record { here = walk-start ws ok; left = refl }
 
 module _ (ws : List ℕ) (p q i : ℕ) (s : Seeking ws p q i) where

@@ -18,7 +18,7 @@ pub(crate) fn take_pages(mem: &mut [u32], r: Region, k: u32) -> Place
     let at = map::map_at(r);
     let n = map::pages_of(r);
     let end = at + n as usize;
-    map_words::take(&mut mem[at..end], k)
+    map_words::allocate(&mut mem[at..end], k)
 }
 
 // Frees the held segment at page p of the region.

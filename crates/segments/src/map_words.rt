@@ -1,16 +1,16 @@
-// Stores in a region's map: these functions have exactly its words, and need them sound.
+// Stores in a region's map: these functions have exactly its words, and need them sound; those that only read need them tiled.
 use manager::Place;
 ghost use mathlib.Core.Path.{_≡_};
 ghost use mathlib.Core.Bool.{true};
 ghost use Prim.Native.Nat.{ℕ, _+_, _*_, _<_, _≤_};
 ghost use lib.ListN.{length, getD};
-ghost use Rattle.manager.specs.Map.{soundMap, decode, draw};
-ghost use Rattle.manager.specs.Paged.{placeFrom, allocate, heldFrom, reachFrom, changeFrom};
+ghost use Rattle.manager.specs.Map.{tiled, soundMap, decode, draw};
+ghost use Rattle.manager.specs.Paged.{apart, placeFrom, allocate, heldFrom, reachFrom, changeFrom};
 ghost use Rattle.segments.specs.MapWords.{holding, beforeFrom, Extends};
 
 // The first page of the free segment with the lowest address that has k pages.
 fn find(map: &[u32], k: u32) -> Place
-    requires { ⌜ soundMap (now map) ≡ true ⌝ }
+    requires { ⌜ tiled (now map) ≡ true ⌝ }
     ensures { λ r. ⌜ r ≡ placeFrom k 0 (decode (now (map .entry))) ⌝ }
 {
     let mut i = 0;
@@ -42,7 +42,7 @@ fn hold(map: &mut [u32], i: usize, pages: u32, k: u32)
 
 // Takes k pages, where `find` finds them.
 fn take_at(map: &mut [u32], i: usize, k: u32)
-    requires { ⌜ (soundMap (now map) ≡ true) × (length (now map) ≤ 16384) ⌝ }
+    requires { ⌜ (soundMap apart (now map) ≡ true) × (length (now map) ≤ 16384) ⌝ }
     requires { ⌜ 1 ≤ k ⌝ }
     requires { ⌜ placeFrom k 0 (decode (now map)) ≡ Place.At i ⌝ }
     ensures { λ _. ⌜ now (map .exit) ≡ draw (allocate k (decode (now (map .entry)))) ⌝ }
@@ -52,8 +52,8 @@ fn take_at(map: &mut [u32], i: usize, k: u32)
 }
 
 // Takes k pages where there is room, and says where.
-pub(crate) fn take(map: &mut [u32], k: u32) -> Place
-    requires { ⌜ (soundMap (now map) ≡ true) × (length (now map) ≤ 16384) ⌝ }
+pub(crate) fn allocate(map: &mut [u32], k: u32) -> Place
+    requires { ⌜ (soundMap apart (now map) ≡ true) × (length (now map) ≤ 16384) ⌝ }
     requires { ⌜ 1 ≤ k ⌝ }
     ensures { λ r. ⌜ (r ≡ placeFrom k 0 (decode (now (map .entry)))) × (now (map .exit) ≡ draw (allocate k (decode (now (map .entry))))) ⌝ }
 {
@@ -68,7 +68,7 @@ pub(crate) fn take(map: &mut [u32], k: u32) -> Place
 
 // The held segment at page p takes in a free follower. Its pages then.
 fn extend(map: &mut [u32], p: usize) -> u32
-    requires { ⌜ (soundMap (now map) ≡ true) × (length (now map) ≤ 16384) ⌝ }
+    requires { ⌜ (soundMap apart (now map) ≡ true) × (length (now map) ≤ 16384) ⌝ }
     requires { ⌜ 1 ≤ heldFrom p 0 (decode (now map)) ⌝ }
     ensures { λ r. ⌜ Extends p (now (map .entry)) r (now (map .exit)) ⌝ }
 {
@@ -89,7 +89,7 @@ fn extend(map: &mut [u32], p: usize) -> u32
 
 // The most pages that the held segment at page p can have: its own and those of a free follower.
 pub(crate) fn reach_at(map: &[u32], p: usize) -> u32
-    requires { ⌜ (soundMap (now map) ≡ true) × (length (now map) ≤ 16384) ⌝ }
+    requires { ⌜ (soundMap apart (now map) ≡ true) × (length (now map) ≤ 16384) ⌝ }
     requires { ⌜ 1 ≤ heldFrom p 0 (decode (now map)) ⌝ }
     ensures { λ r. ⌜ r ≡ reachFrom p 0 (decode (now (map .entry))) ⌝ }
 {
@@ -107,7 +107,7 @@ pub(crate) fn reach_at(map: &[u32], p: usize) -> u32
 
 // The page of the segment before the one at page p; p where that is the first.
 fn previous(map: &[u32], p: usize) -> usize
-    requires { ⌜ soundMap (now map) ≡ true ⌝ }
+    requires { ⌜ tiled (now map) ≡ true ⌝ }
     ensures { λ r. ⌜ r ≡ beforeFrom p p 0 (decode (now (map .entry))) ⌝ }
 {
     let mut q = p;
@@ -124,7 +124,7 @@ fn previous(map: &[u32], p: usize) -> usize
 
 // Frees the held segment of so many pages at page p, which has no free follower; q is what `previous` says.
 fn release(map: &mut [u32], p: usize, q: usize, pages: u32)
-    requires { ⌜ (soundMap (now map) ≡ true) × (length (now map) ≤ 16384) ⌝ }
+    requires { ⌜ (soundMap apart (now map) ≡ true) × (length (now map) ≤ 16384) ⌝ }
     requires { ⌜ (1 ≤ pages) × (heldFrom p 0 (decode (now map)) ≡ pages) × (reachFrom p 0 (decode (now map)) ≡ pages) ⌝ }
     requires { ⌜ q ≡ beforeFrom p p 0 (decode (now map)) ⌝ }
     ensures { λ _. ⌜ now (map .exit) ≡ draw (changeFrom p 0 0 (decode (now (map .entry)))) ⌝ }
@@ -140,7 +140,7 @@ fn release(map: &mut [u32], p: usize, q: usize, pages: u32)
 
 // The held segment at page p has k pages from now on.
 pub(crate) fn resize_at(map: &mut [u32], p: usize, k: u32)
-    requires { ⌜ (soundMap (now map) ≡ true) × (length (now map) ≤ 16384) ⌝ }
+    requires { ⌜ (soundMap apart (now map) ≡ true) × (length (now map) ≤ 16384) ⌝ }
     requires { ⌜ 1 ≤ heldFrom p 0 (decode (now map)) ⌝ }
     requires { ⌜ (1 ≤ k) × (k ≤ reachFrom p 0 (decode (now map))) ⌝ }
     ensures { λ _. ⌜ now (map .exit) ≡ draw (changeFrom p k 0 (decode (now (map .entry)))) ⌝ }
@@ -151,7 +151,7 @@ pub(crate) fn resize_at(map: &mut [u32], p: usize, k: u32)
 
 // Frees the held segment at page p, and joins it to its free neighbours.
 pub(crate) fn release_at(map: &mut [u32], p: usize)
-    requires { ⌜ (soundMap (now map) ≡ true) × (length (now map) ≤ 16384) ⌝ }
+    requires { ⌜ (soundMap apart (now map) ≡ true) × (length (now map) ≤ 16384) ⌝ }
     requires { ⌜ 1 ≤ heldFrom p 0 (decode (now map)) ⌝ }
     ensures { λ _. ⌜ now (map .exit) ≡ draw (changeFrom p 0 0 (decode (now (map .entry)))) ⌝ }
 {

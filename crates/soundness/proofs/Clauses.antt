@@ -4,6 +4,7 @@ use mathlib.Core.Path.{_≡_, ap, _∙_}
 use mathlib.Core.Bool.{Bool, true, false}
 use mathlib.Core.List.{List}
 use Rattle.manager.specs.Map.{soundMap}
+use Rattle.manager.specs.Paged.{apart}
 use Rattle.manager.specs.Sound.{isFifo}
 use Rattle.manager.specs.declared.Order.{Order}
 use Rattle.manager.specs.declared.Order.the-variants.{Fifo, Priority}
@@ -15,7 +16,7 @@ fifo-yes o e = rw e
 pub fifo-no : (o : Order) → o ≡ Priority → false ≡ isFifo o
 fifo-no o e = rw e
 
-pub map-told : (v : Bool) (ws us : List ℕ) → v ≡ soundMap ws → ws ≡ us → v ≡ soundMap us
-map-told v ws us e g = e ∙ ap soundMap g
+pub map-told : (v : Bool) (ws us : List ℕ) → v ≡ soundMap apart ws → ws ≡ us → v ≡ soundMap apart us
+map-told v ws us e g = e ∙ ap (soundMap apart) g
 
 pub ruleset clauses = (fifo-yes, fifo-no, map-told)

@@ -1,8 +1,9 @@
--- A sound map's words and its segments say the same: drawing and reading are inverse, and a map is sound exactly where each of its
--- segments has a page and no two free ones adjoin. All by one induction over the words, or over the segments. Assumes nothing.
+-- A tiled map's words and its segments say the same: drawing and reading are inverse, and a map is tiled exactly where each of its
+-- segments has a page. How the segments stand, which is each kind's own, is not asked for: so these laws are for maps of every kind.
+-- All by one induction over the words, or over the segments. Assumes nothing.
 use Prim.Native.Nat.{ℕ, zero, suc, _+_, _-_, _*_, _/_, _%_, _≤_, _<_, zero-le}
 use mathlib.Core.Path.{_≡_, refl, sym, ap, _∙_}
-use mathlib.Core.Bool.{Bool, true, false, cond, _&&_, _||_}
+use mathlib.Core.Bool.{Bool, true, false, cond, _&&_}
 use mathlib.Core.List.{List, [], _∷_, _++_, append-assoc}
 use native.Mathlib.Omega.{arith}
 use native.Mathlib.Numerals.{add-one, sub-one}
@@ -10,7 +11,7 @@ use lib.ListN.{length, replicate, getD, drop, length-append, length-replicate, l
 use lib.Seq.{drop-cons, drop-drop, drop-length}
 use lib.Dec.{eqb, leb}
 use borrow.Author.Tests.{leb-true, le-leb, eqb-true, ne-eqb}
-use Rattle.manager.specs.Map.{sizeOf, Segment, free, held, isHeldSegment, wordsOf, draw, isHeld, segmentOf, decode, soundFrom, soundMap, total}
+use Rattle.manager.specs.Map.{sizeOf, Segment, free, held, isHeldSegment, wordsOf, draw, isHeld, segmentOf, decode, tiledFrom, tiled, soundMap, total}
 
 -- both of two tests hold
 pub both-true : (a b : Bool) → (a && b) ≡ true → (a ≡ true) × (b ≡ true)
@@ -24,10 +25,10 @@ bit false = 0
 abbrev pub markOf : Segment → ℕ
 markOf g = bit (isHeldSegment g)
 
--- a well-formed list behind a segment that is held or not: each segment has a page, and no two free ones adjoin
-abbrev pub Well : Bool → List Segment → Type 0
-Well before [] = Unit {0}
-Well before (g ∷ s) = (1 ≤ sizeOf g) × ((before || isHeldSegment g) ≡ true) × Well (isHeldSegment g) s
+-- each segment has a page
+abbrev pub Sized : List Segment → Type 0
+Sized [] = Unit {0}
+Sized (g ∷ s) = (1 ≤ sizeOf g) × Sized s
 
 -- the word of a segment's first page
 pub draw-cons : (g : Segment) (s : List Segment) → draw (g ∷ s) ≡ wordsOf (sizeOf g) (markOf g) ++ draw s
@@ -102,29 +103,21 @@ held-of w = go (isHeld w)
 pub not-zero : (w : ℕ) → 1 ≤ w → eqb w 0 ≡ false
 not-zero w h = ne-eqb w 0 (λ e. omega arith)
 
--- what a sound map's first word gives, and a word within a segment
-pub record Head (before : Bool) (w : ℕ) (ws : List ℕ) : Type 0 where
-  pub big : 2 ≤ w
-  pub apart : (before || isHeld w) ≡ true
-  pub rest : soundFrom (w / 2 - 1) (isHeld w) ws ≡ true
+-- what a tiled map's first word gives, and a word within a segment
+pub head-parts : (w : ℕ) (ws : List ℕ) → tiledFrom 0 (w ∷ ws) ≡ true → (2 ≤ w) × (tiledFrom (w / 2 - 1) ws ≡ true)
+unfolding tiledFrom
+head-parts w ws e = let p = both-true (leb 2 w) (tiledFrom (w / 2 - 1) ws) e in (leb-true 2 w (p .0), p .1)
 
-pub head-parts : (before : Bool) (w : ℕ) (ws : List ℕ) → soundFrom 0 before (w ∷ ws) ≡ true → Head before w ws
-unfolding soundFrom
-head-parts before w ws e =
-    let p = both-true (leb 2 w) ((before || isHeld w) && soundFrom (w / 2 - 1) (isHeld w) ws) e in
-    let q = both-true (before || isHeld w) (soundFrom (w / 2 - 1) (isHeld w) ws) (p .1) in
-    record { big = leb-true 2 w (p .0); apart = q .0; rest = q .1 }
+pub rest-parts : (due : ℕ) (w : ℕ) (ws : List ℕ) → tiledFrom (suc due) (w ∷ ws) ≡ true → (w ≡ 0) × (tiledFrom due ws ≡ true)
+unfolding tiledFrom
+rest-parts due w ws e = let p = both-true (eqb w 0) (tiledFrom due ws) e in (eqb-true w 0 (p .0), p .1)
 
-pub rest-parts : (due : ℕ) (before : Bool) (w : ℕ) (ws : List ℕ) → soundFrom (suc due) before (w ∷ ws) ≡ true → (w ≡ 0) × (soundFrom due before ws ≡ true)
-unfolding soundFrom
-rest-parts due before w ws e = let p = both-true (eqb w 0) (soundFrom due before ws) e in (eqb-true w 0 (p .0), p .1)
-
-no-end : (due : ℕ) (before : Bool) → soundFrom (suc due) before [] ≡ true → ⊥
-unfolding soundFrom
-no-end due before e = let z : _≡_ {A = ℕ} 0 1 = cc in omega arith
+pub no-end : (due : ℕ) → tiledFrom (suc due) [] ≡ true → ⊥
+unfolding tiledFrom
+no-end due e = let z : _≡_ {A = ℕ} 0 1 = cc in omega arith
 
 -- reading past a word
-decode-start : (w : ℕ) (ws : List ℕ) → 1 ≤ w → decode (w ∷ ws) ≡ segmentOf w ∷ decode ws
+pub decode-start : (w : ℕ) (ws : List ℕ) → 1 ≤ w → decode (w ∷ ws) ≡ segmentOf w ∷ decode ws
 unfolding decode
 decode-start w ws h = rw (not-zero w h)
 
@@ -141,34 +134,34 @@ draw-start w s h =
 -- ---- from words to segments
 
 -- the words are the drawing of what they say
-redraw-from : (due : ℕ) (before : Bool) (ws : List ℕ) → soundFrom due before ws ≡ true → ws ≡ replicate due 0 ++ draw (decode ws)
+redraw-from : (due : ℕ) (ws : List ℕ) → tiledFrom due ws ≡ true → ws ≡ replicate due 0 ++ draw (decode ws)
 unfolding decode draw
-redraw-from zero before [] e = refl
-redraw-from (suc due) before [] e = absurd (no-end due before e)
-redraw-from zero before (w ∷ ws) e =
-    let p = head-parts before w ws e in
-    let big : 2 ≤ w = p .big in
-    ap (λ (t : List ℕ). w ∷ t) (redraw-from (w / 2 - 1) (isHeld w) ws (p .rest))
+redraw-from zero [] e = refl
+redraw-from (suc due) [] e = absurd (no-end due e)
+redraw-from zero (w ∷ ws) e =
+    let p = head-parts w ws e in
+    let big : 2 ≤ w = p .0 in
+    ap (λ (t : List ℕ). w ∷ t) (redraw-from (w / 2 - 1) ws (p .1))
     ∙ sym (draw-start w (decode ws) big)
     ∙ ap draw (sym (decode-start w ws (omega arith)))
-redraw-from (suc due) before (w ∷ ws) e =
-    let p = rest-parts due before w ws e in
-    rw (p .0) (ap (λ (t : List ℕ). 0 ∷ t) (redraw-from due before ws (p .1)))
+redraw-from (suc due) (w ∷ ws) e =
+    let p = rest-parts due w ws e in
+    rw (p .0) (ap (λ (t : List ℕ). 0 ∷ t) (redraw-from due ws (p .1)))
 
--- what they say is well formed
-well-start : (before : Bool) (w : ℕ) (s : List Segment) → 2 ≤ w → (before || isHeld w) ≡ true → Well (isHeld w) s → Well before (segmentOf w ∷ s)
-well-start before w s h e v = rw (size-of w, held-of w) (omega arith, e, v)
+-- each segment that they say has a page
+sized-start : (w : ℕ) (s : List Segment) → 2 ≤ w → Sized s → Sized (segmentOf w ∷ s)
+sized-start w s h v = rw (size-of w) (omega arith, v)
 
-well-from : (due : ℕ) (before : Bool) (ws : List ℕ) → soundFrom due before ws ≡ true → Well before (decode ws)
+sized-from : (due : ℕ) (ws : List ℕ) → tiledFrom due ws ≡ true → Sized (decode ws)
 unfolding decode
-well-from zero before [] e = tt
-well-from (suc due) before [] e = absurd (no-end due before e)
-well-from zero before (w ∷ ws) e =
-    let p = head-parts before w ws e in
-    rw (decode-start w ws (omega (arith, p .big))) (well-start before w (decode ws) (p .big) (p .apart) (well-from (w / 2 - 1) (isHeld w) ws (p .rest)))
-well-from (suc due) before (w ∷ ws) e =
-    let p = rest-parts due before w ws e in
-    rw (p .0) (well-from due before ws (p .1))
+sized-from zero [] e = tt
+sized-from (suc due) [] e = absurd (no-end due e)
+sized-from zero (w ∷ ws) e =
+    let p = head-parts w ws e in
+    rw (decode-start w ws (omega (arith, p .0))) (sized-start w (decode ws) (p .0) (sized-from (w / 2 - 1) ws (p .1)))
+sized-from (suc due) (w ∷ ws) e =
+    let p = rest-parts due w ws e in
+    rw (p .0) (sized-from due ws (p .1))
 
 -- ---- from segments to words
 
@@ -189,10 +182,10 @@ unfolding decode
 past-zeros zero t = refl
 past-zeros (suc n) t = past-zeros n t
 
-sound-zeros : (n : ℕ) (before : Bool) (t : List ℕ) → soundFrom n before (replicate n 0 ++ t) ≡ soundFrom 0 before t
-unfolding soundFrom
-sound-zeros zero before t = refl
-sound-zeros (suc n) before t = sound-zeros n before t
+tiled-zeros : (n : ℕ) (t : List ℕ) → tiledFrom n (replicate n 0 ++ t) ≡ tiledFrom 0 t
+unfolding tiledFrom
+tiled-zeros zero t = refl
+tiled-zeros (suc n) t = tiled-zeros n t
 
 -- the words of one segment, before others
 decode-words : (n : ℕ) (h : Bool) (t : List ℕ) → 1 ≤ n → decode (wordsOf n (bit h) ++ t) ≡ segmentOf (n * 2 + bit h) ∷ decode t
@@ -201,79 +194,84 @@ decode-words (suc n) h t o =
     decode-start (suc n * 2 + bit h) (replicate n 0 ++ t) (omega arith)
     ∙ ap (λ (s : List Segment). segmentOf (suc n * 2 + bit h) ∷ s) (past-zeros n t)
 
-sound-words : (n : ℕ) (before h : Bool) (t : List ℕ) → 1 ≤ n → (before || h) ≡ true → soundFrom 0 before (wordsOf n (bit h) ++ t) ≡ soundFrom 0 h t
-unfolding soundFrom
-sound-words zero before h t o e = absurd (omega arith)
-sound-words (suc n) before h t o e =
-    rw (le-leb 2 (suc n * 2 + bit h) (omega arith), has-pages (suc n) h, is-held (suc n) h, e, sub-one) (sound-zeros n h t)
+tiled-words : (n : ℕ) (h : Bool) (t : List ℕ) → 1 ≤ n → tiledFrom 0 (wordsOf n (bit h) ++ t) ≡ tiledFrom 0 t
+unfolding tiledFrom
+tiled-words zero h t o = absurd (omega arith)
+tiled-words (suc n) h t o =
+    rw (le-leb 2 (suc n * 2 + bit h) (omega arith), has-pages (suc n) h, sub-one) (tiled-zeros n t)
 
-decode-from : (before : Bool) (s : List Segment) → Well before s → decode (draw s) ≡ s
-unfolding decode draw
-decode-from before [] w = refl
-decode-from before (g ∷ s) w =
-    ap decode (draw-cons g s)
-    ∙ decode-words (sizeOf g) (isHeldSegment g) (draw s) (w .0)
-    ∙ rw (segment-is g) (ap (λ (t : List Segment). g ∷ t) (decode-from (isHeldSegment g) s (w .2)))
-
-sound-from : (before : Bool) (s : List Segment) → Well before s → soundFrom 0 before (draw s) ≡ true
-unfolding soundFrom draw
-sound-from before [] w = refl
-sound-from before (g ∷ s) w =
-    ap (soundFrom 0 before) (draw-cons g s)
-    ∙ sound-words (sizeOf g) before (isHeldSegment g) (draw s) (w .0) (w .1)
-    ∙ sound-from (isHeldSegment g) s (w .2)
+tiled-from : (s : List Segment) → Sized s → tiledFrom 0 (draw s) ≡ true
+unfolding tiledFrom draw
+tiled-from [] w = refl
+tiled-from (g ∷ s) w =
+    ap (tiledFrom 0) (draw-cons g s)
+    ∙ tiled-words (sizeOf g) (isHeldSegment g) (draw s) (w .0)
+    ∙ tiled-from s (w .1)
 
 -- ---- of whole maps: THE LAWS
 
--- drawing what a sound map says gives its words
-pub redraw : (ws : List ℕ) → soundMap ws ≡ true → draw (decode ws) ≡ ws
-unfolding soundMap
-redraw ws e = sym (redraw-from 0 true ws e)
+-- drawing what a tiled map says gives its words
+pub redraw : (ws : List ℕ) → tiled ws ≡ true → draw (decode ws) ≡ ws
+unfolding tiled
+redraw ws e = sym (redraw-from 0 ws e)
 
--- reading a drawing of well-formed segments gives them
-pub reread : (s : List Segment) → Well true s → decode (draw s) ≡ s
-reread s w = decode-from true s w
+-- reading a drawing of segments gives them
+pub reread : (s : List Segment) → Sized s → decode (draw s) ≡ s
+unfolding decode draw
+reread [] w = refl
+reread (g ∷ s) w =
+    ap decode (draw-cons g s)
+    ∙ decode-words (sizeOf g) (isHeldSegment g) (draw s) (w .0)
+    ∙ rw (segment-is g) (ap (λ (t : List Segment). g ∷ t) (reread s (w .1)))
 
--- a sound map's segments are well formed, and a drawing of such is sound
-pub well-decoded : (ws : List ℕ) → soundMap ws ≡ true → Well true (decode ws)
-unfolding soundMap
-well-decoded ws e = well-from 0 true ws e
+-- a tiled map's segments have pages, and a drawing of such is tiled
+pub sized-decoded : (ws : List ℕ) → tiled ws ≡ true → Sized (decode ws)
+unfolding tiled
+sized-decoded ws e = sized-from 0 ws e
 
-pub sound-drawn : (s : List Segment) → Well true s → soundMap (draw s) ≡ true
-unfolding soundMap
-sound-drawn s w = sound-from true s w
+pub tiled-drawn : (s : List Segment) → Sized s → tiled (draw s) ≡ true
+unfolding tiled
+tiled-drawn s w = tiled-from s w
 
 -- its segments have a page for each word
-pub total-decoded : (ws : List ℕ) → soundMap ws ≡ true → total (decode ws) ≡ length ws
+pub total-decoded : (ws : List ℕ) → tiled ws ≡ true → total (decode ws) ≡ length ws
 total-decoded ws e = sym (length-draw (decode ws)) ∙ ap length (redraw ws e)
 
--- behind a held segment anything well formed may stand
-pub well-after : (before : Bool) (s : List Segment) → Well before s → Well true s
-well-after before [] w = tt
-well-after before (g ∷ s) w = (w .0, refl, w .2)
-
 -- a segment somewhere in one, with what is behind it
-pub well-at : (before : Bool) (s : List Segment) (g : Segment) (t : List Segment) → Well before (s ++ (g ∷ t)) → (1 ≤ sizeOf g) × Well (isHeldSegment g) t
-well-at before [] g t w = (w .0, w .2)
-well-at before (f ∷ s) g t w = well-at (isHeldSegment f) s g t (w .2)
+pub sized-at : (s : List Segment) (g : Segment) (t : List Segment) → Sized (s ++ (g ∷ t)) → (1 ≤ sizeOf g) × Sized t
+sized-at [] g t w = w
+sized-at (f ∷ s) g t w = sized-at s g t (w .1)
+
+-- SOUND MAPS: tiled, by segments that stand as their kind says; and a drawing of such is sound
+module _ (proper : List Segment → Bool) where
+  pub sound-tiled : (ws : List ℕ) → soundMap proper ws ≡ true → tiled ws ≡ true
+  unfolding soundMap
+  sound-tiled ws e = both-true (tiled ws) (proper (decode ws)) e .0
+
+  pub sound-proper : (ws : List ℕ) → soundMap proper ws ≡ true → proper (decode ws) ≡ true
+  unfolding soundMap
+  sound-proper ws e = both-true (tiled ws) (proper (decode ws)) e .1
+
+  pub sound-drawn : (s : List Segment) → Sized s → proper s ≡ true → soundMap proper (draw s) ≡ true
+  unfolding soundMap
+  sound-drawn s w e = rw (tiled-drawn s w, reread s w) e
 
 -- ---- a walk from segment to segment along the words
 
 -- past the words that end a segment
-skip : (due : ℕ) (before : Bool) (ws : List ℕ) → soundFrom due before ws ≡ true
-    → (due ≤ length ws) × (soundFrom 0 before (drop due ws) ≡ true) × (decode (drop due ws) ≡ decode ws)
-skip zero before ws e = (zero-le, e, refl)
-skip (suc due) before [] e = absurd (no-end due before e)
-skip (suc due) before (w ∷ ws) e =
-    let p = rest-parts due before w ws e in
-    let q = skip due before ws (p .1) in
+skip : (due : ℕ) (ws : List ℕ) → tiledFrom due ws ≡ true
+    → (due ≤ length ws) × (tiledFrom 0 (drop due ws) ≡ true) × (decode (drop due ws) ≡ decode ws)
+skip zero ws e = (zero-le, e, refl)
+skip (suc due) [] e = absurd (no-end due e)
+skip (suc due) (w ∷ ws) e =
+    let p = rest-parts due w ws e in
+    let q = skip due ws (p .1) in
     (omega arith, q .1, q .2 ∙ sym (decode-skip w ws (p .0)))
 
 -- a segment, or the map's end, starts at page i
 pub record Here (ws : List ℕ) (i : ℕ) : Type 0 where
   pub within : i ≤ length ws
-  pub before : Bool
-  pub ok : soundFrom 0 before (drop i ws) ≡ true
+  pub ok : tiledFrom 0 (drop i ws) ≡ true
 
 -- what stands there, and where the next one starts
 pub record Step (ws : List ℕ) (i w : ℕ) : Type 0 where
@@ -281,22 +279,22 @@ pub record Step (ws : List ℕ) (i w : ℕ) : Type 0 where
   pub next : Here ws (i + w / 2)
   pub says : decode (drop i ws) ≡ segmentOf w ∷ decode (drop (i + w / 2) ws)
 
-pub walk-start : (ws : List ℕ) → soundMap ws ≡ true → Here ws 0
-unfolding soundMap
-walk-start ws e = record { within = zero-le; before = true; ok = e }
+pub walk-start : (ws : List ℕ) → tiled ws ≡ true → Here ws 0
+unfolding tiled
+walk-start ws e = record { within = zero-le; ok = e }
 
 pub walk-step : (ws : List ℕ) (i : ℕ) → Here ws i → i < length ws → Step ws i (getD ws i 0)
 walk-step ws i h lt =
     let w = getD ws i 0 in
     let cut : drop i ws ≡ w ∷ drop (i + 1) ws = rw (add-one, drop-cons ws i 0) in
-    let p = head-parts (h .before) w (drop (i + 1) ws) (rw cut at (h .ok)) in
-    let q = skip (w / 2 - 1) (isHeld w) (drop (i + 1) ws) (p .rest) in
-    let big : 2 ≤ w = p .big in
+    let p = head-parts w (drop (i + 1) ws) (rw cut at (h .ok)) in
+    let q = skip (w / 2 - 1) (drop (i + 1) ws) (p .1) in
+    let big : 2 ≤ w = p .0 in
     let e : i + 1 + (w / 2 - 1) ≡ i + w / 2 = omega arith in
     let d : drop (w / 2 - 1) (drop (i + 1) ws) ≡ drop (i + w / 2) ws = drop-drop (w / 2 - 1) (i + 1) ws ∙ rw e in
     record {
       big = big;
-      next = record { within = omega (arith, length-drop (i + 1) ws, q .0); before = isHeld w; ok = rw d at (q .1) };
+      next = record { within = omega (arith, length-drop (i + 1) ws, q .0); ok = rw d at (q .1) };
       says = ap decode cut ∙ decode-start w (drop (i + 1) ws) (omega arith) ∙ ap (λ (t : List Segment). segmentOf w ∷ t) (sym (q .2) ∙ ap decode d);
     }
 

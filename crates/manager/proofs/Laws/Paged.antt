@@ -10,8 +10,9 @@ use lib.Dec.{eqb, leb}
 use borrow.Author.Tests.{leb-true, eqb-true, eq-eqb, ne-eqb}
 use Rattle.manager.specs.Map.{Segment, free, held, isHeldSegment, draw, decode, soundMap, total}
 use Rattle.manager.specs.Map.{sizeOf}
-use Rattle.manager.proofs.Laws.Map.{Well, well-after, well-decoded, sound-drawn, total-cons}
-use Rattle.manager.specs.Paged.{free+, held+, lead, rest, placeFrom, allocate, heldFrom, reachFrom, changeFrom}
+use Rattle.manager.proofs.Laws.Map.{Sized, total-cons}
+use Rattle.manager.proofs.Laws.Apart.{Well, well-after, well-decoded, well-drawn}
+use Rattle.manager.specs.Paged.{apart, free+, held+, lead, rest, placeFrom, allocate, heldFrom, reachFrom, changeFrom}
 use Rattle.manager.specs.declared.Place.the-variants.{At, Nowhere}
 
 -- ---- free pages in front of a map
@@ -268,27 +269,27 @@ module _ (p k : ℕ) where
   later : (at : ℕ) (g : Segment) (s : List Segment) → 1 ≤ sizeOf g → at + total (g ∷ s) ≡ p → eqb at p ≡ false
   later at g s o e = ne-eqb at p (λ q. omega (arith, total-cons g s))
 
-  pub held-at : (before : Bool) (at : ℕ) (pre : List Segment) (n : ℕ) (post : List Segment) → Well before (pre ++ (held n ∷ post)) → at + total pre ≡ p
+  pub held-at : (at : ℕ) (pre : List Segment) (n : ℕ) (post : List Segment) → Sized (pre ++ (held n ∷ post)) → at + total pre ≡ p
       → heldFrom p at (pre ++ (held n ∷ post)) ≡ n
   unfolding heldFrom total
-  held-at before at [] n post w e = rw (eq-eqb at p (omega arith))
-  held-at before at (free m ∷ pre) n post w e = held-at false (at + m) pre n post (w .2) (omega arith)
-  held-at before at (held m ∷ pre) n post w e = rw (later at (held m) pre (w .0) e) (held-at true (at + m) pre n post (w .2) (omega arith))
+  held-at at [] n post w e = rw (eq-eqb at p (omega arith))
+  held-at at (free m ∷ pre) n post w e = held-at (at + m) pre n post (w .1) (omega arith)
+  held-at at (held m ∷ pre) n post w e = rw (later at (held m) pre (w .0) e) (held-at (at + m) pre n post (w .1) (omega arith))
 
-  pub reach-at : (before : Bool) (at : ℕ) (pre : List Segment) (n : ℕ) (post : List Segment) → Well before (pre ++ (held n ∷ post)) → at + total pre ≡ p
+  pub reach-at : (at : ℕ) (pre : List Segment) (n : ℕ) (post : List Segment) → Sized (pre ++ (held n ∷ post)) → at + total pre ≡ p
       → reachFrom p at (pre ++ (held n ∷ post)) ≡ n + lead post
   unfolding reachFrom total
-  reach-at before at [] n post w e = rw (eq-eqb at p (omega arith))
-  reach-at before at (free m ∷ pre) n post w e = reach-at false (at + m) pre n post (w .2) (omega arith)
-  reach-at before at (held m ∷ pre) n post w e = rw (later at (held m) pre (w .0) e) (reach-at true (at + m) pre n post (w .2) (omega arith))
+  reach-at at [] n post w e = rw (eq-eqb at p (omega arith))
+  reach-at at (free m ∷ pre) n post w e = reach-at (at + m) pre n post (w .1) (omega arith)
+  reach-at at (held m ∷ pre) n post w e = rw (later at (held m) pre (w .0) e) (reach-at (at + m) pre n post (w .1) (omega arith))
 
-  pub change-at : (before : Bool) (at : ℕ) (pre : List Segment) (n : ℕ) (post : List Segment) → Well before (pre ++ (held n ∷ post)) → at + total pre ≡ p
+  pub change-at : (at : ℕ) (pre : List Segment) (n : ℕ) (post : List Segment) → Sized (pre ++ (held n ∷ post)) → at + total pre ≡ p
       → changeFrom p k at (pre ++ (held n ∷ post)) ≡ onto pre (held+ k (free+ (n + lead post - k) (rest post)))
   unfolding changeFrom total onto
-  change-at before at [] n post w e = rw (eq-eqb at p (omega arith))
-  change-at before at (free m ∷ pre) n post w e = ap (free+ m) (change-at false (at + m) pre n post (w .2) (omega arith))
-  change-at before at (held m ∷ pre) n post w e =
-      rw (later at (held m) pre (w .0) e) (ap (λ (u : List Segment). held m ∷ u) (change-at true (at + m) pre n post (w .2) (omega arith)))
+  change-at at [] n post w e = rw (eq-eqb at p (omega arith))
+  change-at at (free m ∷ pre) n post w e = ap (free+ m) (change-at (at + m) pre n post (w .1) (omega arith))
+  change-at at (held m ∷ pre) n post w e =
+      rw (later at (held m) pre (w .0) e) (ap (λ (u : List Segment). held m ∷ u) (change-at (at + m) pre n post (w .1) (omega arith)))
 
 -- no held segment is larger than the map
 pub held-within : (p at : ℕ) (s : List Segment) → heldFrom p at s ≤ total s
@@ -304,6 +305,6 @@ held-within p at (held n ∷ s) = go (eqb at p) (held-within p (at + n) s)
 -- ---- of whole maps
 
 -- a get keeps a sound map sound and its length
-module _ (ws : List ℕ) (ok : soundMap ws ≡ true) where
-  pub sound-take : (k : ℕ) → 1 ≤ k → soundMap (draw (allocate k (decode ws))) ≡ true
-  sound-take k o = sound-drawn (allocate k (decode ws)) (well-take k true (decode ws) o (well-decoded ws ok))
+module _ (ws : List ℕ) (ok : soundMap apart ws ≡ true) where
+  pub sound-take : (k : ℕ) → 1 ≤ k → soundMap apart (draw (allocate k (decode ws))) ≡ true
+  sound-take k o = well-drawn (allocate k (decode ws)) (well-take k true (decode ws) o (well-decoded ws ok))

@@ -8,12 +8,12 @@ use native.Mathlib.Omega.{arith}
 use lib.ListN.{length, take, drop}
 use lib.Seq.{drop-drop}
 use borrow.Rule.Slice.PartMut.{putMid}
-use Rattle.manager.specs.Map.{Segment, draw, soundMap, total}
-use Rattle.manager.specs.Paged.{heldFrom}
+use Rattle.manager.specs.Map.{Segment, draw, tiled, soundMap, total}
+use Rattle.manager.specs.Paged.{apart, heldFrom}
 use Rattle.manager.proofs.Laws.Paged.{held-within}
 use Rattle.manager.specs.Region.{pagesOf, mapAt, mapWords, segments, withSegments, startsPage, pageAt, heldAt}
 use Rattle.manager.specs.Sound.{Laid, Sited}
-use Rattle.manager.proofs.Laws.Sound.{map-in, map-long, pages-few, with-is, total-segments}
+use Rattle.manager.proofs.Laws.Sound.{tiled-map, map-in, map-long, pages-few, with-is, total-segments}
 use Rattle.manager.specs.declared.Region.{Region}
 
 -- n words from place `at` on, as the code lends them, and the memory with others in their place
@@ -39,15 +39,18 @@ module _ (r : Region) (at n : ℕ) (ea : at ≡ mapAt r) (en : n ≡ pagesOf r) 
   pub lent-some : Laid m r → 1 ≤ length (lent at n m)
   lent-some l = omega (arith, lent-long l, l .some)
 
-  pub lent-sound : Sited m r → soundMap (lent at n m) ≡ true
-  lent-sound s = ap soundMap lent-is ∙ s .sound
+  pub lent-tiled : Sited m r → tiled (lent at n m) ≡ true
+  lent-tiled s = ap tiled lent-is ∙ tiled-map m r s
+
+  pub lent-sound : Sited m r → soundMap apart (lent at n m) ≡ true
+  lent-sound s = ap (soundMap apart) lent-is ∙ s .sound
 
   pub put-back : Laid m r → (t : List Segment) → total t ≡ pagesOf r → putBack at n m (draw t) ≡ withSegments m r t
   put-back l t e =
       let z : at + n - at ≡ n = omega arith in
       rw (z, ea, en) (ap (λ (w : List ℕ). take (mapAt r) m ++ (draw t ++ w)) (drop-drop (pagesOf r) (mapAt r) m) ∙ sym (with-is m r l t e))
 
-pub ruleset lending = (lent-in, lent-few, lent-some, lent-sound)
+pub ruleset lending = (lent-in, lent-few, lent-some, lent-tiled, lent-sound)
 
 -- the pages that are held at an address
 pub held-few : (m : List ℕ) (r : Region) (address : ℕ) → Sited m r → heldAt m r address ≤ pagesOf r

@@ -14,9 +14,11 @@ use Rattle.arith.proofs.Laws.Layout.{count-map, count-end}
 use Rattle.manager.specs.Record.{mostWords, noRegion, regionOf, slotOf}
 use Rattle.manager.specs.Lists.{every}
 use Rattle.manager.proofs.Laws.Lists.{and-first, and-second, every-at}
-use Rattle.manager.specs.Map.{Segment, decode, draw, soundMap, total}
-use Rattle.manager.proofs.Laws.Map.{Well, redraw, reread, sound-drawn, length-draw, total-decoded, well-decoded}
-use Rattle.manager.specs.Region.{dead, pagesOf, baseOf, mapAt, mapWords, segments, withSegments, addressOf}
+use Rattle.manager.specs.Map.{Segment, decode, draw, tiled, soundMap, total}
+use Rattle.manager.proofs.Laws.Map.{Sized, redraw, reread, sound-drawn, sound-tiled, length-draw, total-decoded, sized-decoded}
+use Rattle.manager.proofs.Laws.Apart.{Well, well-decoded}
+use Rattle.manager.specs.Paged.{Kind}
+use Rattle.manager.specs.Region.{dead, kind, pagesOf, baseOf, mapAt, mapWords, segments, withSegments, addressOf}
 use Rattle.manager.specs.Sound.{Laid, Sited, sound, soundLength, inside, soundPage, liveRegion, soundRegion, soundPartition, soundAreas, soundQueue}
 use Rattle.manager.specs.declared.Manager.{Manager}
 use Rattle.manager.specs.declared.Region.{Region}
@@ -122,12 +124,12 @@ module _ (m : List ℕ) (r : Region) (s : Laid m r) where
     pub length-with : length (withSegments m r t) ≡ length m
     length-with = length-sets m (mapAt r) (draw t)
 
-    module _ (w : Well true t) where
+    module _ (w : Sized t) where
       pub segments-with : segments (withSegments m r t) r ≡ t
       segments-with = ap decode read-with ∙ reread t w
 
-      pub sited-with : Sited (withSegments m r t) r
-      sited-with =
+      pub sited-with : kind r .proper t ≡ true → Sited (withSegments m r t) r
+      sited-with o =
           record {
             laid = record {
               words = omega (arith, length-with, s .words);
@@ -136,22 +138,28 @@ module _ (m : List ℕ) (r : Region) (s : Laid m r) where
               page-high = s .page-high;
               some = s .some;
             };
-            sound = ap soundMap read-with ∙ sound-drawn t w;
+            sound = ap (soundMap (kind r .proper)) read-with ∙ sound-drawn (kind r .proper) t w o;
           }
 
 -- the segments of a live region
 module _ (m : List ℕ) (r : Region) (s : Sited m r) where
+  pub tiled-map : tiled (mapWords m r) ≡ true
+  tiled-map = sound-tiled (kind r .proper) (mapWords m r) (s .sound)
+
+  pub sized-segments : Sized (segments m r)
+  sized-segments = sized-decoded (mapWords m r) tiled-map
+
   pub well-segments : Well true (segments m r)
   well-segments = well-decoded (mapWords m r) (s .sound)
 
   pub total-segments : total (segments m r) ≡ pagesOf r
-  total-segments = total-decoded (mapWords m r) (s .sound) ∙ map-long m r (s .laid)
+  total-segments = total-decoded (mapWords m r) tiled-map ∙ map-long m r (s .laid)
 
   -- drawn again, they leave the memory as it was
   pub same-segments : withSegments m r (segments m r) ≡ m
   same-segments =
       with-is m r (s .laid) (segments m r) total-segments
-      ∙ ap (λ (w : List ℕ). take (mapAt r) m ++ (w ++ drop (mapAt r + pagesOf r) m)) (redraw (mapWords m r) (s .sound))
+      ∙ ap (λ (w : List ℕ). take (mapAt r) m ++ (w ++ drop (mapAt r + pagesOf r) m)) (redraw (mapWords m r) tiled-map)
       ∙ ap (λ (w : List ℕ). take (mapAt r) m ++ (mapWords m r ++ w)) (sym (drop-drop (pagesOf r) (mapAt r) m))
       ∙ ap (λ (w : List ℕ). take (mapAt r) m ++ w) (take-append-drop (pagesOf r) (drop (mapAt r) m))
       ∙ take-append-drop (mapAt r) m

@@ -8,7 +8,7 @@ use Prim.Native.Nat.{ℕ, _+_, _≤_, _<_}
 use native.Mathlib.Omega.{arith}
 use lib.ListN.{length}
 use Rattle.manager.specs.Lists.{any}
-use Rattle.manager.specs.Map.{Segment, isHeldSegment, draw, decode, freeSizes, heldSizes}
+use Rattle.manager.specs.Map.{Segment, isHeldSegment, draw, decode, soundMap, freeSizes, heldSizes}
 use Rattle.manager.specs.Paged.{Kind, free+}
 use Rattle.manager.specs.declared.Place.{Place}
 use Rattle.manager.specs.declared.Place.the-variants.{At, Nowhere}
@@ -48,12 +48,11 @@ pub record Lawful (K : Kind) (R : Reading) : Type 0 where
   -- a new region's map, in which whoever asks for no more than its pages is served; and the words of a map
   pub new : (n : ℕ) → Drawing R n [] (free+ n [])
   pub new-serves : (n j : ℕ) → 0 < j → R .rounded j ≤ n → (p : ℕ) × Serves R n [] (R .rounded j) p
-  pub sound : {n : ℕ} {l : List Loan} {s : List Segment} → Drawing R n l s → K .sound (draw s) ≡ true
+  pub sound : {n : ℕ} {l : List Loan} {s : List Segment} → Drawing R n l s → soundMap (K .proper) (draw s) ≡ true
   pub reads : {n : ℕ} {l : List Loan} {s : List Segment} → Drawing R n l s → decode (draw s) ≡ s
   pub size : {n : ℕ} {l : List Loan} {s : List Segment} → Drawing R n l s → length (draw s) ≡ n
   -- a sound map is drawn from the loans that its held segments are
-  pub loans : (ws : List ℕ) → K .sound ws ≡ true → Drawing R (length ws) (loansOf 0 (decode ws)) (decode ws)
-  pub redraw : (ws : List ℕ) → K .sound ws ≡ true → ws ≡ draw (decode ws)
+  pub loans : (ws : List ℕ) → soundMap (K .proper) ws ≡ true → Drawing R (length ws) (loansOf 0 (decode ws)) (decode ws)
   -- its counts
   pub held-pages : {n : ℕ} {l : List Loan} {s : List Segment} → Drawing R n l s → heldSizes s ≡ loanPages l
   pub free-runs : {n : ℕ} {l : List Loan} {s : List Segment} → Drawing R n l s → freeSizes s ≡ R .runs n l

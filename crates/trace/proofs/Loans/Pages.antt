@@ -8,8 +8,7 @@ use native.Mathlib.Omega.{arith}
 use lib.ListN.{length}
 use Rattle.manager.specs.Lists.{any}
 use Rattle.manager.specs.Map.{Segment, isHeldSegment, draw, decode, soundMap, freeSizes, heldSizes}
-use Rattle.manager.proofs.Laws.Map.{redraw}
-use Rattle.manager.specs.Paged.{paged, kindOf, placeFrom, allocate, heldFrom, reachFrom, changeFrom}
+use Rattle.manager.specs.Paged.{apart, paged, kindOf, placeFrom, allocate, heldFrom, reachFrom, changeFrom}
 use Rattle.manager.specs.declared.Order.{Order}
 use Rattle.manager.specs.declared.Place.{Place}
 use Rattle.trace.specs.Loans.{Loan, amend, Lent, Run, loanPages, sum, Held}
@@ -50,7 +49,7 @@ module _ {n : ℕ} {l : List Loan} {s : List Segment} (d : Drawing pages n l s) 
   returned : (p m : ℕ) → Lent l p m → Drawing pages n (amend p 0 l) (changeFrom p 0 0 s)
   returned p m x = changed p m 0 x (omega arith)
 
-  sound : soundMap (draw s) ≡ true
+  sound : soundMap apart (draw s) ≡ true
   sound = rw (d .is) (words.sound n 0 l (d .fits))
 
   reads : decode (draw s) ≡ s
@@ -97,7 +96,6 @@ paged-lawful =
       reads = reads;
       size = size;
       loans = λ ws e. let i = words.sound-loans ws e in record { fits = i .ordered; is = i .drawing };
-      redraw = λ ws e. sym (redraw ws e);
       held-pages = held-pages;
       free-runs = free-runs;
       counted = counted;

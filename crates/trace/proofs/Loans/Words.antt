@@ -9,8 +9,9 @@ use native.Mathlib.Omega.{arith}
 use lib.ListN.{length}
 use Rattle.manager.specs.Lists.{any}
 use Rattle.manager.specs.Map.{Segment, free, held, isHeldSegment, draw, decode, soundMap, freeSizes, heldSizes, total}
-use Rattle.manager.proofs.Laws.Map.{Well, sound-drawn, reread, well-decoded, length-draw, total-decoded}
-use Rattle.manager.specs.Paged.{free+}
+use Rattle.manager.proofs.Laws.Map.{sound-tiled, reread, length-draw, total-decoded}
+use Rattle.manager.proofs.Laws.Apart.{Well, well-sized, well-drawn, well-decoded}
+use Rattle.manager.specs.Paged.{apart, free+}
 use Rattle.manager.proofs.Laws.Paged.{free-join, total-free, well-free, free-front}
 use Rattle.trace.specs.Loans.{Loan, loan, loanPages, sum}
 use Rattle.trace.specs.Pages.{runs, size+, run+, drawn, Ordered, upTo}
@@ -31,11 +32,11 @@ total-drawn n at (loan a k ∷ l) o =
     rw (drawn-next n at (loan a k ∷ l)) (omega (arith, total-free (a - at) (held k ∷ drawn n (a + k) l), total-drawn n (a + k) l (o .2)))
 
 -- THE MAP IS SOUND, READS AS IT WAS DRAWN, AND HAS A WORD FOR EACH PAGE
-pub sound : (n at : ℕ) (l : List Loan) → Ordered n at l → soundMap (draw (drawn n at l)) ≡ true
-sound n at l o = sound-drawn (drawn n at l) (well n at l o)
+pub sound : (n at : ℕ) (l : List Loan) → Ordered n at l → soundMap apart (draw (drawn n at l)) ≡ true
+sound n at l o = well-drawn (drawn n at l) (well n at l o)
 
 pub reads : (n at : ℕ) (l : List Loan) → Ordered n at l → decode (draw (drawn n at l)) ≡ drawn n at l
-reads n at l o = reread (drawn n at l) (well n at l o)
+reads n at l o = reread (drawn n at l) (well-sized true (drawn n at l) (well n at l o))
 
 pub size : (n : ℕ) (l : List Loan) → Ordered n 0 l → length (draw (drawn n 0 l)) ≡ n
 size n l o = omega (arith, length-draw (drawn n 0 l), total-drawn n 0 l o)
@@ -146,5 +147,5 @@ loans-of n at before (held k ∷ s) w e =
     }
 
 -- EVERY SOUND MAP IS DRAWN FROM LOANS
-pub sound-loans : (ws : List ℕ) → soundMap ws ≡ true → Loans (length ws) 0 (decode ws) (loansOf 0 (decode ws))
-sound-loans ws e = loans-of (length ws) 0 true (decode ws) (well-decoded ws e) (omega (arith, total-decoded ws e))
+pub sound-loans : (ws : List ℕ) → soundMap apart ws ≡ true → Loans (length ws) 0 (decode ws) (loansOf 0 (decode ws))
+sound-loans ws e = loans-of (length ws) 0 true (decode ws) (well-decoded ws e) (omega (arith, total-decoded ws (sound-tiled apart ws e)))

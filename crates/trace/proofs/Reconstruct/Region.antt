@@ -11,8 +11,10 @@ use lib.Dec.{eqb, leb}
 use borrow.Author.Tests.{eqb-true, eqb-false, leb-true}
 use Rattle.manager.proofs.Laws.Lists.{and-first, and-second}
 use Rattle.manager.specs.Map.{soundMap, draw}
+use Rattle.manager.specs.Paged.{Kind}
+use Rattle.manager.proofs.Laws.Map.{redraw, sound-tiled}
 use Rattle.manager.specs.Record.{noRegion}
-use Rattle.manager.specs.Region.{dead, pagesOf, baseOf, mapWords, segments}
+use Rattle.manager.specs.Region.{dead, kind, pagesOf, baseOf, mapWords, segments}
 use Rattle.manager.specs.Sound.{inside, soundPage, isFifo, emptyRegion, liveRegion, soundRegion}
 use Rattle.manager.specs.declared.Region.{Region}
 use Rattle.manager.specs.declared.Order.{Order}
@@ -32,13 +34,13 @@ pub record RegionParts (m : List ℕ) (r : Region) : Type 0 where
   pub most : r .page ≤ 4096
   pub whole : r .page % 8 ≡ 0
   pub some-page : 1 ≤ pagesOf r
-  pub map : soundMap (mapWords m r) ≡ true
+  pub map : soundMap (kind r .proper) (mapWords m r) ≡ true
 
 pub region-parts : (m : List ℕ) (r : Region) → liveRegion m r ≡ true → RegionParts m r
 unfolding liveRegion
 region-parts m r e =
     let i = inside m (r .start) (r .length) in
-    let s = leb 1 (pagesOf r) && soundMap (mapWords m r) in
+    let s = leb 1 (pagesOf r) && soundMap (kind r .proper) (mapWords m r) in
     let e₁ = and-second i (soundPage (r .page) && s) e in
     let p = and-first (soundPage (r .page)) s e₁ in
     let p₁ = and-second (leb 8 (r .page)) (leb (r .page) 4096 && eqb (r .page % 8) 0) p in
@@ -48,8 +50,8 @@ region-parts m r e =
       least = leb-true 8 (r .page) (and-first (leb 8 (r .page)) (leb (r .page) 4096 && eqb (r .page % 8) 0) p);
       most = leb-true (r .page) 4096 (and-first (leb (r .page) 4096) (eqb (r .page % 8) 0) p₁);
       whole = eqb-true (r .page % 8) 0 (and-second (leb (r .page) 4096) (eqb (r .page % 8) 0) p₁);
-      some-page = leb-true 1 (pagesOf r) (and-first (leb 1 (pagesOf r)) (soundMap (mapWords m r)) e₂);
-      map = and-second (leb 1 (pagesOf r)) (soundMap (mapWords m r)) e₂;
+      some-page = leb-true 1 (pagesOf r) (and-first (leb 1 (pagesOf r)) (soundMap (kind r .proper) (mapWords m r)) e₂);
+      map = and-second (leb 1 (pagesOf r)) (soundMap (kind r .proper) (mapWords m r)) e₂;
     }
 
 -- the entry of a region, and of a slot
@@ -106,7 +108,7 @@ is-region m e n q l h s =
       placed = s ∙ ap (atAddresses e) (sym s′);
       fits = subst (reading e .Fits (pagesIn e)) (sym s′) (subst (λ (k : ℕ). reading e .Fits k l′) z (x .fits));
       map =
-          law e .redraw ws (q .map) ∙ ap draw (x .is)
+          sym (redraw ws (sound-tiled (kind (regionFor e) .proper) ws (q .map))) ∙ ap draw (x .is)
           ∙ ap (λ (k : ℕ). draw (reading e .drawn k l′)) z
           ∙ ap (λ (j : List Loan). draw (reading e .drawn (pagesIn e) j)) (sym s′);
     }

@@ -1,12 +1,14 @@
--- `take` meets its contract: a search, and then the act where it found room. Assumes nothing.
+-- `allocate` meets its contract: a search, and then the act where it found room. Assumes nothing.
 use mathlib.Core.Path.{sym, _∙_}
+use Rattle.manager.specs.Paged.{apart}
+use Rattle.manager.proofs.Laws.Map.{sound-tiled}
 use Rattle.segments.proofs.Lend.{untaken}
 use borrow.Author.Needs.{needs}
-use Rattle.segments.proofs.map_words.take.Statement.{statement}
-use Rattle.segments.proofs.map_words.take.Tie as tie
+use Rattle.segments.proofs.map_words.allocate.Statement.{statement}
+use Rattle.segments.proofs.map_words.allocate.Tie as tie
 
 find-requires : tie.Need-find-requires
-find-requires c κs = search needs
+find-requires c κs = search (needs, sound-tiled)
 
 enum-told : tie.Need-enum-told
 enum-told c = search needs
@@ -25,7 +27,7 @@ same-length c = search needs
 returns : tie.Need-returns
 returns c =
     let e = sym (c .before .before .find .ensures) ∙ c .enum-told .given .1 in
-    (sym e, untaken _ _ (c .before .before .before .before .before .pre .0 .0) e)
+    (sym e, untaken _ _ (sound-tiled apart _ (c .before .before .before .before .before .pre .0 .0)) e)
 
 same-length-2 : tie.Need-same-length-2
 same-length-2 c = search needs
@@ -35,8 +37,8 @@ returns-2 c =
     let e = sym (c .before .before .before .before .before .before .before .find .ensures) ∙ c .before .before .before .before .before .i .given .1 in
     (sym e, c .before .before .take-at .ensures)
 
-pub take-spec : {M : Type 1} → statement M
-take-spec =
+pub allocate-spec : {M : Type 1} → statement M
+allocate-spec =
     tie.close
     (tie.spec
     find-requires
