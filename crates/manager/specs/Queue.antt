@@ -15,10 +15,14 @@ use Rattle.manager.specs.declared.Order.{Order}
 use Rattle.manager.specs.declared.Order.the-variants.{Fifo, Priority}
 use Rattle.manager.specs.declared.Status.the-variants.{Timeout}
 
--- priority 1 is most urgent; equal ones go by arrival, and so do all in FIFO order
+-- whether an order goes by priority; in FIFO order all go by arrival
+abbrev pub byPriority : Order → Bool
+byPriority Fifo = false
+byPriority Priority = true
+
+-- priority 1 is most urgent; equal ones go by arrival
 abbrev pub urgent : Order → ℕ → ℕ → Bool
-urgent Fifo p q = false
-urgent Priority p q = ltb p q
+urgent o p q = byPriority o && ltb p q
 
 -- whether a waiter w of a region of order o goes before x: x is an unused place, of a later region, or less urgent
 unfoldable pub goesBefore : Order → Waiter → Waiter → Bool

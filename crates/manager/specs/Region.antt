@@ -87,6 +87,10 @@ helds m r = heldSizes (segments m r)
 abbrev pub pagesAsked : Region → ℕ → ℕ
 pagesAsked r size = kind r .rounded (pagesFor size (r .page))
 
+-- whether it could serve k pages with nothing held
+abbrev pub servable : Region → ℕ → Bool
+servable r k = leb k (pagesOf r)
+
 -- where k pages of it are placed, and the memory after they are taken there
 abbrev pub placed : List ℕ → Region → ℕ → Place
 placed m r k = kind r .place k (segments m r)

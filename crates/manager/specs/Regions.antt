@@ -9,7 +9,7 @@ use Rattle.manager.specs.Record.{slots, tasks, noRegion, noInformation, 
 use Rattle.manager.specs.Result.{Result, Check, check, checked, refused, done, replied}
 use Rattle.manager.specs.Lists.{any, indexOf}
 use Rattle.manager.specs.Map.{largestOf, sumOf}
-use Rattle.manager.specs.Region.{dead, pagesOf, addressOf, opened, heldAt, roomAt, changed, anyHeld, frees, helds, pagesAsked, placed, taken, areas, overlap}
+use Rattle.manager.specs.Region.{dead, pagesOf, addressOf, opened, heldAt, roomAt, changed, anyHeld, frees, helds, pagesAsked, servable, placed, taken, areas, overlap}
 use Rattle.manager.specs.Queue.{enqueue, waiting, leaving, afterTick}
 use Rattle.manager.specs.Serve.{onPlace, serve, fromServed}
 use Rattle.manager.specs.Sound.{sound}
@@ -102,7 +102,7 @@ getSegment m d id size wait task priority ticks =
     answered m d
     (check (eqb size 0) InvalidSize
     ∷ check (dead r) InvalidId
-    ∷ check (ltb (pagesOf r) k) InvalidSize
+    ∷ check (not (servable r k)) InvalidSize
     ∷ waitChecks d wait task priority)
     (onPlace (placed m r k) (λ p. done (taken m r k) d (addressOf r p))
     (unplaced m d wait (record { task = task; region = id; size = size; priority = priority; ticks = ticks })))

@@ -9,7 +9,7 @@ use Rattle.manager.specs.Record.{tasks, mostWords, regionOf}
 use Rattle.manager.specs.Lists.{every, pairwise, adjacent}
 use Rattle.manager.specs.Map.{soundMap}
 use Rattle.manager.specs.Paged.{Kind}
-use Rattle.manager.specs.Region.{dead, kind, pagesOf, mapWords, anyHeld, pagesAsked, areas, overlap}
+use Rattle.manager.specs.Region.{dead, kind, pagesOf, mapWords, anyHeld, pagesAsked, servable, areas, overlap}
 use Rattle.manager.specs.Partition.{deadPartition, soundChain}
 use Rattle.manager.specs.Queue.{goesBefore}
 use Rattle.manager.specs.declared.Manager.{Manager}
@@ -85,7 +85,7 @@ soundWaiter m d w =
     && (not (dead r)
     && (anyHeld m r
     && (leb 1 (w .size)
-    && (leb (pagesAsked r (w .size)) (pagesOf r)
+    && (servable r (pagesAsked r (w .size))
     && (leb 1 (w .priority) && leb (w .priority) 255)))))
 
 unfoldable pub soundPlace : List ℕ → Manager → Waiter → Bool

@@ -2,7 +2,7 @@
 -- Assumes nothing.
 use Prim.Native.Nat.{ℕ, zero, suc, _+_, _-_, _/_, _%_, _≤_, _<_}
 use mathlib.Core.Path.{_≡_, refl, sym, ap, _∙_}
-use mathlib.Core.Bool.{Bool, true, false, _&&_, _||_}
+use mathlib.Core.Bool.{Bool, true, false, _&&_, _||_, and-false}
 use mathlib.Core.List.{List, [], _∷_}
 use native.Mathlib.Numerals.{sub-one}
 use native.Mathlib.Omega.{arith}
@@ -41,11 +41,7 @@ one-held (suc (suc m)) n p q ne = absurd (omega arith)
 none-held : (m n : ℕ) → m + n ≡ 0 → (eqb m 1 || eqb n 1) ≡ false
 none-held m n e = rw (ne-eqb m 1 (λ k. omega arith), ne-eqb n 1 (λ k. omega arith))
 
--- a test behind one that fails, or between two
-and-no : (a : Bool) → (a && false) ≡ false
-and-no true = refl
-and-no false = refl
-
+-- a test between two that holds
 and-yes : (a b c : Bool) → b ≡ true → (a && (b && c)) ≡ (a && c)
 and-yes a b c e = rw e
 
@@ -62,7 +58,7 @@ module _ (b w : ℕ) (ws : List ℕ) where
   first-is h = rw (le-leb 2 w h, decode-start w ws (omega arith), held-of w)
 
   first-free : 2 ≤ w → b + w % 2 ≡ 0 → soundFrom 0 (eqb b 1) (w ∷ ws) ≡ false
-  first-free h e = first-is h ∙ rw (none-held b (w % 2) e) (and-no (tiledFrom (w / 2 - 1) ws))
+  first-free h e = first-is h ∙ rw (none-held b (w % 2) e) (and-false (tiledFrom (w / 2 - 1) ws))
 
   first-good : 2 ≤ w → b < 2 → (b + w % 2 ≡ 0 → ⊥) → soundFrom 0 (eqb b 1) (w ∷ ws) ≡ soundFrom (w / 2 - 1) (eqb (w % 2) 1) ws
   first-good h k e = first-is h ∙ and-yes (tiledFrom (w / 2 - 1) ws) _ _ (one-held b (w % 2) k (omega arith) e)

@@ -5,7 +5,7 @@ use mathlib.Core.Path.{_≡_, sym, _∙_}
 use mathlib.Core.Bool.{Bool, true, false}
 use mathlib.Core.List.{List, []}
 use native.Mathlib.Omega.{arith}
-use borrow.Author.Tests.{eq-eqb, ne-eqb, lt-ltb, le-ltb, not-true, not-false}
+use borrow.Author.Tests.{eq-eqb, ne-eqb, lt-leb, le-leb, not-true, not-false}
 use Rattle.manager.specs.Record.{regionOf}
 use Rattle.manager.specs.Result.{Result, Performs, checked, answerOf, replied, refused, done}
 use Rattle.manager.proofs.Laws.Result.{performs-by, performs-replied}
@@ -80,13 +80,13 @@ module _ (m : List ℕ) (d : Manager) (id size : ℕ) (wait : Wait) (task priori
       module _ (l : r .name ≡ 0 → ⊥) (k : ℕ) (ek : k ≡ pagesAsked r size) (n : ℕ) (en : n ≡ pagesOf r) where
         pub get-large : n < k → Gets ≡ refused m d InvalidSize
         unfolding getSegment checked
-        get-large h = rw (← eb, s, ne-eqb _ _ z, ← er, ne-eqb _ _ l, ← ek, ← en, lt-ltb _ _ h)
+        get-large h = rw (← eb, s, ne-eqb _ _ z, ← er, ne-eqb _ _ l, ← ek, ← en, lt-leb k n h)
 
         module _ (h : k ≤ n) (v : Verdict) (ev : v ≡ verdictOf (waitChecks d wait task priority)) where
           get-is : Gets ≡ onVerdict v (refused m d) (Placed m d r k wait waiter)
           unfolding getSegment checked
           get-is =
-              rw (← eb, s, ne-eqb _ _ z, ← er, ne-eqb _ _ l, ← ek, le-ltb (pagesOf r) k (omega arith), ev)
+              rw (← eb, s, ne-eqb _ _ z, ← er, ne-eqb _ _ l, ← ek, le-leb k (pagesOf r) (omega arith), ev)
               (checked-all (waitChecks d wait task priority) (refused m d) (Placed m d r k wait waiter))
 
           pub get-refused : (st : Status) → v ≡ Bad st → Gets ≡ refused m d st

@@ -14,13 +14,12 @@ use lib.Seq.{getD-set-same, getD-set-other}
 use Rattle.arith.specs.Layout.{pageCount}
 use Rattle.manager.specs.Lists.{every, pairwise, adjacent}
 use Rattle.manager.proofs.Laws.Lists.{and-first, and-second, rest-cons}
-use Rattle.manager.specs.Queue.{urgent, goesBefore}
+use Rattle.manager.specs.Queue.{byPriority, urgent, goesBefore}
 use Rattle.manager.specs.Record.{slots, tasks, slotOf, noRegion, noWaiter, regionOf}
 use Rattle.manager.specs.Region.{dead, anyHeld, pagesOf}
 use Rattle.manager.specs.Sound.{unused, emptyWaiter, soundWaiter, soundPlace, otherTask, inOrder, soundQueue}
 use Rattle.manager.specs.declared.Manager.{Manager}
 use Rattle.manager.specs.declared.Order.{Order}
-use Rattle.manager.specs.declared.Order.the-variants.{Fifo, Priority}
 use Rattle.manager.specs.declared.Region.{Region}
 use Rattle.manager.specs.declared.Waiter.{Waiter}
 use Rattle.soundness.specs.Waiters.{queueOf, factsOf, noFacts, frontWaiter, soundRequest, soundIn}
@@ -163,8 +162,7 @@ module _ (m : List ℕ) (d : Manager) (seen : List Bool) where
 -- THE START: nobody was met, and no waiter goes before the one in front
 module _ (m : List ℕ) (d : Manager) where
   front-urgent : (o : Order) (p : ℕ) → urgent o p 0 ≡ false
-  front-urgent Fifo p = refl
-  front-urgent Priority p = le-ltb p 0 (omega arith)
+  front-urgent o p = rw (le-ltb p 0 (omega arith)) (and-false (byPriority o))
 
   front-order : (x : Waiter) → inOrder d frontWaiter x ≡ true
   unfolding goesBefore

@@ -11,7 +11,7 @@ use Rattle.manager.specs.declared.Place.{Place}
 use Rattle.manager.specs.declared.Place.the-variants.{At, Nowhere}
 use Rattle.trace.specs.Loans.{Loan, loan, Lent, enter, amend, inPages}
 use Rattle.trace.specs.Reading.{NoPlace}
-use Rattle.trace.specs.Receipts.{RegionEntry, unit, reading, pagesOver, pagesIn, firstIn, addressIn, pageIn, byPage, pageLoans, withLoans}
+use Rattle.trace.specs.Receipts.{RegionEntry, unit, reading, pagesOver, Servable, pagesIn, firstIn, addressIn, pageIn, byPage, pageLoans, withLoans}
 use Rattle.trace.specs.Replies.{pagesAt, placeIn, mostIn}
 use Rattle.trace.specs.Claims.{Full, Takes}
 use Rattle.trace.proofs.Invariant.{atAddresses, RegionIs}
@@ -130,7 +130,7 @@ module _ (e : RegionEntry) (g : Regular e) where
       go (nowhere h) = full h
 
   -- a region that is full for a get that asks for no more than its pages has a loan
-  pub full-lends : (size : ℕ) → 0 < size → pagesOver e size ≤ pagesIn e → Full e (e .loans) size → ¬ (e .loans ≡ [])
+  pub full-lends : (size : ℕ) → 0 < size → Servable e size → Full e (e .loans) size → ¬ (e .loans ≡ [])
   unfolding inPages
   full-lends size z h f n =
       let s = law e .new-serves (pagesIn e) (pagesFor size (unit e)) (pages-some size (unit e) (g .some-unit) z) h in

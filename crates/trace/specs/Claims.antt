@@ -24,7 +24,7 @@ use Rattle.manager.specs.declared.Status.the-variants.{Successful, Unsatisfied,
 use Rattle.manager.specs.Lists.{In, Distinct}
 use Rattle.trace.specs.Loans.{Loan, Lent, loanPages, sum, enter, amend}
 use Rattle.trace.specs.Reading.{NoPlace}
-use Rattle.trace.specs.Receipts.{reading, pagesOver, Receipts, RegionEntry, PartitionEntry, Wait, replyOf, isSuccess, unit, pagesIn, addressIn, pageIn, byPage, pageLoans, buffersIn, buffersFrom}
+use Rattle.trace.specs.Receipts.{reading, pagesOver, Servable, Receipts, RegionEntry, PartitionEntry, Wait, replyOf, isSuccess, unit, pagesIn, addressIn, pageIn, byPage, pageLoans, buffersIn, buffersFrom}
 use Rattle.trace.specs.Queue.{queueOf, inLine, dueIn}
 use Rattle.trace.specs.Replies.{informationIn, grantTo, byReceipts, writeByReceipts, readByReceipts}
 use Rattle.trace.specs.Trace.{Ask, call, read, write, State, answer, answerWrite, after, Object, Loaned, Owned, Runs, start}
@@ -83,10 +83,10 @@ pub record RegionClaims (i : Implementation) (s : State) (id : ℕ) (e : RegionE
   pub counted : sum (loanPages (e .loans)) + freePages (decode (mapIn (s .memory) e)) ≡ pagesIn e
   -- "A get is valid if its checks ahead of 13, the one for 25 aside, refuse nothing": one that won't wait is answered 13 exactly when no
   -- place would serve it: no run of adjoining unheld pages is long enough
-  pub unsatisfied : (size task priority ticks : ℕ) → 0 < size → pagesOver e size ≤ pagesIn e
+  pub unsatisfied : (size task priority ticks : ℕ) → 0 < size → Servable e size
       → (answer i s (GetSegment id size No task priority ticks) .status ≡ Unsatisfied) ↔ Full e (e .loans) size
   -- else the address is that of the place that its region's kind chooses: of pages, the lowest that fits
-  pub lowest : (size task priority ticks : ℕ) → 0 < size → pagesOver e size ≤ pagesIn e
+  pub lowest : (size task priority ticks : ℕ) → 0 < size → Servable e size
       → (answer i s (GetSegment id size No task priority ticks) .status ≡ Unsatisfied)
       ⊎ ((p : ℕ) × Takes e (e .loans) size p
       × (answer i s (GetSegment id size No task priority ticks) .status ≡ Successful)

@@ -6,9 +6,10 @@ use mathlib.Core.Option.{Option, none, some}
 use Prim.Native.Nat.{ℕ, _+_}
 use lib.Dec.{eqb, ltb}
 use Rattle.manager.specs.Record.{slotOf}
+use Rattle.manager.specs.Queue.{byPriority}
 use Rattle.manager.specs.declared.Notice.{Notice}
 use Rattle.manager.specs.declared.Order.{Order}
-use Rattle.manager.specs.declared.Order.the-variants.{Fifo, Priority}
+use Rattle.manager.specs.declared.Order.the-variants.{Fifo}
 use Rattle.manager.specs.declared.Status.the-variants.{Timeout}
 use Rattle.trace.specs.Receipts.{Receipts, RegionEntry, Wait}
 
@@ -24,8 +25,7 @@ module _ {A : Type 0} (before : A → A → Bool) where
 
 -- THE QUEUE OF A REGION: its waits by arrival, or by priority ("1 is most urgent") and equal ones by arrival
 abbrev pub rank : Order → Wait → ℕ
-rank Fifo w = 0
-rank Priority w = w .priority
+rank o w = cond (byPriority o) (w .priority) 0
 
 abbrev pub urgentThan : Order → Wait → Wait → Bool
 urgentThan o w x = ltb (rank o w) (rank o x)

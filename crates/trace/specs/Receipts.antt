@@ -3,8 +3,8 @@
 use mathlib.Core.Bool.{Bool, cond}
 use mathlib.Core.List.{List, [], _∷_, _++_}
 use mathlib.Core.Option.{Option, none, some}
-use Prim.Native.Nat.{ℕ, zero, suc, _+_, _-_, _*_, _/_}
-use lib.Dec.{eqb}
+use Prim.Native.Nat.{ℕ, zero, suc, _+_, _-_, _*_, _/_, _≤_}
+use lib.Dec.{eqb, leb}
 use Rattle.arith.specs.Round.{roundUp, pagesFor}
 use Rattle.arith.specs.Layout.{pageCount, firstPage}
 use Rattle.manager.specs.Status.{numberOf}
@@ -78,6 +78,13 @@ reading e = readingOf (e .order)
 
 abbrev pub pagesOver : RegionEntry → ℕ → ℕ
 pagesOver e size = reading e .rounded (pagesFor size (unit e))
+
+-- whether it could serve so many bytes with nothing held, as a test and as a claim says it
+abbrev pub servableIn : RegionEntry → ℕ → Bool
+servableIn e size = leb (pagesOver e size) (pagesIn e)
+
+abbrev pub Servable : RegionEntry → ℕ → Type 0
+Servable e size = pagesOver e size ≤ pagesIn e
 
 -- loans at addresses of a region, by their pages; and all its loans so
 abbrev pub byPage : RegionEntry → List Loan → List Loan

@@ -22,7 +22,7 @@ use Rattle.manager.specs.declared.Wait.the-variants.{No, Yes}
 use Rattle.manager.specs.declared.Status.{Status}
 use Rattle.manager.specs.declared.Status.the-variants.{Successful, InvalidName, InvalidId, TooMany, InvalidSize, InvalidAddress, InvalidNumber, ResourceInUse, Unsatisfied, IncorrectState, InvalidPriority, Waiting}
 use Rattle.trace.specs.Loans.{Loan, loan, loanPages, most, sum, enter, amend}
-use Rattle.trace.specs.Receipts.{Receipts, RegionEntry, Wait, Reply, unit, reading, pagesOver, pagesIn, addressIn, pageIn, byPage, pageLoans}
+use Rattle.trace.specs.Receipts.{Receipts, RegionEntry, Wait, Reply, unit, reading, pagesOver, servableIn, pagesIn, addressIn, pageIn, byPage, pageLoans}
 use Rattle.trace.specs.Queue.{queueOf, inLine, dueIn}
 
 -- INFORMATION BY THE RECEIPTS: count, largest and total bytes over the runs of unheld pages, then over the loans
@@ -196,7 +196,7 @@ byReceipts n t (DeleteRegion id) =
 byReceipts n t (GetSegment id size wait task priority ticks) =
     decided (check (eqb size 0) InvalidSize ∷ [])
     (living (t .regions id) (λ e.
-    decided (check (ltb (pagesIn e) (pagesOver e size)) InvalidSize ∷ waitingChecks t wait task priority)
+    decided (check (not (servableIn e size)) InvalidSize ∷ waitingChecks t wait task priority)
     (onPlace (placeIn e (e .loans) size) (λ p. yes (addressIn e p)) (noPlace wait))))
 -- return: 4, 9; then the queue is served
 byReceipts n t (ReturnSegment id a) =

@@ -1,7 +1,7 @@
 -- The order of all waits is strict: by slot, within a region by its order, and those alike by arrival. So a region's queue is what the line
 -- of all waits has of it. Assumes nothing.
 use mathlib.Core.Path.{_≡_, refl, sym, ap, _∙_}
-use mathlib.Core.Bool.{Bool, true, false, _&&_, _||_}
+use mathlib.Core.Bool.{Bool, true, false, cond, _&&_, _||_}
 use mathlib.Core.List.{List, [], _∷_}
 use mathlib.Core.Logic.{_⊎_, inl, inr, _↔_}
 use mathlib.Core.Option.{Option, some}
@@ -10,9 +10,8 @@ use native.Mathlib.Omega.{arith}
 use lib.Dec.{ltb, eqb}
 use borrow.Author.Tests.{ltb-true, ltb-false, eqb-true, eqb-false, lt-ltb, le-ltb, eq-eqb, ne-eqb}
 use Rattle.manager.specs.Record.{slotOf}
-use Rattle.manager.specs.Queue.{urgent, goesBefore}
+use Rattle.manager.specs.Queue.{byPriority, urgent, goesBefore}
 use Rattle.manager.specs.declared.Order.{Order}
-use Rattle.manager.specs.declared.Order.the-variants.{Fifo, Priority}
 use Rattle.manager.proofs.Laws.Appended.{by-case}
 use Rattle.manager.specs.Lists.{In}
 use Rattle.trace.specs.Receipts.{Receipts, RegionEntry, Wait}
@@ -121,11 +120,11 @@ module _ (o : ℕ → Order) where
       rw (ne-eqb (x .task) 0 (λ e. omega arith), slot-before (w .id) (x .id) i j, slot-same (w .id) (x .id) i j)
       (ap (λ b. ltb (w .id) (x .id) || b)
       (by-eqb (w .id) (x .id) (λ b. (b && urgent (o (w .id)) (w .priority) (x .priority)) ≡ (b && ltb (ranked w) (ranked x)))
-      (λ e. urgent-rank (o (w .id)) ∙ ap (λ (i : ℕ). ltb (ranked w) (rank (o i) x)) e) (λ e. refl)))
+      (λ e. urgent-rank (byPriority (o (w .id))) ∙ ap (λ (i : ℕ). ltb (ranked w) (rank (o i) x)) e) (λ e. refl)))
     where
-      urgent-rank : (r : Order) → urgent r (w .priority) (x .priority) ≡ urgentThan r w x
-      urgent-rank Fifo = refl
-      urgent-rank Priority = refl
+      urgent-rank : (b : Bool) → (b && ltb (w .priority) (x .priority)) ≡ ltb (cond b (w .priority) 0) (cond b (x .priority) 0)
+      urgent-rank false = refl
+      urgent-rank true = refl
 
 -- THE WAITS OF ONE REGION
 pub waits-keep : (id : ℕ) (ws : List Wait) → waitsIn id ws ≡ keep (λ w. eqb (w .id) id) ws

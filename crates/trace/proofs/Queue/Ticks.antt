@@ -18,7 +18,6 @@ use Rattle.manager.proofs.Laws.Queue.{told-pad, tick-pad}
 use Rattle.manager.specs.declared.Manager.{Manager}
 use Rattle.manager.specs.declared.Waiter.{Waiter}
 use Rattle.manager.specs.declared.Order.{Order}
-use Rattle.manager.specs.declared.Order.the-variants.{Fifo, Priority}
 use Rattle.manager.specs.declared.Status.the-variants.{Timeout}
 use Rattle.manager.proofs.Laws.Appended.{by-case}
 use Rattle.manager.specs.Lists.{In, Distinct}
@@ -91,8 +90,7 @@ line-later lt h q [] = refl
 line-later lt h q (w ∷ ws) = ap (λ (l : List Wait). insertAll lt l (allLater ws)) (insert-later lt h w q) ∙ line-later lt h (insertBy lt w q) ws
 
 rank-later : (r : Order) (w : Wait) → rank r (later w) ≡ rank r w
-rank-later Fifo w = refl
-rank-later Priority w = refl
+rank-later r w = refl
 
 stands-later : (o : ℕ → Order) (x y : Wait) → standsBefore o (later x) (later y) ≡ standsBefore o x y
 unfolding standsBefore

@@ -16,7 +16,7 @@ use Rattle.manager.proofs.Laws.Lists.{and-first, and-second}
 use Rattle.manager.specs.Map.{Segment, free, held, isHeldSegment}
 use Rattle.manager.specs.Record.{slots, tasks, noWaiter, regionOf}
 use Rattle.manager.specs.Paged.{kindOf}
-use Rattle.manager.specs.Region.{baseOf, dead, pagesOf, pagesAsked, anyHeld, segments}
+use Rattle.manager.specs.Region.{baseOf, dead, pagesOf, pagesAsked, servable, anyHeld, segments}
 use Rattle.manager.specs.Queue.{goesBefore}
 use Rattle.manager.specs.Sound.{unused, soundWaiter, soundPlace, otherTask, inOrder, soundRegion}
 use Rattle.manager.proofs.Laws.Sound.{live-of}
@@ -140,7 +140,7 @@ waiter-parts m d w e f =
     let a = not (dead r) in
     let h = anyHeld m r in
     let s = leb 1 (w .size) in
-    let u = leb (pagesAsked r (w .size)) (pagesOf r) in
+    let u = servable r (pagesAsked r (w .size)) in
     let p = leb 1 (w .priority) in
     let q = leb (w .priority) 255 in
     let g₁ = and-second t (a && (h && (s && (u && (p && q))))) g in

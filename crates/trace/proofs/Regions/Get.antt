@@ -5,7 +5,7 @@ use mathlib.Core.List.{List, [], _∷_, _++_}
 use mathlib.Core.Option.{some}
 use Prim.Native.Nat.{ℕ, _≤_, _<_}
 use native.Mathlib.Omega.{arith}
-use borrow.Author.Tests.{eqb-false, ltb-false}
+use borrow.Author.Tests.{eqb-false, ltb-false, leb-true, not-false}
 use Rattle.manager.specs.Record.{tasks, regionOf}
 use Rattle.manager.specs.Result.{Result, done, replied}
 use Rattle.manager.specs.Lists.{every}
@@ -24,7 +24,7 @@ use Rattle.manager.specs.declared.Call.the-variants.{GetSegment}
 use Rattle.manager.specs.declared.Status.the-variants.{Successful, Unsatisfied, Waiting}
 use Rattle.manager.proofs.Laws.Result.{Passed}
 use Rattle.trace.specs.Loans.{Loan, enter}
-use Rattle.trace.specs.Receipts.{Receipts, RegionEntry, Wait, pagesIn, addressIn, lend, pagesOver}
+use Rattle.trace.specs.Receipts.{Receipts, RegionEntry, Wait, addressIn, lend, pagesOver, Servable}
 use Rattle.trace.specs.Claims.{Full}
 use Rattle.trace.proofs.Invariant.{regionFor, RegionIs, WaitIs, Inv, with-waits}
 use Rattle.trace.proofs.Segments.{regular, full-lends}
@@ -52,7 +52,7 @@ module _ (m : List ℕ) (d : Manager) (t : Receipts) (v : Inv m d t) (id size : 
   abbrev waiter : Waiter
   waiter = record { task = task; region = id; size = size; priority = priority; ticks = ticks }
 
-  module _ (e : RegionEntry) (q : t .regions id ≡ some e) (is : RegionIs m e) (z : 0 < size) (h : pagesOver e size ≤ pagesIn e) where
+  module _ (e : RegionEntry) (q : t .regions id ≡ some e) (is : RegionIs m e) (z : 0 < size) (h : Servable e size) where
     -- the wait that is entered
     abbrev entry : Wait
     entry = record { task = task; id = id; size = size; priority = priority; ticks = ticks; since = 0 }
@@ -116,5 +116,5 @@ module _ (m : List ℕ) (d : Manager) (t : Receipts) (v : Inv m d t) (id size : 
       let a = shows m (s .0) (s .2 .is) .asked size in
       subst (λ (r : Region). Kept asks m t (getting m d wait waiter r (pagesAsked r size))) (sym (s .2 .region))
       (rw a (act-kept (s .0) (s .1) (s .2 .is) (let y = eqb-false size 0 (c .0) in omega arith)
-      (rw a at (subst (λ (r : Region). pagesAsked r size ≤ pagesOf r) (s .2 .region) (ltb-false (pagesOf (regionOf d id)) (pagesAsked (regionOf d id) size) (c .1 .1 .0))))
+      (rw a at (subst (λ (r : Region). pagesAsked r size ≤ pagesOf r) (s .2 .region) (leb-true (pagesAsked (regionOf d id) size) (pagesOf (regionOf d id)) (not-false _ (c .1 .1 .0)))))
       (c .1 .1 .1))))

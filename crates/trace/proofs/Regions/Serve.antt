@@ -19,7 +19,7 @@ use Rattle.manager.specs.declared.Place.{Place}
 use Rattle.manager.specs.declared.Place.the-variants.{At, Nowhere}
 use Rattle.manager.specs.declared.Notice.{Notice}
 use Rattle.trace.specs.Loans.{Loan, loan, enter}
-use Rattle.trace.specs.Receipts.{Receipts, RegionEntry, Wait, pagesIn, addressIn, lend, onRegion, update, withWaits, without, noticed, allNoticed, pagesOver, withLoans}
+use Rattle.trace.specs.Receipts.{Receipts, RegionEntry, Wait, addressIn, lend, onRegion, update, withWaits, without, noticed, allNoticed, pagesOver, Servable, withLoans}
 use Rattle.trace.specs.Queue.{queueOf}
 use Rattle.trace.specs.Replies.{grantsIn, placeIn}
 use Rattle.trace.specs.Claims.{waiterOf}
@@ -96,8 +96,8 @@ module _ (id : ℕ) (e : RegionEntry) where
         let q : update id (some (withLoans something e)) (t .regions) id ≡ some (withLoans something e) = update-here id (some (withLoans something e)) (t .regions) in
         cc
 
-    fits : pagesOver e (w .size) ≤ pagesIn e
-    fits = subst (λ (f : RegionEntry). pagesOver f (w .size) ≤ pagesIn f) (asker first-is) (first-is .size-most)
+    fits : Servable e (w .size)
+    fits = subst (λ (f : RegionEntry). Servable f (w .size)) (asker first-is) (first-is .size-most)
 
     is : RegionIs m (withLoans l e)
     is = region-is m d t l (w ∷ ws) v .is

@@ -10,7 +10,7 @@ use Prim.Native.Nat.{ℕ, _+_, _*_, _≤_, _<_}
 use native.Mathlib.Omega.{arith}
 use lib.ListN.{length}
 use lib.Dec.{leb}
-use borrow.Author.Tests.{ne-eqb, le-ltb}
+use borrow.Author.Tests.{ne-eqb, le-leb}
 use Rattle.manager.specs.Serve.{onPlace}
 use Rattle.manager.specs.declared.Call.the-variants.{GetSegment, ReturnSegment, SegmentSize, ResizeSegment, RegionInformation, GetBuffer}
 use Rattle.manager.specs.declared.Place.{Place}
@@ -18,7 +18,7 @@ use Rattle.manager.specs.declared.Wait.the-variants.{No}
 use Rattle.manager.specs.declared.Status.the-variants.{Successful, Unsatisfied}
 use Rattle.manager.specs.Lists.{In}
 use Rattle.trace.specs.Loans.{Lent, amend}
-use Rattle.trace.specs.Receipts.{Receipts, RegionEntry, PartitionEntry, Wait, Reply, unit, pagesIn, addressIn, pageIn, pageLoans, buffersIn, pagesOver, reading}
+use Rattle.trace.specs.Receipts.{Receipts, RegionEntry, PartitionEntry, Wait, Reply, unit, pagesIn, addressIn, pageIn, pageLoans, buffersIn, pagesOver, Servable, reading}
 use Rattle.trace.specs.Queue.{queueOf}
 use Rattle.trace.specs.Replies.{no, yes, tells, informs, resizes, decided, grantsIn, informationIn, front, byReceipts, placeIn, mostIn}
 use Rattle.trace.specs.Claims.{Grants, Full, Takes}
@@ -30,7 +30,7 @@ use Rattle.trace.proofs.Loans.Tests.{by-leb}
 
 module _ (n : ℕ) (t : Receipts) (id : ℕ) (e : RegionEntry) (q : t .regions id ≡ some e) (g : Regular e) where
   -- a get that won't wait
-  module _ (size task priority ticks : ℕ) (z : 0 < size) (h : pagesOver e size ≤ pagesIn e) where
+  module _ (size task priority ticks : ℕ) (z : 0 < size) (h : Servable e size) where
     abbrev at-once : Reply
     at-once = byReceipts n t (GetSegment id size No task priority ticks)
 
@@ -39,7 +39,7 @@ module _ (n : ℕ) (t : Receipts) (id : ℕ) (e : RegionEntry) (q : t .regions i
 
     get-by : at-once ≡ by-place (placeIn e (e .loans) size)
     unfolding byReceipts decided
-    get-by = rw (ne-eqb size 0 (λ (y : size ≡ 0). omega arith), q, le-ltb (pagesIn e) (pagesOver e size) h)
+    get-by = rw (ne-eqb size 0 (λ (y : size ≡ 0). omega arith), q, le-leb (pagesOver e size) (pagesIn e) h)
 
     -- 13 EXACTLY WHEN NO PLACE WOULD SERVE
     pub unsatisfied-by : (at-once .status ≡ Unsatisfied) ↔ Full e (e .loans) size

@@ -1,16 +1,16 @@
 -- What a get, a return and a tick answer, by the receipts: where the queue has a say. Assumes nothing.
 use mathlib.Core.Path.{_≡_, refl, sym, ap, _∙_, subst}
-use mathlib.Core.Bool.{true, false}
+use mathlib.Core.Bool.{true, false, not}
 use mathlib.Core.List.{List, [], _∷_}
 use mathlib.Core.Logic.{inl, inr}
 use Prim.Native.Nat.{ℕ, _-_}
 use native.Mathlib.Omega.{arith}
 use lib.ListN.{length, replicate}
-use lib.Dec.{eqb, ltb}
+use lib.Dec.{eqb}
 use borrow.Author.Tests.{eqb-true, eqb-false, eq-eqb}
 use Rattle.manager.specs.Record.{tasks, noWaiter, regionOf}
 use Rattle.manager.specs.Result.{Result, check, checked, done}
-use Rattle.manager.specs.Region.{pagesOf, addressOf, heldAt, pagesAsked, placed, taken}
+use Rattle.manager.specs.Region.{addressOf, heldAt, pagesAsked, servable, placed, taken}
 use Rattle.manager.specs.Queue.{waiting}
 use Rattle.manager.proofs.Laws.Appended.{by-case}
 use Rattle.manager.specs.Serve.{onPlace, fromServed}
@@ -98,7 +98,7 @@ module _ (m : List ℕ) (d : Manager) (t : Receipts) (v : Inv m d t) where
       answers m d _ _ _ (sound-inv m d t v)
       (agree (test refl (λ n. rest
       (at-region m d (regionOf d id) (t .regions id) (v .picture .regions id)
-      (λ r. check (ltb (pagesOf r) (pagesAsked r size)) InvalidSize ∷ waitChecks d wait task priority) (λ r. getting m d wait w r (pagesAsked r size)) _
+      (λ r. check (not (servable r (pagesAsked r size))) InvalidSize ∷ waitChecks d wait task priority) (λ r. getting m d wait w r (pagesAsked r size)) _
       (λ e is q p.
       let x = shows m e is in
       rw (x .asked size) (agree (same (wait-agree wait task priority _ _ (acted
