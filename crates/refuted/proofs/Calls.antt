@@ -1,29 +1,12 @@
 -- The calls of the lists: over a region of 3 pages of 64 bytes, at 64, 128 and 192, and over a partition of 3 buffers of 16 bytes, at 16, 32
 -- and 48. Assumes nothing.
-use Prim.Native.Nat.{ℕ, _+_}
-use Rattle.arith.specs.Layout.{largest, pageCount}
-use Rattle.manager.specs.Result.{checked}
-use Rattle.manager.specs.Lists.{every, any, indexOf, pairwise, adjacent}
-use Rattle.manager.specs.Map.{draw, decode, tiledFrom, tiled, soundMap, freeSizes, heldSizes, largestOf, sumOf, total}
-use Rattle.manager.specs.Paged.{apart, free+, lead, rest, placeFrom, allocate, heldFrom, reachFrom, changeFrom}
-use Rattle.manager.specs.Region.{regionAreas, partitionAreas}
-use Rattle.manager.specs.Queue.{goesBefore, push, insert, removeAt, enqueue, dequeue, staying, leaving, afterTick}
-use Rattle.manager.specs.Serve.{serveUpTo, serve}
-use Rattle.manager.specs.Partition.{follow, linked, linkAll, afterGet, afterReturn}
-use Rattle.manager.specs.Sound.{liveRegion, livePartition, soundRegion, soundPartition, soundWaiter, soundPlace, soundQueue, sound}
-use Rattle.manager.specs.Regions.{createRegion, deleteRegion, identRegion, getSegment, returnSegment, segmentSize, resizeSegment, regionInformation, tick}
-use Rattle.manager.specs.Partitions.{createPartition, identPartition, deletePartition, getBuffer, returnBuffer}
-use Rattle.manager.specs.Access.{readSegment, writeSegment}
-use Rattle.manager.specs.Perform.{perform}
+use Prim.Native.Nat.{ℕ}
 use Rattle.manager.specs.declared.Call.the-variants.{CreateRegion, IdentRegion, DeleteRegion, GetSegment, ReturnSegment, CreatePartition, GetBuffer, ReturnBuffer, Tick}
 use Rattle.manager.specs.declared.Order.the-variants.{Fifo}
 use Rattle.manager.specs.declared.Wait.the-variants.{No, Yes}
-use Rattle.trace.specs.Loans.{enter, amend, inPages, loanPages, most, sum}
-use Rattle.trace.specs.Pages.{runs, mostPagesAt, lowestRun, readingOf}
-use Rattle.trace.specs.Receipts.{buffersFrom, strike, allLater, without, waitOf, allNoticed, note}
-use Rattle.trace.specs.Queue.{insertBy, insertAll, waitsIn, standsBefore, dueIn}
-use Rattle.trace.specs.Replies.{decided, firstId, anyId, pagesAt, grantsIn, byReceipts}
-use Rattle.trace.specs.Trace.{Ask, call, after}
+use Rattle.manager.proofs.Computing.{maps, records, directives}
+use Rattle.trace.specs.Trace.{Ask, call}
+use Rattle.trace.proofs.Computing.{receipts}
 
 abbrev pub create : Ask
 create = call (CreateRegion 1 4 252 64 Fifo)
@@ -55,23 +38,7 @@ buffer = call (GetBuffer 1)
 abbrev pub back : ℕ → Ask
 back address = call (ReturnBuffer 1 address)
 
--- ALL THAT A LIST COMPUTES WITH: maps and checks of lists; the queue, the chain and the sound record; the directives; the receipts
-unfoldable pub maps : Unit {0}
-unfolding largest pageCount checked every any indexOf pairwise adjacent draw decode tiledFrom tiled soundMap apart freeSizes heldSizes largestOf sumOf total free+ lead rest placeFrom allocate heldFrom reachFrom changeFrom
-maps = tt
-
-unfoldable pub records : Unit {0}
-unfolding regionAreas partitionAreas goesBefore push insert removeAt enqueue dequeue staying leaving afterTick serveUpTo serve follow linked linkAll afterGet afterReturn liveRegion livePartition soundRegion soundPartition soundWaiter soundPlace soundQueue sound
-records = tt
-
-unfoldable pub directives : Unit {0}
-unfolding createRegion identRegion deleteRegion getSegment returnSegment segmentSize resizeSegment regionInformation tick createPartition identPartition deletePartition getBuffer returnBuffer readSegment writeSegment perform
-directives = tt
-
-unfoldable pub receipts : Unit {0}
-unfolding readingOf enter amend inPages loanPages runs most sum buffersFrom strike allLater without waitOf allNoticed note insertBy insertAll waitsIn standsBefore dueIn decided firstId anyId pagesAt mostPagesAt lowestRun grantsIn byReceipts after
-receipts = tt
-
+-- ALL THAT A LIST COMPUTES WITH: the definitions, and the receipts
 unfoldable pub everything : Unit {0}
 unfolding maps records directives receipts
 everything = tt

