@@ -5,15 +5,15 @@
 #include "steepleclay.h"
 
 static uint32_t memory[SC_MEMORY_WORDS];
-static sc_manager desk = {{0}, {0}, memory, SC_MEMORY_WORDS}; /* the record all zeros: fresh */
+static sc_manager manager = {{0}, {0}, memory, SC_MEMORY_WORDS}; /* the record all zeros: fresh */
 
-static uint32_t answer(uint32_t word) { return desk.answer[word]; }
+static uint32_t answer(uint32_t word) { return manager.answer[word]; }
 
 static void say(const char *what, uint32_t status)
 {
     printf("%s: status %u, value %u\n", what, (unsigned)status, (unsigned)answer(SC_ANSWER_VALUE));
     for (uint32_t i = 0; i < SC_TASKS; i++) {
-        const uint32_t *n = desk.answer + SC_ANSWER_NOTICES + i * SC_NOTICE_WORDS;
+        const uint32_t *n = manager.answer + SC_ANSWER_NOTICES + i * SC_NOTICE_WORDS;
         if (n[SC_NOTICE_TASK] == 0)
             break;
         printf("  task %u: status %u, address %u\n", (unsigned)n[SC_NOTICE_TASK],
@@ -23,7 +23,7 @@ static void say(const char *what, uint32_t status)
 
 static void say_information(uint32_t region)
 {
-    say("information", scm_region_get_information(&desk, region));
+    say("information", scm_region_get_information(&manager, region));
     printf("  free %u segments, largest %u, total %u bytes; held %u, %u, %u\n",
            (unsigned)answer(SC_ANSWER_FREE_COUNT), (unsigned)answer(SC_ANSWER_FREE_LARGEST),
            (unsigned)answer(SC_ANSWER_FREE_TOTAL), (unsigned)answer(SC_ANSWER_HELD_COUNT),
@@ -38,58 +38,58 @@ static void segments(uint32_t region)
     uint32_t frame;
     size_t words;
 
-    say("get 960 bytes", scm_region_get_segment(&desk, region, 960, SC_NO_WAIT, 0, 0, 0));
+    say("get 960 bytes", scm_region_get_segment(&manager, region, 960, SC_NO_WAIT, 0, 0, 0));
     frame = answer(SC_ANSWER_VALUE);
-    say("its size", scm_region_get_segment_size(&desk, region, frame));
+    say("its size", scm_region_get_segment_size(&manager, region, frame));
     printf("write 3 words: status %u\n",
-           (unsigned)scm_segment_write(&desk, pixels, 3, region, frame, 1));
-    words = scm_segment_read(&desk, back, 4, region, frame);
+           (unsigned)scm_segment_write(&manager, pixels, 3, region, frame, 1));
+    words = scm_segment_read(&manager, back, 4, region, frame);
     printf("read: %u words, first %u %u %u %u\n", (unsigned)words, (unsigned)back[0],
            (unsigned)back[1], (unsigned)back[2], (unsigned)back[3]);
 
     say("task 3 waits for 640 bytes",
-        scm_region_get_segment(&desk, region, 640, SC_WAIT, 3, 20, 0));
+        scm_region_get_segment(&manager, region, 640, SC_WAIT, 3, 20, 0));
     say("task 5 waits for 64 bytes, more urgent",
-        scm_region_get_segment(&desk, region, 64, SC_WAIT, 5, 10, 0));
-    say("task 6 waits one tick", scm_region_get_segment(&desk, region, 64, SC_WAIT, 6, 30, 1));
-    say("tick", scm_clock_tick(&desk));
-    say("return the frame", scm_region_return_segment(&desk, region, frame));
-    say("shrink task 3's to 100 bytes", scm_region_resize_segment(&desk, region, 128, 100));
+        scm_region_get_segment(&manager, region, 64, SC_WAIT, 5, 10, 0));
+    say("task 6 waits one tick", scm_region_get_segment(&manager, region, 64, SC_WAIT, 6, 30, 1));
+    say("tick", scm_clock_tick(&manager));
+    say("return the frame", scm_region_return_segment(&manager, region, frame));
+    say("shrink task 3's to 100 bytes", scm_region_resize_segment(&manager, region, 128, 100));
     say_information(region);
-    say("delete the region", scm_region_delete(&desk, region));
-    say("return task 5's", scm_region_return_segment(&desk, region, 64));
-    say("return task 3's", scm_region_return_segment(&desk, region, 128));
+    say("delete the region", scm_region_delete(&manager, region));
+    say("return task 5's", scm_region_return_segment(&manager, region, 64));
+    say("return task 3's", scm_region_return_segment(&manager, region, 128));
 }
 
 static void buffers(uint32_t partition)
 {
     uint32_t tag;
 
-    say("get a buffer", scm_partition_get_buffer(&desk, partition));
+    say("get a buffer", scm_partition_get_buffer(&manager, partition));
     tag = answer(SC_ANSWER_VALUE);
-    say("delete the partition", scm_partition_delete(&desk, partition));
-    say("return the buffer", scm_partition_return_buffer(&desk, partition, tag));
-    say("return it again", scm_partition_return_buffer(&desk, partition, tag));
-    say("delete the partition", scm_partition_delete(&desk, partition));
+    say("delete the partition", scm_partition_delete(&manager, partition));
+    say("return the buffer", scm_partition_return_buffer(&manager, partition, tag));
+    say("return it again", scm_partition_return_buffer(&manager, partition, tag));
+    say("delete the partition", scm_partition_delete(&manager, partition));
 }
 
 int main(void)
 {
     uint32_t region;
 
-    say("create region", scm_region_create(&desk, 1, 4, 1020, 64, SC_PRIORITY));
-    say("create partition", scm_partition_create(&desk, 7, 1024, 100, 24));
-    say("ident region 2", scm_region_ident(&desk, 2));
-    say("ident region 1", scm_region_ident(&desk, 1));
+    say("create region", scm_region_create(&manager, 1, 4, 1020, 64, SC_PRIORITY));
+    say("create partition", scm_partition_create(&manager, 7, 1024, 100, 24));
+    say("ident region 2", scm_region_ident(&manager, 2));
+    say("ident region 1", scm_region_ident(&manager, 1));
     region = answer(SC_ANSWER_VALUE);
     segments(region);
-    say("ident partition 7", scm_partition_ident(&desk, 7));
+    say("ident partition 7", scm_partition_ident(&manager, 7));
     buffers(answer(SC_ANSWER_VALUE));
 
-    say("get with no choice", scm_region_get_segment(&desk, region, 64, 2, 0, 0, 0));
+    say("get with no choice", scm_region_get_segment(&manager, region, 64, 2, 0, 0, 0));
     memory[1] = 0xffffffffu; /* the region's map, damaged */
-    say("get with a damaged map", scm_region_get_segment(&desk, region, 64, SC_NO_WAIT, 0, 0, 0));
+    say("get with a damaged map", scm_region_get_segment(&manager, region, 64, SC_NO_WAIT, 0, 0, 0));
     memory[1] = 30;
-    say("delete the region, its map mended", scm_region_delete(&desk, region));
+    say("delete the region, its map mended", scm_region_delete(&manager, region));
     return 0;
 }

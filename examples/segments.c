@@ -5,12 +5,12 @@
 
 static uint32_t memory[SC_MEMORY_WORDS];
 static uint32_t before[SC_MEMORY_WORDS];
-static sc_manager desk = {{0}, {0}, memory, SC_MEMORY_WORDS};
+static sc_manager manager = {{0}, {0}, memory, SC_MEMORY_WORDS};
 
 static void show(const char *what, uint32_t address)
 {
     uint32_t words[16];
-    size_t n = scm_segment_read(&desk, words, 16, 1, address);
+    size_t n = scm_segment_read(&manager, words, 16, 1, address);
     printf("%s, %u words:", what, (unsigned)n);
     for (size_t i = 0; i < n && i < 16; i++)
         printf(" %u", (unsigned)words[i]);
@@ -19,7 +19,7 @@ static void show(const char *what, uint32_t address)
 
 static uint32_t put(uint32_t address, uint32_t first, const uint32_t *words, size_t count)
 {
-    return scm_segment_write(&desk, words, count, 1, address, first);
+    return scm_segment_write(&manager, words, count, 1, address, first);
 }
 
 int main(void)
@@ -27,10 +27,10 @@ int main(void)
     const uint32_t words[3] = {901, 902, 903};
     uint32_t at[3];
 
-    scm_region_create(&desk, 1, 4, 1020, 64, SC_FIFO);
+    scm_region_create(&manager, 1, 4, 1020, 64, SC_FIFO);
     for (int s = 0; s < 3; s++) {
-        scm_region_get_segment(&desk, 1, 64, SC_NO_WAIT, 0, 0, 0);
-        at[s] = desk.answer[SC_ANSWER_VALUE];
+        scm_region_get_segment(&manager, 1, 64, SC_NO_WAIT, 0, 0, 0);
+        at[s] = manager.answer[SC_ANSWER_VALUE];
         for (uint32_t w = 0; w < 16; w++) /* the client fills what it holds */
             memory[at[s] / 4 + w] = 100 * (uint32_t)(s + 1) + w;
     }

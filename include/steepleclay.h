@@ -10,7 +10,7 @@
  * managed memory is. All zeros but for the memory is a fresh one:
  *
  *     static uint32_t memory[SC_MEMORY_WORDS];
- *     static sc_manager desk = {{0}, {0}, memory, SC_MEMORY_WORDS};
+ *     static sc_manager manager = {{0}, {0}, memory, SC_MEMORY_WORDS};
  *
  * Keep the record as a call left it, and pass always the same memory words. Addresses are bytes,
  * counted from the memory's first byte: word w is at 4 * w. Address 0 is NULL. Write only into

@@ -11,12 +11,13 @@ use Rattle.manager.specs.Lists.{every, any}
 use Rattle.manager.specs.Record.{slots, tasks, noRegion, regionOf, idOf, withRegion}
 use Rattle.manager.specs.Result.{Result, done, replied}
 use Rattle.manager.specs.Map.{total}
-use Rattle.manager.specs.Paged.{free+, allocate, reachFrom, changeFrom}
+use Rattle.manager.specs.Paged.{free+, allocate, paged, reachFrom, changeFrom}
 use Rattle.manager.proofs.Laws.Paged.{total-free, total-take, total-change}
 use Rattle.manager.specs.Queue.{enqueue}
 use Rattle.manager.proofs.Laws.Appended.{by-case}
 use Rattle.manager.specs.Region.{dead, pagesOf, pageAt, addressOf, segments, withSegments, heldAt, pagesAsked, placed, taken}
-use Rattle.manager.specs.Serve.{onPlace, serve}
+use Rattle.manager.specs.Paged.{onPlace}
+use Rattle.manager.specs.Serve.{serve}
 use Rattle.manager.specs.Sound.{sound}
 use Rattle.manager.proofs.Laws.Sound.{sited}
 use Rattle.manager.specs.Regions.{newRegion, regionNamed, unplaced, createRegion, identRegion, deleteRegion, getSegment, returnSegment, segmentSize, resizeSegment, regionInformation, tick}
@@ -94,7 +95,7 @@ module _ (m : List ℕ) (d : Manager) where
     taken-only ok live =
         let r = regionOf d id in
         let k = pagesAsked r size in
-        drawn-only m r (allocate k (segments m r)) (total-take k (segments m r) ∙ mapped id ok live .pages)
+        drawn-only m r (allocate paged k (segments m r)) (total-take k (segments m r) ∙ mapped id ok live .pages)
 
     waits : (w : Waiter) → sound m d ≡ true → CallEffects m d (GetSegment id size Yes task priority ticks) (replied m (enqueue d w) Waiting 0)
     unfolding enqueue any

@@ -13,12 +13,13 @@ use Rattle.manager.specs.Record.{tasks, noWaiter, regionOf}
 use Rattle.manager.specs.Map.{Segment, isHeldSegment, wordsOf, draw, segmentOf, decode, total}
 use Rattle.manager.specs.Map.{sizeOf}
 use Rattle.manager.proofs.Laws.Map.{markOf, bit, draw-cons, total-cons, size-of, not-zero, length-draw}
-use Rattle.manager.specs.Paged.{allocate}
+use Rattle.manager.specs.Paged.{allocate, paged}
 use Rattle.manager.proofs.Laws.Paged.{total-take}
 use Rattle.manager.specs.Queue.{firstOf, dequeue}
 use Rattle.manager.proofs.Laws.Appended.{by-case}
 use Rattle.manager.specs.Region.{pagesOf, mapAt, segments, withSegments, addressOf, pagesAsked, placed, taken}
-use Rattle.manager.specs.Serve.{onPlace, Served, quiet, granted, telling, serveUpTo}
+use Rattle.manager.specs.Paged.{onPlace}
+use Rattle.manager.specs.Serve.{Served, quiet, granted, telling, serveUpTo}
 use Rattle.manager.specs.Sound.{Laid, Sited}
 use Rattle.manager.proofs.Laws.Sound.{read-with, total-segments}
 use Rattle.manager.specs.declared.Manager.{Manager}
@@ -113,8 +114,8 @@ served-only (suc f) m d id s =
     let i = firstOf id (d .waiters) in
     let w = getD (d .waiters) i noWaiter in
     let k = pagesAsked r (w .size) in
-    let t : total (allocate k (segments m r)) ≡ pagesOf r = total-take k (segments m r) ∙ s .pages in
-    let next = served-only f (taken m r k) (dequeue d i) id (drawn-mapped m r s (allocate k (segments m r)) t) in
+    let t : total (allocate paged k (segments m r)) ≡ pagesOf r = total-take k (segments m r) ∙ s .pages in
+    let next = served-only f (taken m r k) (dequeue d i) id (drawn-mapped m r s (allocate paged k (segments m r)) t) in
     by-case (ltb i tasks) (λ b. Only (MapWord r) m (cond b (turn m d id w (placed m r k) (serveUpTo f (taken m r k) (dequeue d i) id)) (quiet m d) .memory))
-    (λ x. turn-only m d id w (placed m r k) (serveUpTo f (taken m r k) (dequeue d i) id) (only-then (drawn-only m r (allocate k (segments m r)) t) next))
+    (λ x. turn-only m d id w (placed m r k) (serveUpTo f (taken m r k) (dequeue d i) id) (only-then (drawn-only m r (allocate paged k (segments m r)) t) next))
     (λ x. unchanged)

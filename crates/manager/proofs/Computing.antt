@@ -5,7 +5,7 @@ use Rattle.arith.specs.Layout.{largest, pageCount}
 use Rattle.manager.specs.Result.{checked}
 use Rattle.manager.specs.Lists.{every, any, indexOf, pairwise, adjacent}
 use Rattle.manager.specs.Map.{draw, decode, tiledFrom, tiled, soundMap, freeSizes, heldSizes, largestOf, sumOf, total}
-use Rattle.manager.specs.Paged.{apart, free+, lead, rest, placeFrom, allocate, heldFrom, reachFrom, changeFrom}
+use Rattle.manager.specs.Paged.{apart, free+, lead, rest, placeFrom, occupyFrom, heldFrom, reachFrom, changeFrom}
 use Rattle.manager.specs.Region.{regionAreas, partitionAreas}
 use Rattle.manager.specs.Queue.{goesBefore, push, insert, removeAt, enqueue, dequeue, staying, leaving, afterTick}
 use Rattle.manager.specs.Serve.{serveUpTo, serve}
@@ -17,7 +17,7 @@ use Rattle.manager.specs.Access.{readSegment, writeSegment}
 use Rattle.manager.specs.Perform.{perform}
 
 unfoldable pub maps : Unit {0}
-unfolding largest pageCount checked every any indexOf pairwise adjacent draw decode tiledFrom tiled soundMap apart freeSizes heldSizes largestOf sumOf total free+ lead rest placeFrom allocate heldFrom reachFrom changeFrom
+unfolding largest pageCount checked every any indexOf pairwise adjacent draw decode tiledFrom tiled soundMap apart freeSizes heldSizes largestOf sumOf total free+ lead rest placeFrom occupyFrom heldFrom reachFrom changeFrom
 maps = tt
 
 unfoldable pub records : Unit {0}

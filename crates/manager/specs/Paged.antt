@@ -1,7 +1,7 @@
 -- Rules 5: how a region of pages places, frees and resizes segments. A kind of region is one
 -- record of such functions, and the directives and the queue are stated over it. Assumes nothing.
 use Prim.Native.Nat.{ℕ, zero, suc, _+_, _-_}
-use mathlib.Core.Bool.{Bool, cond, _||_}
+use mathlib.Core.Bool.{Bool, cond, _&&_, _||_}
 use mathlib.Core.List.{List, [], _∷_}
 use lib.Dec.{eqb, leb}
 use Rattle.manager.specs.Lists.{adjacent}
@@ -46,11 +46,17 @@ placeFrom k at [] = Nowhere
 placeFrom k at (held n ∷ s) = placeFrom k (at + n) s
 placeFrom k at (free n ∷ s) = cond (leb k n) (At at) (placeFrom k (at + n) s)
 
--- it serves from its low end
-unfoldable pub allocate : ℕ → List Segment → List Segment
-allocate k [] = []
-allocate k (held n ∷ s) = held n ∷ allocate k s
-allocate k (free n ∷ s) = cond (leb k n) (held k ∷ free+ (n - k) s) (free n ∷ allocate k s)
+-- by where a search ends
+abbrev pub onPlace : {A : Type 0} → Place → (ℕ → A) → A → A
+onPlace (At p) f z = f p
+onPlace Nowhere f z = z
+
+-- k pages from page p on are held, where they lie in a free segment: what it has before them and behind them stays free
+unfoldable pub occupyFrom : ℕ → ℕ → ℕ → List Segment → List Segment
+occupyFrom p k at [] = []
+occupyFrom p k at (held n ∷ s) = held n ∷ occupyFrom p k (at + n) s
+occupyFrom p k at (free n ∷ s) =
+    cond (leb at p && leb (p + k) (at + n)) (free+ (p - at) (held k ∷ free+ (at + n - (p + k)) s)) (free n ∷ occupyFrom p k (at + n) s)
 
 -- the pages of the held segment that starts at page p, where the map starts at page `at`; 0 where none does
 unfoldable pub heldFrom : ℕ → ℕ → List Segment → ℕ
@@ -77,13 +83,17 @@ pub record Kind : Type 0 where
   pub rounded : ℕ → ℕ
   -- how the segments of a sound map stand
   pub proper : List Segment → Bool
-  -- where k pages are placed, and the map after that
+  -- where k pages are placed, and the map with the k pages from a page on held
   pub place : ℕ → List Segment → Place
-  pub allocate : ℕ → List Segment → List Segment
+  pub occupy : ℕ → ℕ → List Segment → List Segment
   -- the pages of the held segment at a page, the most that it can have, and the map with k pages for it
   pub held : ℕ → List Segment → ℕ
   pub reach : ℕ → List Segment → ℕ
   pub change : ℕ → ℕ → List Segment → List Segment
+
+-- Get: k pages are held where they are placed; where they are not, nothing changes
+abbrev pub allocate : Kind → ℕ → List Segment → List Segment
+allocate K k s = onPlace (K .place k s) (λ p. K .occupy p k s) s
 
 abbrev pub paged : Kind
 paged =
@@ -91,7 +101,7 @@ paged =
       rounded = λ k. k;
       proper = apart;
       place = λ k s. placeFrom k 0 s;
-      allocate = allocate;
+      occupy = λ p k s. occupyFrom p k 0 s;
       held = λ p s. heldFrom p 0 s;
       reach = λ p s. reachFrom p 0 s;
       change = λ p k s. changeFrom p k 0 s;

@@ -9,7 +9,7 @@ use Rattle.arith.specs.Round.{pagesFor}
 use Rattle.arith.specs.Layout.{mapStart, firstPage, pageCount}
 use Rattle.manager.specs.Lists.{any}
 use Rattle.manager.specs.Map.{Segment, isHeldSegment, decode, draw, freeSizes, heldSizes}
-use Rattle.manager.specs.Paged.{Kind, kindOf, free+}
+use Rattle.manager.specs.Paged.{Kind, kindOf, allocate, free+}
 use Rattle.manager.specs.declared.Region.{Region}
 use Rattle.manager.specs.declared.Partition.{Partition}
 use Rattle.manager.specs.declared.Manager.{Manager}
@@ -96,7 +96,7 @@ abbrev pub placed : List ℕ → Region → ℕ → Place
 placed m r k = kind r .place k (segments m r)
 
 abbrev pub taken : List ℕ → Region → ℕ → List ℕ
-taken m r k = withSegments m r (kind r .allocate k (segments m r))
+taken m r k = withSegments m r (allocate (kind r) k (segments m r))
 
 -- the areas of objects: the whole asked area counts. A region has one
 abbrev pub areasOf : Region → List Area

@@ -7,20 +7,14 @@ use lib.ListN.{getD}
 use lib.Dec.{ltb}
 use Rattle.manager.specs.Record.{tasks, noWaiter, noInformation, regionOf}
 use Rattle.manager.specs.Result.{Result}
+use Rattle.manager.specs.Paged.{onPlace}
 use Rattle.manager.specs.Region.{addressOf, pagesAsked, placed, taken}
 use Rattle.manager.specs.Queue.{firstOf, dequeue}
 use Rattle.manager.specs.declared.Manager.{Manager}
 use Rattle.manager.specs.declared.Region.{Region}
 use Rattle.manager.specs.declared.Waiter.{Waiter}
 use Rattle.manager.specs.declared.Notice.{Notice}
-use Rattle.manager.specs.declared.Place.{Place}
-use Rattle.manager.specs.declared.Place.the-variants.{At, Nowhere}
 use Rattle.manager.specs.declared.Status.the-variants.{Successful}
-
--- by where a search ends
-abbrev pub onPlace : {A : Type 0} → Place → (ℕ → A) → A → A
-onPlace (At p) f z = f p
-onPlace Nowhere f z = z
 
 -- what serving leaves: the memory, the record, and the notices in order
 pub record Served : Type 0 where

@@ -11,10 +11,10 @@ use lib.Dec.{eqb, leb}
 use Rattle.manager.specs.Record.{noWaiter, slotOf, regionOf, partitionOf, withRegion, withPartition}
 use Rattle.manager.specs.Result.{refused, done}
 use Rattle.manager.specs.Map.{Segment, freeSizes, sumOf, total}
-use Rattle.manager.specs.Paged.{placeFrom, allocate}
+use Rattle.manager.specs.Paged.{placeFrom, allocate, paged}
 use Rattle.manager.specs.Region.{baseOf, addressOf, pageAt, mapAt, segments, withSegments, heldAt, pagesAsked, placed, taken}
 use Rattle.manager.specs.Queue.{enqueue, dequeue}
-use Rattle.manager.specs.Serve.{onPlace}
+use Rattle.manager.specs.Paged.{onPlace}
 use Rattle.manager.specs.Partition.{setBefore, link}
 use Rattle.manager.specs.Regions.{informed}
 use Rattle.manager.specs.Access.{readSegment, writeSegment}
@@ -65,7 +65,7 @@ lastFit =
     but segment-get 0 λ m d c a.
     let r = regionOf d (asked c .id) in
     let k = pagesAsked r (asked c .number) in
-    done (withSegments m r (reverse (allocate k (reverse (segments m r))))) d (addressOf r (lastPlace (segments m r) k))
+    done (withSegments m r (reverse (allocate paged k (reverse (segments m r))))) d (addressOf r (lastPlace (segments m r) k))
 
 not-lastFit : ¬ Demand3 lastFit
 unfolding everything

@@ -11,7 +11,7 @@ use Rattle.manager.specs.Result.{Result, Performs, checked, answerOf, replied, 
 use Rattle.manager.proofs.Laws.Result.{performs-by, performs-replied}
 use Rattle.manager.specs.Region.{pagesOf, addressOf, pagesAsked, placed, taken}
 use Rattle.manager.specs.Queue.{enqueue}
-use Rattle.manager.specs.Serve.{onPlace}
+use Rattle.manager.specs.Paged.{onPlace}
 use Rattle.manager.specs.Regions.{waitChecks, unplaced, getSegment}
 use Rattle.manager.specs.Sound.{sound, Sited}
 use Rattle.manager.specs.declared.Manager.{Manager}
@@ -42,7 +42,7 @@ module _ (m : List ℕ) (d : Manager) (r : Region) (k : ℕ) (s : Sited m r) (wa
 
   module _ (a : Answer) where
     pub place-yes : (j : ℕ) → p ≡ At j → (v : ℕ) → v ≡ addressOf r j → a ≡ answerOf (replied [] d Successful v) → Performs (Placed m d r k wait w) out a
-    place-yes j e v ev f = performs-replied out a _ d Successful v f (rw (← (t .place), e, ev, t .memory))
+    place-yes j e v ev f = performs-replied out a _ d Successful v f (rw (← (t .memory), ← (t .place), e, ev))
 
     unmoved : p ≡ Nowhere → out ≡ m
     unmoved e = t .memory ∙ none-taken m r s k (sym (t .place) ∙ e)

@@ -9,7 +9,7 @@ use lib.ListN.{length}
 use Rattle.manager.specs.Map.{Segment, decode, draw, tiled, soundMap, total}
 use Rattle.manager.proofs.Laws.Map.{redraw}
 use Rattle.manager.proofs.Laws.Apart.{Well, well-sized, well-proper}
-use Rattle.manager.specs.Paged.{apart, allocate, placeFrom, heldFrom, reachFrom, changeFrom}
+use Rattle.manager.specs.Paged.{apart, paged, allocate, placeFrom, heldFrom, reachFrom, changeFrom}
 use Rattle.manager.proofs.Laws.Paged.{take-none, well-take, total-take, well-change, total-change}
 use Rattle.manager.specs.Region.{pagesOf, mapAt, mapWords, segments, withSegments}
 use Rattle.manager.proofs.Laws.Region.{lent, putBack, lent-is, lent-in, lent-few, lent-some, lent-sound, put-back}
@@ -21,8 +21,8 @@ use Rattle.manager.specs.declared.Place.the-variants.{Nowhere}
 use Rattle.segments.specs.Lending.{Draws, Takes}
 
 -- where nothing is found, nothing changes
-pub untaken : (ws : List ℕ) (k : ℕ) → tiled ws ≡ true → placeFrom k 0 (decode ws) ≡ Nowhere → ws ≡ draw (allocate k (decode ws))
-untaken ws k ok e = sym (ap draw (take-none k 0 (decode ws) e) ∙ redraw ws ok)
+pub untaken : (ws : List ℕ) (k : ℕ) → tiled ws ≡ true → placeFrom k 0 (decode ws) ≡ Nowhere → ws ≡ draw (allocate paged k (decode ws))
+untaken ws k ok e = sym (ap draw (take-none k (decode ws) e) ∙ redraw ws ok)
 
 module _ (r : Region) (at n : ℕ) (ea : at ≡ mapAt r) (en : n ≡ pagesOf r) (m : List ℕ) where
   pub lent-held : (p : ℕ) → 1 ≤ heldFrom p 0 (segments m r) → 1 ≤ heldFrom p 0 (decode (lent at n m))
@@ -36,11 +36,11 @@ module _ (r : Region) (at n : ℕ) (ea : at ≡ mapAt r) (en : n ≡ pagesOf r) 
       let z : putBack at n m ws ≡ withSegments m r t = ap (putBack at n m) x ∙ put-back r at n ea en m l t e in
       record { memory = z; sited = rw z (sited-with m r l t e (well-sized true t w) (well-proper t w)) }
 
-  pub takes : Sited m r → (k : ℕ) → 1 ≤ k → (p : Place) → p ≡ placeFrom k 0 (decode (lent at n m)) → (ws : List ℕ) → ws ≡ draw (allocate k (decode (lent at n m)))
+  pub takes : Sited m r → (k : ℕ) → 1 ≤ k → (p : Place) → p ≡ placeFrom k 0 (decode (lent at n m)) → (ws : List ℕ) → ws ≡ draw (allocate paged k (decode (lent at n m)))
       → Takes r k m (putBack at n m ws) p
   takes s k o p ep ws ew =
-      let d = draws (s .laid) (allocate k (segments m r)) (total-take k (segments m r) ∙ total-segments m r s) (well-take k true (segments m r) o (well-segments m r s)) ws
-      (ew ∙ ap (λ (w : List ℕ). draw (allocate k (decode w))) (lent-is r at n ea en m)) in
+      let d = draws (s .laid) (allocate paged k (segments m r)) (total-take k (segments m r) ∙ total-segments m r s) (well-take k (segments m r) o (well-segments m r s)) ws
+      (ew ∙ ap (λ (w : List ℕ). draw (allocate paged k (decode w))) (lent-is r at n ea en m)) in
       record { place = ep ∙ ap (λ (w : List ℕ). placeFrom k 0 (decode w)) (lent-is r at n ea en m); memory = d .memory; sited = d .sited }
 
   pub changes : Sited m r → (p k : ℕ) → k ≤ reachFrom p 0 (segments m r) → (ws : List ℕ) → ws ≡ draw (changeFrom p k 0 (decode (lent at n m)))

@@ -22,7 +22,8 @@ use Rattle.manager.specs.Region.{pagesOf, anyHeld, segments, withSegments, addr
 use Rattle.manager.specs.Queue.{firstOf, waitsFor, dequeue}
 use Rattle.manager.proofs.Laws.Queue.{dequeue-every, sound-every}
 use Rattle.manager.proofs.Laws.Appended.{every-imp, by-case}
-use Rattle.manager.specs.Serve.{onPlace, Served, quiet, granted, telling, serveUpTo, serve}
+use Rattle.manager.specs.Paged.{onPlace}
+use Rattle.manager.specs.Serve.{Served, quiet, granted, telling, serveUpTo, serve}
 use Rattle.manager.specs.Sound.{sound, soundPlace, soundWaiter, unused, soundQueue}
 use Rattle.manager.specs.Sound.{Laid, Sited}
 use Rattle.manager.proofs.Laws.Sound.{sound-queue, address-in, total-segments, same-segments}
@@ -54,7 +55,7 @@ module _ (m : List ℕ) (r : Region) (s : Sited m r) (k : ℕ) where
 
   -- nothing is taken where nothing is found
   pub none-taken : placed m r k ≡ Nowhere → taken m r k ≡ m
-  none-taken e = ap (withSegments m r) (take-none k 0 (segments m r) e) ∙ same-segments m r s
+  none-taken e = ap (withSegments m r) (take-none k (segments m r) e) ∙ same-segments m r s
 
 -- ---- the first waiter asks for a page
 

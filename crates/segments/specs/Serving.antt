@@ -10,7 +10,8 @@ use Rattle.manager.specs.Result.{pad}
 use Rattle.manager.specs.Lists.{every}
 use Rattle.manager.specs.Region.{addressOf, pagesAsked, placed, taken}
 use Rattle.manager.specs.Queue.{firstOf}
-use Rattle.manager.specs.Serve.{onPlace, granted, Served}
+use Rattle.manager.specs.Paged.{onPlace}
+use Rattle.manager.specs.Serve.{granted, Served}
 use Rattle.manager.specs.Sound.{Sited}
 use Rattle.manager.specs.declared.Manager.{Manager}
 use Rattle.manager.specs.declared.Waiter.{Waiter}

@@ -11,7 +11,7 @@ use Rattle.arith.specs.Layout.{pageCount}
 use Rattle.manager.specs.Record.{slots, tasks, noInformation}
 use Rattle.manager.specs.Lists as lists
 use Rattle.manager.specs.Result.{Check, check}
-use Rattle.manager.specs.Serve.{onPlace}
+use Rattle.manager.specs.Paged.{onPlace}
 use Rattle.manager.specs.declared.Notice.{Notice}
 use Rattle.manager.specs.declared.Information.{Information}
 use Rattle.manager.specs.declared.Call.{Call}

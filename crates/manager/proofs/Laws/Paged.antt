@@ -1,18 +1,19 @@
 -- Placing, taking and changing segments keep a map well formed and its pages in number, and what each does is one place of the list:
 -- the map before it, the segment, and the map behind it. Assumes nothing.
-use Prim.Native.Nat.{ℕ, zero, suc, _+_, _-_, _≤_}
-use mathlib.Core.Path.{_≡_, refl, ap, _∙_}
-use mathlib.Core.Bool.{Bool, true, false, cond, _||_}
+use Prim.Native.Nat.{ℕ, zero, suc, _+_, _-_, _≤_, _<_}
+use mathlib.Core.Path.{_≡_, refl, sym, ap, _∙_}
+use mathlib.Core.Bool.{Bool, true, false, cond, _&&_, _||_, and-false}
 use mathlib.Core.List.{List, [], _∷_, _++_}
 use native.Mathlib.Nat.{add-zero}
 use native.Mathlib.Omega.{arith}
 use lib.Dec.{eqb, leb}
-use borrow.Author.Tests.{leb-true, eqb-true, eq-eqb, ne-eqb}
+use borrow.Author.Tests.{leb-true, leb-false, le-leb, lt-leb, eqb-true, eq-eqb, ne-eqb}
 use Rattle.manager.specs.Map.{Segment, free, held, isHeldSegment, draw, decode, soundMap, total}
 use Rattle.manager.specs.Map.{sizeOf}
-use Rattle.manager.proofs.Laws.Map.{Sized, total-cons}
+use Rattle.manager.proofs.Laws.Map.{Sized, both-true, total-cons}
 use Rattle.manager.proofs.Laws.Apart.{Well, well-after, well-decoded, well-drawn}
-use Rattle.manager.specs.Paged.{apart, free+, held+, lead, rest, placeFrom, allocate, heldFrom, reachFrom, changeFrom}
+use Rattle.manager.specs.Paged.{apart, free+, held+, lead, rest, onPlace, placeFrom, occupyFrom, allocate, paged, heldFrom, reachFrom, changeFrom}
+use Rattle.manager.specs.declared.Place.{Place}
 use Rattle.manager.specs.declared.Place.the-variants.{At, Nowhere}
 
 -- ---- free pages in front of a map
@@ -89,42 +90,113 @@ rest-none (held n ∷ s) w = refl
 
 -- ---- get
 
-pub well-take : (k : ℕ) (before : Bool) (s : List Segment) → 1 ≤ k → Well before s → Well before (allocate k s)
-unfolding allocate
-well-take k before [] o w = tt
-well-take k before (held n ∷ s) o w = (w .0, w .1, well-take k true s o (w .2))
-well-take k before (free n ∷ s) o w = go (leb k n) refl (well-take k false s o (w .2))
+-- pages that are held from a page on leave a map well formed, and its pages in number
+pub well-occupy : (p k at : ℕ) (before : Bool) (s : List Segment) → 1 ≤ k → Well before s → Well before (occupyFrom p k at s)
+unfolding occupyFrom
+well-occupy p k at before [] o w = tt
+well-occupy p k at before (held n ∷ s) o w = (w .0, w .1, well-occupy p k (at + n) true s o (w .2))
+well-occupy p k at false (free n ∷ s) o w = absurd (let z : _≡_ {A = ℕ} 0 1 = cc in omega arith)
+well-occupy p k at true (free n ∷ s) o w = go (leb at p && leb (p + k) (at + n)) (well-occupy p k (at + n) false s o (w .2))
   where
-    go : (b : Bool) → leb k n ≡ b → Well false (allocate k s) → Well before (cond b (held k ∷ free+ (n - k) s) (free n ∷ allocate k s))
-    go true e ih = (o, or-true before, well-free (n - k) s (well-after false s (w .2)))
-      where
-        or-true : (b : Bool) → (b || true) ≡ true
-        or-true true = refl
-        or-true false = refl
-    go false e ih = (w .0, w .1, ih)
+    go : (b : Bool) → Well false (occupyFrom p k (at + n) s)
+        → Well true (cond b (free+ (p - at) (held k ∷ free+ (at + n - (p + k)) s)) (free n ∷ occupyFrom p k (at + n) s))
+    go true ih =
+        well-free (p - at) (held k ∷ free+ (at + n - (p + k)) s)
+        (o, refl, well-free (at + n - (p + k)) s (well-after false s (w .2)))
+    go false ih = (w .0, w .1, ih)
 
-pub total-take : (k : ℕ) (s : List Segment) → total (allocate k s) ≡ total s
-unfolding allocate total
-total-take k [] = refl
-total-take k (held n ∷ s) = omega (arith, total-take k s)
-total-take k (free n ∷ s) = go (leb k n) refl (total-take k s)
+pub total-occupy : (p k at : ℕ) (s : List Segment) → total (occupyFrom p k at s) ≡ total s
+unfolding occupyFrom total
+total-occupy p k at [] = refl
+total-occupy p k at (held n ∷ s) = omega (arith, total-occupy p k (at + n) s)
+total-occupy p k at (free n ∷ s) = go (leb at p && leb (p + k) (at + n)) refl (total-occupy p k (at + n) s)
   where
-    go : (b : Bool) → leb k n ≡ b → total (allocate k s) ≡ total s → total (cond b (held k ∷ free+ (n - k) s) (free n ∷ allocate k s)) ≡ n + total s
-    go true e ih = omega (arith, total-free (n - k) s, leb-true k n e)
+    go : (b : Bool) → (leb at p && leb (p + k) (at + n)) ≡ b → total (occupyFrom p k (at + n) s) ≡ total s
+        → total (cond b (free+ (p - at) (held k ∷ free+ (at + n - (p + k)) s)) (free n ∷ occupyFrom p k (at + n) s)) ≡ n + total s
+    go true e ih =
+        let h = both-true (leb at p) (leb (p + k) (at + n)) e in
+        omega (
+          arith,
+          total-free (p - at) (held k ∷ free+ (at + n - (p + k)) s),
+          total-free (at + n - (p + k)) s,
+          leb-true at p (h .0),
+          leb-true (p + k) (at + n) (h .1),
+        )
     go false e ih = omega arith
 
+-- its map in one walk: the first free segment with room serves from its low end
+unfoldable pub firstFit : ℕ → List Segment → List Segment
+firstFit k [] = []
+firstFit k (held n ∷ s) = held n ∷ firstFit k s
+firstFit k (free n ∷ s) = cond (leb k n) (held k ∷ free+ (n - k) s) (free n ∷ firstFit k s)
+
 -- where nothing is placed, nothing is taken
-pub take-none : (k at : ℕ) (s : List Segment) → placeFrom k at s ≡ Nowhere → allocate k s ≡ s
-unfolding placeFrom allocate
-take-none k at [] e = refl
-take-none k at (held n ∷ s) e = ap (λ (t : List Segment). held n ∷ t) (take-none k (at + n) s e)
-take-none k at (free n ∷ s) e = go (leb k n) refl (λ e′. take-none k (at + n) s e′)
+fit-none : (k at : ℕ) (s : List Segment) → placeFrom k at s ≡ Nowhere → firstFit k s ≡ s
+unfolding placeFrom firstFit
+fit-none k at [] e = refl
+fit-none k at (held n ∷ s) e = ap (λ (t : List Segment). held n ∷ t) (fit-none k (at + n) s e)
+fit-none k at (free n ∷ s) e = go (leb k n) refl (λ e′. fit-none k (at + n) s e′)
   where
-    go : (b : Bool) → leb k n ≡ b → (placeFrom k (at + n) s ≡ Nowhere → allocate k s ≡ s) → cond (leb k n) (held k ∷ free+ (n - k) s) (free n ∷ allocate k s) ≡ free n ∷ s
+    go : (b : Bool) → leb k n ≡ b → (placeFrom k (at + n) s ≡ Nowhere → firstFit k s ≡ s) → cond (leb k n) (held k ∷ free+ (n - k) s) (free n ∷ firstFit k s) ≡ free n ∷ s
     go true f ih =
         let a : At at ≡ Nowhere = rw f at e in
         absurd (let z : _≡_ {A = ℕ} 0 1 = cc in omega arith)
     go false f ih = rw f (ap (λ (t : List Segment). free n ∷ t) (ih (rw f at e)))
+
+-- where k pages are placed at page p, no free segment before it has room for them there, so those from p on are the ones that are held
+within : (p k at n : ℕ) → at ≤ p → p + k ≤ at + n → (leb at p && leb (p + k) (at + n)) ≡ true
+within p k at n h l = rw (le-leb at p h, le-leb (p + k) (at + n) l)
+
+beyond : (p k at n : ℕ) → at + n < p + k → (leb at p && leb (p + k) (at + n)) ≡ false
+beyond p k at n l = rw (lt-leb (p + k) (at + n) l) (and-false (leb at p))
+
+fit-at : (k at : ℕ) (s : List Segment) (p : ℕ) → placeFrom k at s ≡ At p → (at ≤ p) × (occupyFrom p k at s ≡ firstFit k s)
+unfolding placeFrom firstFit occupyFrom free+
+fit-at k at [] p e = absurd (let z : _≡_ {A = ℕ} 0 1 = cc in omega arith)
+fit-at k at (held n ∷ s) p e =
+    let h = fit-at k (at + n) s p e in
+    (omega (arith, h .0), ap (λ (t : List Segment). held n ∷ t) (h .1))
+fit-at k at (free n ∷ s) p e = go (leb k n) refl (λ e′. fit-at k (at + n) s p e′)
+  where
+    go : (b : Bool) → leb k n ≡ b → (placeFrom k (at + n) s ≡ At p → (at + n ≤ p) × (occupyFrom p k (at + n) s ≡ firstFit k s))
+        → (at ≤ p) × (occupyFrom p k at (free n ∷ s) ≡ firstFit k (free n ∷ s))
+    go true f ih =
+        let a : At at ≡ At p = rw f at e in
+        let ap′ : at ≡ p = cc in
+        let l : k ≤ n = leb-true k n f in
+        let z : p - at ≡ 0 = omega arith in
+        let y : at + n - (p + k) ≡ n - k = omega arith in
+        (omega arith, rw (within p k at n (omega arith) (omega arith), f, z, y))
+    go false f ih =
+        let h = ih (rw f at e) in
+        let l : n < k = leb-false k n f in
+        (omega (arith, h .0), rw (beyond p k at n (omega (arith, h .0)), f) (ap (λ (t : List Segment). free n ∷ t) (h .1)))
+
+-- A GET IS FIRST FIT
+pub fit-is : (k : ℕ) (s : List Segment) → allocate paged k s ≡ firstFit k s
+fit-is k s = go (placeFrom k 0 s) refl
+  where
+    go : (q : Place) → placeFrom k 0 s ≡ q → onPlace q (λ p. occupyFrom p k 0 s) s ≡ firstFit k s
+    go (At p) e = fit-at k 0 s p e .1
+    go Nowhere e = sym (fit-none k 0 s e)
+
+-- it keeps a map well formed and its pages in number
+pub well-take : (k : ℕ) (s : List Segment) → 1 ≤ k → Well true s → Well true (allocate paged k s)
+well-take k s o w = go (placeFrom k 0 s)
+  where
+    go : (q : Place) → Well true (onPlace q (λ p. occupyFrom p k 0 s) s)
+    go (At p) = well-occupy p k 0 true s o w
+    go Nowhere = w
+
+pub total-take : (k : ℕ) (s : List Segment) → total (allocate paged k s) ≡ total s
+total-take k s = go (placeFrom k 0 s)
+  where
+    go : (q : Place) → total (onPlace q (λ p. occupyFrom p k 0 s) s) ≡ total s
+    go (At p) = total-occupy p k 0 s
+    go Nowhere = refl
+
+pub take-none : (k : ℕ) (s : List Segment) → placeFrom k 0 s ≡ Nowhere → allocate paged k s ≡ s
+take-none k s e = rw e
 
 -- where k pages are placed at page i: the map before, a free segment with room, and the map behind
 pub record Hit (k at i : ℕ) (s : List Segment) : Type 0 where
@@ -134,9 +206,9 @@ pub record Hit (k at i : ℕ) (s : List Segment) : Type 0 where
   pub is : s ≡ pre ++ (free pages ∷ post)
   pub page : at + total pre ≡ i
   pub room : k ≤ pages
-  pub gives : allocate k s ≡ pre ++ (held k ∷ free+ (pages - k) post)
+  pub gives : firstFit k s ≡ pre ++ (held k ∷ free+ (pages - k) post)
 
-hit-past : {k at i : ℕ} {s : List Segment} (g : Segment) → allocate k (g ∷ s) ≡ g ∷ allocate k s → Hit k (at + sizeOf g) i s → Hit k at i (g ∷ s)
+hit-past : {k at i : ℕ} {s : List Segment} (g : Segment) → firstFit k (g ∷ s) ≡ g ∷ firstFit k s → Hit k (at + sizeOf g) i s → Hit k at i (g ∷ s)
 hit-past {k} {at} {i} {s} g e h =
     record {
       pre = g ∷ h .pre;
@@ -149,7 +221,7 @@ hit-past {k} {at} {i} {s} g e h =
     }
 
 pub hit : (k at : ℕ) (s : List Segment) (i : ℕ) → placeFrom k at s ≡ At i → Hit k at i s
-unfolding placeFrom allocate total
+unfolding placeFrom firstFit total
 hit k at [] i e = absurd (let z : _≡_ {A = ℕ} 0 1 = cc in omega arith)
 hit k at (held n ∷ s) i e = hit-past (held n) refl (hit k (at + n) s i e)
 hit k at (free n ∷ s) i e = go (leb k n) refl (λ e′. hit k (at + n) s i e′)
@@ -306,5 +378,5 @@ held-within p at (held n ∷ s) = go (eqb at p) (held-within p (at + n) s)
 
 -- a get keeps a sound map sound and its length
 module _ (ws : List ℕ) (ok : soundMap apart ws ≡ true) where
-  pub sound-take : (k : ℕ) → 1 ≤ k → soundMap apart (draw (allocate k (decode ws))) ≡ true
-  sound-take k o = well-drawn (allocate k (decode ws)) (well-take k true (decode ws) o (well-decoded ws ok))
+  pub sound-take : (k : ℕ) → 1 ≤ k → soundMap apart (draw (allocate paged k (decode ws))) ≡ true
+  sound-take k o = well-drawn (allocate paged k (decode ws)) (well-take k (decode ws) o (well-decoded ws ok))

@@ -10,7 +10,8 @@ use native.Mathlib.Nat.{add-zero, sub-self, le-refl}
 use lib.Dec.{leb}
 use borrow.Author.Tests.{le-leb, lt-leb}
 use Rattle.manager.specs.Map.{Segment, held}
-use Rattle.manager.specs.Paged.{free+, placeFrom, allocate}
+use Rattle.manager.specs.Paged.{free+, placeFrom}
+use Rattle.manager.proofs.Laws.Paged.{firstFit}
 use Rattle.manager.specs.declared.Place.{Place}
 use Rattle.manager.specs.declared.Place.the-variants.{At, Nowhere}
 use Rattle.trace.specs.Loans.{Loan, loan, enter, Held, Run}
@@ -31,8 +32,8 @@ place-gap n k at zero l h = rw (add-zero, lt-leb k 0 h)
 place-gap n k at (suc g) [] h = refl
 place-gap n k at (suc g) (loan a m ∷ l) h = refl
 
-take-gap : (n k g : ℕ) (l : List Loan) → 0 < k → allocate k (free+ g (onward n l)) ≡ cond (leb k g) (held k ∷ free+ (g - k) (onward n l)) (free+ g (allocate k (onward n l)))
-unfolding free+ allocate
+take-gap : (n k g : ℕ) (l : List Loan) → 0 < k → firstFit k (free+ g (onward n l)) ≡ cond (leb k g) (held k ∷ free+ (g - k) (onward n l)) (free+ g (firstFit k (onward n l)))
+unfolding free+ firstFit
 take-gap n k zero l h = rw (lt-leb k 0 h)
 take-gap n k (suc g) [] h = refl
 take-gap n k (suc g) (loan a m ∷ l) h = refl
@@ -84,8 +85,8 @@ behind n at a m l k o h (lacks e no-run) =
     (λ q b u. no-run q (run-from n at a m l k q (o .1) h b u) (run-behind n a m l k q u))
 
 -- A GET OF k PAGES
-pub got-from : (n k at : ℕ) (l : List Loan) → Ordered n at l → 0 < k → Got n at l k (placeFrom k at (drawn n at l)) (allocate k (drawn n at l))
-unfolding Ordered placeFrom allocate
+pub got-from : (n k at : ℕ) (l : List Loan) → Ordered n at l → 0 < k → Got n at l k (placeFrom k at (drawn n at l)) (firstFit k (drawn n at l))
+unfolding Ordered placeFrom firstFit
 got-from n k at [] o z =
     rw (drawn-next n at [], place-gap n k at (n - at) [] z, take-gap n k (n - at) [] z)
     (by-leb k (n - at) (λ (t : Bool). Got n at [] k (cond t (At at) Nowhere) (cond t (held k ∷ free+ (n - at - k) []) (free+ (n - at) [])))
@@ -95,7 +96,7 @@ got-from n k at (loan a m ∷ l) o z =
     rw (drawn-next n at (loan a m ∷ l), place-gap n k at (a - at) (loan a m ∷ l) z, take-gap n k (a - at) (loan a m ∷ l) z, there)
     (by-leb k (a - at)
     (λ (t : Bool). Got n at (loan a m ∷ l) k (cond t (At at) (placeFrom k (a + m) (drawn n (a + m) l)))
-    (cond t (held k ∷ free+ (a - at - k) (held m ∷ drawn n (a + m) l)) (free+ (a - at) (held m ∷ allocate k (drawn n (a + m) l)))))
+    (cond t (held k ∷ free+ (a - at - k) (held m ∷ drawn n (a + m) l)) (free+ (a - at) (held m ∷ firstFit k (drawn n (a + m) l)))))
     (first n at k (loan a m ∷ l) o z)
     (λ h. behind n at a m l k o h (got-from n k (a + m) l (o .2) z)))
 

@@ -9,7 +9,7 @@ use native.Mathlib.Omega.{arith}
 use lib.ListN.{length}
 use Rattle.manager.specs.Lists.{any}
 use Rattle.manager.specs.Map.{Segment, isHeldSegment, draw, decode, soundMap, freeSizes, heldSizes}
-use Rattle.manager.specs.Paged.{Kind, free+}
+use Rattle.manager.specs.Paged.{Kind, allocate, free+}
 use Rattle.manager.specs.declared.Place.{Place}
 use Rattle.manager.specs.declared.Place.the-variants.{At, Nowhere}
 use Rattle.trace.specs.Loans.{Loan, loan, enter, amend, Lent, loanPages, sum}
@@ -35,7 +35,7 @@ pub record Lawful (K : Kind) (R : Reading) : Type 0 where
   pub chosen-serves : {n : ℕ} {l : List Loan} {k p : ℕ} → R .Chosen n l k p → Serves R n l k p
   pub placed : {n : ℕ} {l : List Loan} {s : List Segment} → Drawing R n l s → (j : ℕ) → 0 < j → K .place (R .rounded j) s ≡ R .place n l (R .rounded j)
   pub got : {n : ℕ} {l : List Loan} {s : List Segment} → Drawing R n l s → (j : ℕ) → 0 < j
-      → Gets R n l (R .rounded j) (K .place (R .rounded j) s) (K .allocate (R .rounded j) s)
+      → Gets R n l (R .rounded j) (K .place (R .rounded j) s) (allocate K (R .rounded j) s)
   -- what is found at a page
   pub held : {n : ℕ} {l : List Loan} {s : List Segment} → Drawing R n l s → (p k : ℕ) → Lent l p k → K .held p s ≡ k
   pub lent : {n : ℕ} {l : List Loan} {s : List Segment} → Drawing R n l s → (p : ℕ) → 0 < K .held p s → Lent l p (K .held p s)

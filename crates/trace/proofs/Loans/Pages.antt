@@ -9,6 +9,7 @@ use lib.ListN.{length}
 use Rattle.manager.specs.Lists.{any}
 use Rattle.manager.specs.Map.{Segment, isHeldSegment, draw, decode, soundMap, freeSizes, heldSizes}
 use Rattle.manager.specs.Paged.{apart, paged, kindOf, placeFrom, allocate, heldFrom, reachFrom, changeFrom}
+use Rattle.manager.proofs.Laws.Paged.{fit-is}
 use Rattle.manager.specs.declared.Order.{Order}
 use Rattle.manager.specs.declared.Place.{Place}
 use Rattle.trace.specs.Loans.{Loan, amend, Lent, Run, loanPages, sum, Held}
@@ -25,8 +26,8 @@ gets o (gave p e i b run low) = given p (record { fits = i; is = e }) (record { 
 gets o (lacks e no-run) = nothing (record { fits = o; is = e }) (λ q u. no-run q (omega arith) (u .run))
 
 module _ {n : ℕ} {l : List Loan} {s : List Segment} (d : Drawing pages n l s) where
-  got : (k : ℕ) → 0 < k → Gets pages n l k (placeFrom k 0 s) (allocate k s)
-  got k z = rw (d .is) (gets (d .fits) (got-from n k 0 l (d .fits) z))
+  got : (k : ℕ) → 0 < k → Gets pages n l k (placeFrom k 0 s) (allocate paged k s)
+  got k z = rw (fit-is k s, d .is) (gets (d .fits) (got-from n k 0 l (d .fits) z))
 
   -- the place is the lowest run by the loans
   place-lowest : (k : ℕ) → 0 < k → placeFrom k 0 s ≡ lowestRun n k 0 l

@@ -11,7 +11,7 @@ use Rattle.manager.specs.Result.{Result, done, replied}
 use Rattle.manager.specs.Lists.{every}
 use Rattle.manager.specs.Region.{pagesOf, addressOf, pagesAsked, placed, taken}
 use Rattle.manager.specs.Queue.{enqueue}
-use Rattle.manager.specs.Serve.{onPlace}
+use Rattle.manager.specs.Paged.{onPlace}
 use Rattle.manager.specs.Regions.{waitChecks, unplaced, getSegment}
 use Rattle.manager.specs.declared.Manager.{Manager}
 use Rattle.manager.specs.declared.Region.{Region}

@@ -11,7 +11,7 @@ use native.Mathlib.Omega.{arith}
 use lib.ListN.{length}
 use lib.Dec.{leb}
 use borrow.Author.Tests.{ne-eqb, le-leb}
-use Rattle.manager.specs.Serve.{onPlace}
+use Rattle.manager.specs.Paged.{onPlace}
 use Rattle.manager.specs.declared.Call.the-variants.{GetSegment, ReturnSegment, SegmentSize, ResizeSegment, RegionInformation, GetBuffer}
 use Rattle.manager.specs.declared.Place.{Place}
 use Rattle.manager.specs.declared.Wait.the-variants.{No}

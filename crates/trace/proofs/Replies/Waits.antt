@@ -13,7 +13,8 @@ use Rattle.manager.specs.Result.{Result, check, checked, done}
 use Rattle.manager.specs.Region.{addressOf, heldAt, pagesAsked, servable, placed, taken}
 use Rattle.manager.specs.Queue.{waiting}
 use Rattle.manager.proofs.Laws.Appended.{by-case}
-use Rattle.manager.specs.Serve.{onPlace, fromServed}
+use Rattle.manager.specs.Paged.{onPlace}
+use Rattle.manager.specs.Serve.{fromServed}
 use Rattle.manager.specs.Regions.{waitChecks, unplaced, getSegment, returnSegment, tick}
 use Rattle.manager.specs.declared.Manager.{Manager}
 use Rattle.manager.specs.declared.Waiter.{Waiter}
