@@ -56,7 +56,7 @@ extern "C" {
 #define STEEPLECLAY_RECORD_VERSION 1
 
 /*
- * The stack that a call needs: 11 KB were measured, rounded up here. tests/stack/run measures it:
+ * The stack that a call needs: 10 KB were measured, rounded up here. tests/stack/run measures it:
  * each function is called on a stack filled with a pattern, with fresh, full and damaged records,
  * and the deepest word that was written counts.
  */
