@@ -23,7 +23,7 @@ count-none start length page map hp e h =
 
 -- one less than a number of pages whose sizes, with a word each, are within the room fits
 less-fits : (start length page n : ℕ) → 0 < page → 0 < n → mapStart start + (n * page + n * 4) ≤ start + length
-    → firstPage start page (n - 1) + (n - 1) * page ≤ start + length
+    → firstPage start page (n - 1) * page + (n - 1) * page ≤ start + length
 less-fits start length page zero hp k g = absurd (omega arith)
 less-fits start length page (suc n) hp k g =
     rw (sub-one (suc n)) (omega (arith, first-lt start page hp n, suc-mul n page))
@@ -40,20 +40,20 @@ module _ (start length page map n first : ℕ) (hp : 0 < page) (em : map ≡ map
   used = rw en (quotient-room (start + length - map) page)
 
   -- the quotient, where it fits
-  pub count-exact : first + n * page ≤ start + length → pageCount start length page ≡ n
+  pub count-exact : first * page + n * page ≤ start + length → pageCount start length page ≡ n
   count-exact h =
-      count-unique start length page hp n (λ z. le-fits start length page n (omega arith)) (λ m z f. most m f)
+      count-unique start length page hp n (λ z. le-fits start length page n (rw ef at h)) (λ m z f. most m f)
 
   -- one less, where it does not
-  pub count-less : start + length < first + n * page → pageCount start length page ≡ n - 1
+  pub count-less : start + length < first * page + n * page → pageCount start length page ≡ n - 1
   count-less h =
       count-unique start length page hp (n - 1)
       (λ z. le-fits start length page (n - 1) (less-fits start length page n hp (omega arith) (omega (arith, used))))
       (λ m z f. ⊎-elim
-      (λ (e : m ≡ n). absurd (omega (arith, fits-le start length page n (rw e at f))))
+      (λ (e : m ≡ n). absurd (omega (arith, rw ef at h, fits-le start length page n (rw e at f))))
       (λ (l : m < n). omega arith)
       (eq-or-lt-of-le (most m f)))
 
   -- and 0, where there is none less
-  pub count-empty : start + length < first + n * page → n ≡ 0 → pageCount start length page ≡ 0
+  pub count-empty : start + length < first * page + n * page → n ≡ 0 → pageCount start length page ≡ 0
   count-empty h e = omega (arith, count-less h)

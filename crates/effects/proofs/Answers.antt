@@ -87,5 +87,5 @@ module _ (m : List ℕ) (d : Manager) (c : Call) where
 
   -- EVERY DIRECTIVE: its checks have statuses of its own, and its action is right
   pub effects : (cs : List Check) (act : Result) → On 25 (answersOf c) → every (λ k. fits (k .status)) cs ≡ true
-      → (sound m d ≡ true → Passed cs → CallEffects m d c act) → CallEffects m d c (answered m d cs act)
+      → (sound m d ≡ true → Passed cs → CallEffects m d c act) → CallEffects m d c (answered (sound m d) m d cs act)
   effects cs act l h k = by-answer m d cs act (CallEffects m d c) fits h (unsound l) fails k

@@ -29,7 +29,7 @@ readSegment m d id address =
 unfoldable pub writeSegment : List ℕ → Manager → ℕ → ℕ → ℕ → List ℕ → Result
 writeSegment m d id address first words =
     let r = regionOf d id in
-    answered m d
+    answered (sound m d) m d
     (check (dead r) InvalidId
     ∷ check (eqb (heldAt m r address) 0) InvalidAddress
     ∷ check (ltb (wordsIn m d id address) (first + length words)) InvalidSize

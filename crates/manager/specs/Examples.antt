@@ -51,7 +51,7 @@ follows m d (step c status value notices ∷ ss) after =
 
 abbrev pub holds : Row → Bool
 holds (layout start bytes page n first last) =
-    eqb (pageCount start bytes page) n && (eqb (firstPage start page n) first && eqb (first + n * page) (last + 1))
+    eqb (pageCount start bytes page) n && (eqb (firstPage start page n * page) first && eqb (first + n * page) (last + 1))
 holds (calls ss) = follows (replicate mostWords 0) fresh ss (λ m d. true)
 holds (words ss ws) = follows (replicate mostWords 0) fresh ss (λ m d. same (mapWords m (regionOf d 1)) ws)
 

@@ -83,28 +83,28 @@ pub record Kind : Type 0 where
   pub rounded : ℕ → ℕ
   -- how the segments of a sound map stand
   pub proper : List Segment → Bool
-  -- where k pages are placed, and the map with the k pages from a page on held
-  pub place : ℕ → List Segment → Place
-  pub occupy : ℕ → ℕ → List Segment → List Segment
+  -- of a map that starts at page `at`, the argument before it: where k pages are placed, and the map with the k pages from a page on held
+  pub place : ℕ → ℕ → List Segment → Place
+  pub occupy : ℕ → ℕ → ℕ → List Segment → List Segment
   -- the pages of the held segment at a page, the most that it can have, and the map with k pages for it
-  pub held : ℕ → List Segment → ℕ
-  pub reach : ℕ → List Segment → ℕ
-  pub change : ℕ → ℕ → List Segment → List Segment
+  pub held : ℕ → ℕ → List Segment → ℕ
+  pub reach : ℕ → ℕ → List Segment → ℕ
+  pub change : ℕ → ℕ → ℕ → List Segment → List Segment
 
 -- Get: k pages are held where they are placed; where they are not, nothing changes
-abbrev pub allocate : Kind → ℕ → List Segment → List Segment
-allocate K k s = onPlace (K .place k s) (λ p. K .occupy p k s) s
+abbrev pub allocate : Kind → ℕ → ℕ → List Segment → List Segment
+allocate K k at s = onPlace (K .place k at s) (λ p. K .occupy p k at s) s
 
 abbrev pub paged : Kind
 paged =
     record {
       rounded = λ k. k;
       proper = apart;
-      place = λ k s. placeFrom k 0 s;
-      occupy = λ p k s. occupyFrom p k 0 s;
-      held = λ p s. heldFrom p 0 s;
-      reach = λ p s. reachFrom p 0 s;
-      change = λ p k s. changeFrom p k 0 s;
+      place = placeFrom;
+      occupy = occupyFrom;
+      held = heldFrom;
+      reach = reachFrom;
+      change = changeFrom;
     }
 
 -- the kind of a region, by its order: every region is of pages

@@ -29,7 +29,7 @@ unfoldable pub createPartition : List ℕ → Manager → ℕ → ℕ → ℕ �
 createPartition m d name start bytes size =
     let p = newPartition name start bytes size in
     let slot = partitionNamed d 0 in
-    answered m d
+    answered (sound m d) m d
     (check (eqb name 0) InvalidName
     ∷ check (eqb start 0) InvalidAddress
     ∷ check (not (eqb (start % 4) 0)) InvalidAddress
@@ -47,7 +47,7 @@ createPartition m d name start bytes size =
 -- ident: 3
 unfoldable pub identPartition : List ℕ → Manager → ℕ → Result
 identPartition m d name =
-    answered m d
+    answered (sound m d) m d
     (check (eqb name 0) InvalidName
     ∷ check (leb slots (partitionNamed d name)) InvalidName
     ∷ [])
@@ -57,7 +57,7 @@ identPartition m d name =
 unfoldable pub deletePartition : List ℕ → Manager → ℕ → Result
 deletePartition m d id =
     let p = partitionOf d id in
-    answered m d
+    answered (sound m d) m d
     (check (deadPartition p) InvalidId
     ∷ check (not (eqb (p .free) (buffers p))) ResourceInUse
     ∷ [])
@@ -67,7 +67,7 @@ deletePartition m d id =
 unfoldable pub getBuffer : List ℕ → Manager → ℕ → Result
 getBuffer m d id =
     let p = partitionOf d id in
-    answered m d
+    answered (sound m d) m d
     (check (deadPartition p) InvalidId
     ∷ check (eqb (p .free) 0) Unsatisfied
     ∷ [])
@@ -77,7 +77,7 @@ getBuffer m d id =
 unfoldable pub returnBuffer : List ℕ → Manager → ℕ → ℕ → Result
 returnBuffer m d id address =
     let p = partitionOf d id in
-    answered m d
+    answered (sound m d) m d
     (check (deadPartition p) InvalidId
     ∷ check (not (isBuffer p address)) InvalidAddress
     ∷ check (isFree m p address) InvalidAddress

@@ -1,12 +1,13 @@
 -- Rules 6: where a region's map and pages lie in the memory. Assumes nothing.
-use Prim.Native.Nat.{ℕ, _+_, _-_, _*_, _/_, _%_}
+use Prim.Native.Nat.{ℕ, _+_, _*_, _/_, _%_}
 use mathlib.Core.Bool.{Bool, cond, not, _&&_}
 use mathlib.Core.List.{List, [], _∷_, _++_}
 use lib.ListN.{take, drop}
 use lib.Seq.{sets}
 use lib.Dec.{eqb, leb, ltb}
 use Rattle.arith.specs.Round.{pagesFor}
-use Rattle.arith.specs.Layout.{mapStart, firstPage, pageCount}
+use Rattle.arith.specs.Layout.{layoutOf as layoutAt}
+use Rattle.arith.specs.declared.Layout.{Layout}
 use Rattle.manager.specs.Lists.{any}
 use Rattle.manager.specs.Map.{Segment, isHeldSegment, decode, draw, freeSizes, heldSizes}
 use Rattle.manager.specs.Paged.{Kind, kindOf, allocate, free+}
@@ -23,28 +24,31 @@ dead r = eqb (r .name) 0
 abbrev pub kind : Region → Kind
 kind r = kindOf (r .order)
 
--- its page count
+-- its layout: how many pages it has, the number of the first one, the place of its map's first word
+abbrev pub layoutOf : Region → Layout
+layoutOf r = layoutAt (r .start) (r .length) (r .page)
+
 abbrev pub pagesOf : Region → ℕ
-pagesOf r = pageCount (r .start) (r .length) (r .page)
+pagesOf r = layoutOf r .pages
 
--- the address of its first page, and of page p
-abbrev pub baseOf : Region → ℕ
-baseOf r = firstPage (r .start) (r .page) (pagesOf r)
+abbrev pub firstPageOf : Region → ℕ
+firstPageOf r = layoutOf r .first
 
+abbrev pub mapAt : Region → ℕ
+mapAt r = layoutOf r .map
+
+-- the address of page p: pages are numbered from address 0
 abbrev pub addressOf : Region → ℕ → ℕ
-addressOf r p = baseOf r + p * r .page
+addressOf r p = p * r .page
 
--- whether an address is one of a page's start, counted from the first page on, and which page's
+-- whether a page starts at an address, and which
 abbrev pub startsPage : Region → ℕ → Bool
-startsPage r a = leb (baseOf r) a && eqb ((a - baseOf r) % r .page) 0
+startsPage r a = eqb (a % r .page) 0
 
 abbrev pub pageAt : Region → ℕ → ℕ
-pageAt r a = (a - baseOf r) / r .page
+pageAt r a = a / r .page
 
--- the place of its map's first word, and the words of the map
-abbrev pub mapAt : Region → ℕ
-mapAt r = mapStart (r .start) / 4
-
+-- the words of its map
 abbrev pub mapWords : List ℕ → Region → List ℕ
 mapWords m r = take (pagesOf r) (drop (mapAt r) m)
 
@@ -63,14 +67,14 @@ opened m r = withSegments m r (free+ (pagesOf r) [])
 
 -- the pages of the held segment that starts at an address (0 where none does), and the most that it can have
 abbrev pub heldAt : List ℕ → Region → ℕ → ℕ
-heldAt m r a = cond (startsPage r a) (kind r .held (pageAt r a) (segments m r)) 0
+heldAt m r a = cond (startsPage r a) (kind r .held (pageAt r a) (firstPageOf r) (segments m r)) 0
 
 abbrev pub roomAt : List ℕ → Region → ℕ → ℕ
-roomAt m r a = kind r .reach (pageAt r a) (segments m r)
+roomAt m r a = kind r .reach (pageAt r a) (firstPageOf r) (segments m r)
 
 -- the memory after that segment has k pages; 0: it is returned
 abbrev pub changed : List ℕ → Region → ℕ → ℕ → List ℕ
-changed m r a k = withSegments m r (kind r .change (pageAt r a) k (segments m r))
+changed m r a k = withSegments m r (kind r .change (pageAt r a) k (firstPageOf r) (segments m r))
 
 -- something of it is held
 abbrev pub anyHeld : List ℕ → Region → Bool
@@ -93,10 +97,10 @@ servable r k = leb k (pagesOf r)
 
 -- where k pages of it are placed, and the memory after they are taken there
 abbrev pub placed : List ℕ → Region → ℕ → Place
-placed m r k = kind r .place k (segments m r)
+placed m r k = kind r .place k (firstPageOf r) (segments m r)
 
 abbrev pub taken : List ℕ → Region → ℕ → List ℕ
-taken m r k = withSegments m r (allocate (kind r) k (segments m r))
+taken m r k = withSegments m r (allocate (kind r) k (firstPageOf r) (segments m r))
 
 -- the areas of objects: the whole asked area counts. A region has one
 abbrev pub areasOf : Region → List Area

@@ -25,9 +25,9 @@ use Rattle.manager.specs.declared.Wait.the-variants.{No, Yes}
 use Rattle.manager.specs.declared.Status.{Status}
 use Rattle.manager.specs.declared.Status.the-variants.{Successful, InvalidName, InvalidId, TooMany, InvalidSize, InvalidAddress, InvalidNumber, ResourceInUse, Unsatisfied, IncorrectState, InvalidPriority, InternalError, Waiting}
 
--- "25 first always", then the directive's own checks, then what it does
-abbrev pub answered : List ℕ → Manager → List Check → Result → Result
-answered m d cs act = checked (check (not (sound m d)) InternalError ∷ cs) (refused m d) act
+-- "25 first always", where the records that the directive looks at are not sound; then its own checks, then what it does
+abbrev pub answered : Bool → List ℕ → Manager → List Check → Result → Result
+answered ok m d cs act = checked (check (not ok) InternalError ∷ cs) (refused m d) act
 
 -- an area that meets another live one
 abbrev pub overlaps : Manager → Area → Bool
@@ -49,7 +49,7 @@ unfoldable pub createRegion : List ℕ → Manager → ℕ → ℕ → ℕ → �
 createRegion m d name start bytes page order =
     let r = newRegion name start bytes page order in
     let slot = regionNamed d 0 in
-    answered m d
+    answered (sound m d) m d
     (check (eqb name 0) InvalidName
     ∷ check (eqb start 0) InvalidAddress
     ∷ check (pastMemory m start bytes) InvalidAddress
@@ -64,7 +64,7 @@ createRegion m d name start bytes page order =
 -- ident: 3
 unfoldable pub identRegion : List ℕ → Manager → ℕ → Result
 identRegion m d name =
-    answered m d
+    answered (sound m d) m d
     (check (eqb name 0) InvalidName
     ∷ check (leb slots (regionNamed d name)) InvalidName
     ∷ [])
@@ -74,7 +74,7 @@ identRegion m d name =
 unfoldable pub deleteRegion : List ℕ → Manager → ℕ → Result
 deleteRegion m d id =
     let r = regionOf d id in
-    answered m d
+    answered (sound m d) m d
     (check (dead r) InvalidId
     ∷ check (anyHeld m r) ResourceInUse
     ∷ [])
@@ -100,7 +100,7 @@ unfoldable pub getSegment : List ℕ → Manager → ℕ → ℕ → Wait → �
 getSegment m d id size wait task priority ticks =
     let r = regionOf d id in
     let k = pagesAsked r size in
-    answered m d
+    answered (sound m d) m d
     (check (eqb size 0) InvalidSize
     ∷ check (dead r) InvalidId
     ∷ check (not (servable r k)) InvalidSize
@@ -112,7 +112,7 @@ getSegment m d id size wait task priority ticks =
 unfoldable pub returnSegment : List ℕ → Manager → ℕ → ℕ → Result
 returnSegment m d id address =
     let r = regionOf d id in
-    answered m d
+    answered (sound m d) m d
     (check (dead r) InvalidId
     ∷ check (eqb (heldAt m r address) 0) InvalidAddress
     ∷ [])
@@ -122,7 +122,7 @@ returnSegment m d id address =
 unfoldable pub segmentSize : List ℕ → Manager → ℕ → ℕ → Result
 segmentSize m d id address =
     let r = regionOf d id in
-    answered m d
+    answered (sound m d) m d
     (check (dead r) InvalidId
     ∷ check (eqb (heldAt m r address) 0) InvalidAddress
     ∷ [])
@@ -134,7 +134,7 @@ resizeSegment m d id address size =
     let r = regionOf d id in
     let old = heldAt m r address in
     let k = pagesAsked r size in
-    answered m d
+    answered (sound m d) m d
     (check (eqb size 0) InvalidSize
     ∷ check (dead r) InvalidId
     ∷ check (eqb old 0) InvalidAddress
@@ -161,7 +161,7 @@ informed m d i = record { memory = m; status = Successful; value = 0; informatio
 unfoldable pub regionInformation : List ℕ → Manager → ℕ → Result
 regionInformation m d id =
     let r = regionOf d id in
-    answered m d
+    answered (sound m d) m d
     (check (dead r) InvalidId
     ∷ [])
     (informed m d (informationOf (r .page) (frees m r) (helds m r)))
@@ -169,7 +169,7 @@ regionInformation m d id =
 -- tick: no check of its own; it serves nobody
 unfoldable pub tick : List ℕ → Manager → Result
 tick m d =
-    answered m d []
+    answered (sound m d) m d []
     (record {
       memory = m;
       status = Successful;

@@ -9,7 +9,7 @@ use native.Mathlib.Nat.{le-div-iff-mul-le, mul-add, le-antisymm, eq-or-lt-of-le,
 use native.Mathlib.Omega.{arith}
 use borrow.Author.Tests.{leb-true, le-leb, eq-eqb, ne-eqb}
 use Rattle.arith.proofs.Laws.Round.{round-ge, round-lt}
-use Rattle.arith.specs.Layout.{mapStart, firstPage, fits, largest, pageCount}
+use Rattle.arith.specs.Layout.{mapStart, firstPage, fits, largest, pageCount, layoutOf}
 
 -- one step of the search
 pick-passes : (t : ℕ → Bool) (k r : ℕ) (b : Bool) → t k ≡ b → (0 < r → t r ≡ true) → 0 < cond b k r
@@ -58,11 +58,11 @@ largest-unique k t n u p q =
 
 module _ (start length page : ℕ) where
   -- the test as an order, and back
-  pub fits-le : (n : ℕ) → fits start length page n ≡ true → firstPage start page n + n * page ≤ start + length
-  fits-le n e = leb-true (firstPage start page n + n * page) (start + length) e
+  pub fits-le : (n : ℕ) → fits start length page n ≡ true → firstPage start page n * page + n * page ≤ start + length
+  fits-le n e = leb-true (firstPage start page n * page + n * page) (start + length) e
 
-  pub le-fits : (n : ℕ) → firstPage start page n + n * page ≤ start + length → fits start length page n ≡ true
-  le-fits n h = le-leb (firstPage start page n + n * page) (start + length) h
+  pub le-fits : (n : ℕ) → firstPage start page n * page + n * page ≤ start + length → fits start length page n ≡ true
+  le-fits n h = le-leb (firstPage start page n * page + n * page) (start + length) h
 
   pub count-zero : page ≡ 0 → pageCount start length page ≡ 0
   unfolding pageCount
@@ -73,10 +73,10 @@ pub map-ge : (start : ℕ) → start ≤ mapStart start
 map-ge start = round-ge start 4 (omega arith)
 
 -- the pages start at or above the map's end, and within a page of it
-pub first-ge : (start page : ℕ) → 0 < page → (n : ℕ) → mapStart start + 4 * n ≤ firstPage start page n
+pub first-ge : (start page : ℕ) → 0 < page → (n : ℕ) → mapStart start + 4 * n ≤ firstPage start page n * page
 first-ge start page hp n = round-ge (mapStart start + 4 * n) page hp
 
-pub first-lt : (start page : ℕ) → 0 < page → (n : ℕ) → firstPage start page n < mapStart start + 4 * n + page
+pub first-lt : (start page : ℕ) → 0 < page → (n : ℕ) → firstPage start page n * page < mapStart start + 4 * n + page
 first-lt start page hp n = round-lt (mapStart start + 4 * n) page hp
 
 -- the page count, for a page size that is not 0
@@ -109,9 +109,14 @@ module _ (start length page : ℕ) (hp : 0 < page) where
 -- what the count's pages take: all within the area, the map before the pages, a word and a page each
 module _ (start length page : ℕ) where
   pub count-map : 0 < page
-      → pageCount start length page * 4 + mapStart start ≤ firstPage start page (pageCount start length page)
+      → pageCount start length page * 4 + mapStart start ≤ firstPage start page (pageCount start length page) * page
   count-map hp = omega (arith, first-ge start page hp (pageCount start length page))
 
   pub count-end : 0 < page → 0 < pageCount start length page
-      → firstPage start page (pageCount start length page) + pageCount start length page * page ≤ start + length
+      → firstPage start page (pageCount start length page) * page + pageCount start length page * page ≤ start + length
   count-end hp h = fits-le start length page (pageCount start length page) (count-fits start length page hp h)
+
+-- a layout by its parts
+pub layout-is : (start length page map n first : ℕ) → map ≡ mapStart start → n ≡ pageCount start length page → first ≡ firstPage start page n
+    → record { map = map / 4; pages = n; first = first } ≡ layoutOf start length page
+layout-is start length page map n first em en ef = rw (ef, en, em)

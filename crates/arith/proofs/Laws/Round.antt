@@ -1,9 +1,9 @@
 -- What rounding up gives: the least multiple at or above, and the least number of whole pages. All follows from the two bounds on
 -- a quotient: n / p * p ≤ n < n / p * p + p. Assumes nothing.
 use Prim.Native.Nat.{ℕ, _+_, _-_, _*_, _/_, _%_, _≤_, _<_}
-use mathlib.Core.Path.{_≡_}
+use mathlib.Core.Path.{_≡_, ap}
 use mathlib.Core.Logic.{⊎-elim}
-use native.Mathlib.Nat.{div-mul-le-self, lt-div-mul-add, div-lt-iff-lt-mul, le-div-iff-mul-le, div-zero, mul-zero, mul-mod-left, suc-mul}
+use native.Mathlib.Nat.{div-mul-le-self, lt-div-mul-add, div-lt-iff-lt-mul, le-div-iff-mul-le, div-zero, mul-mod-left, suc-mul}
 use native.Mathlib.Nat.{eq-zero-or-pos, le-mul-of-pos-right, mul-le-mul-right}
 use native.Mathlib.Numerals.{add-one}
 use native.Mathlib.Omega.{arith}
@@ -13,9 +13,12 @@ use Rattle.arith.specs.Round.{roundUp, pagesFor}
 pub round-under : (x p : ℕ) → roundUp x p ≤ x + (p - 1)
 round-under x p = div-mul-le-self (x + (p - 1)) p
 
--- there are no multiples of 0 but 0
-pub round-zero : (x p : ℕ) → p ≡ 0 → roundUp x p ≡ 0
-round-zero x p e = rw (e, mul-zero)
+-- it is so many multiples of p as it takes to reach x
+pub round-is : (x p n : ℕ) → n ≡ pagesFor x p → n * p ≡ roundUp x p
+round-is x p n e = ap (λ (k : ℕ). k * p) e
+
+pub multiples-under : (x p n : ℕ) → n ≡ pagesFor x p → n * p ≤ x + (p - 1)
+multiples-under x p n e = omega (arith, round-is x p n e, round-under x p)
 
 -- the multiple is at or above x, and by less than p
 pub round-ge : (x p : ℕ) → 0 < p → x ≤ roundUp x p

@@ -1,28 +1,29 @@
--- `first_page` meets its contract: it rounds up twice, as the definition does, and all stays far below 64 bits. Assumes nothing.
+-- `first_page` meets its contract: the map's end is rounded up as the definition does, and all stays far below 64 bits. Assumes nothing.
 use mathlib.Core.Path.{_∙_, ap}
 use Prim.Native.Nat.{ℕ, _+_, _*_}
-use Rattle.arith.specs.Round.{roundUp}
+use Rattle.arith.specs.Round.{pagesFor}
+use Rattle.arith.proofs.Laws.Round.{round-under}
 use native.Mathlib.Omega.{arith}
 use borrow.Author.Needs.{needs}
 use Rattle.arith.proofs.first_page.Statement.{statement}
 use Rattle.arith.proofs.first_page.Tie as tie
 
-up-requires : tie.Need-up-requires
-up-requires c κs = search needs
+round-up-requires : tie.Need-round-up-requires
+round-up-requires c κs = search needs
 
-mul-up : tie.Need-mul-up
-mul-up c = search needs
+mul-multiples : tie.Need-mul-multiples
+mul-multiples c = search needs
 
-add-up : tie.Need-add-up
-add-up c = search needs
+add-multiples : tie.Need-add-multiples
+add-multiples c = omega (arith, c .round-up .ensures, round-under (c .before .args .start) 4)
 
-up-requires-2 : tie.Need-up-requires-2
-up-requires-2 c κs = search needs
+multiples-requires : tie.Need-multiples-requires
+multiples-requires c κs = omega (arith, c .round-up .ensures, round-under (c .before .args .start) 4)
 
 returns : tie.Need-returns
 returns c =
-    c .up2 .ensures ∙
-    ap (λ (m : ℕ). roundUp (m + 4 * c .before .before .args .n) (c .before .before .args .page)) (c .before .up .ensures)
+    c .multiples .ensures ∙
+    ap (λ (m : ℕ). pagesFor (m + 4 * c .before .before .args .n) (c .before .before .args .page)) (c .before .round-up .ensures)
 
 pub first-page-spec : {M : Type 1} → statement M
-first-page-spec = tie.close (tie.spec up-requires mul-up add-up up-requires-2 returns)
+first-page-spec = tie.close (tie.spec round-up-requires mul-multiples add-multiples multiples-requires returns)

@@ -4,7 +4,7 @@ use Prim.Native.Nat.{_+_, _-_, _*_, _/_}
 use mathlib.Core.Path.{refl, sym}
 use Rattle.arith.specs.Layout.{mapStart}
 use Rattle.arith.proofs.Laws.Layout.{count-zero}
-use Rattle.arith.proofs.Laws.Round.{round-under}
+use Rattle.arith.proofs.Laws.Round.{round-under, multiples-under}
 use Rattle.arith.proofs.Count.{quotient-room, count-none, count-exact, count-less, count-empty}
 use native.Mathlib.Omega.{arith}
 use borrow.Author.Needs.{needs}
@@ -19,13 +19,13 @@ returns c =
 add-end : tie.Need-add-end
 add-end c = search needs
 
-up-requires : tie.Need-up-requires
-up-requires c κs = search needs
+round-up-requires : tie.Need-round-up-requires
+round-up-requires c κs = search needs
 
 returns-2 : tie.Need-returns-2
 returns-2 c =
     let a = c .before .before .before .args in
-    sym (count-none (a .start) (a .length) (a .page) (c .before .up .result) (omega arith) (c .before .up .ensures) (c .if2 .taken))
+    sym (count-none (a .start) (a .length) (a .page) (c .before .round-up .result) (omega arith) (c .before .round-up .ensures) (c .if2 .taken))
 
 add-n : tie.Need-add-n
 add-n c = search needs
@@ -36,45 +36,62 @@ div-n c = search needs
 cast-n : tie.Need-cast-n
 cast-n c =
     let a = c .before .before .before .args in
-    let room = a .start + a .length - c .before .up .result in
+    let room = a .start + a .length - c .before .round-up .result in
     omega (arith, quotient-room room (a .page))
 
 first-page-requires : tie.Need-first-page-requires
 first-page-requires c κs = search needs
 
-cast-stop : tie.Need-cast-stop
-cast-stop c =
-    let a = c .before .before .before .before .args in
-    let room = a .start + a .length - c .before .before .up .result in
-    omega (arith, quotient-room room (a .page))
-
 mul-stop : tie.Need-mul-stop
 mul-stop c =
     let a = c .before .before .before .before .args in
-    let room = a .start + a .length - c .before .before .up .result in
+    let room = a .start + a .length - c .before .before .round-up .result in
+    let n = room / (a .page + 4) in
+    omega (
+      arith,
+      quotient-room room (a .page),
+      round-under (a .start) 4,
+      multiples-under (mapStart (a .start) + 4 * n) (a .page) (c .first-page .result) (c .first-page .ensures),
+    )
+
+cast-stop : tie.Need-cast-stop
+cast-stop c =
+    let a = c .before .before .before .before .args in
+    let room = a .start + a .length - c .before .before .round-up .result in
+    omega (arith, quotient-room room (a .page))
+
+mul-stop-2 : tie.Need-mul-stop-2
+mul-stop-2 c =
+    let a = c .before .before .before .before .args in
+    let room = a .start + a .length - c .before .before .round-up .result in
     omega (arith, quotient-room room (a .page))
 
 add-stop : tie.Need-add-stop
 add-stop c =
     let a = c .before .before .before .before .args in
-    let room = a .start + a .length - c .before .before .up .result in
+    let room = a .start + a .length - c .before .before .round-up .result in
     let n = room / (a .page + 4) in
-    omega (arith, quotient-room room (a .page), c .first-page .ensures, round-under (mapStart (a .start) + 4 * n) (a .page))
+    omega (
+      arith,
+      quotient-room room (a .page),
+      round-under (a .start) 4,
+      multiples-under (mapStart (a .start) + 4 * n) (a .page) (c .first-page .result) (c .first-page .ensures),
+    )
 
 returns-3 : tie.Need-returns-3
 returns-3 c =
     let a = c .before .before .before .before .before .args in
-    sym (count-exact (a .start) (a .length) (a .page) (c .before .before .before .up .result)
+    sym (count-exact (a .start) (a .length) (a .page) (c .before .before .before .round-up .result)
     _ (c .before .first-page .result) (omega arith)
-    (c .before .before .before .up .ensures) (c .before .before .if2 .left) refl
+    (c .before .before .before .round-up .ensures) (c .before .before .if2 .left) refl
     (c .before .first-page .ensures) (c .if3 .taken))
 
 returns-4 : tie.Need-returns-4
 returns-4 c =
     let a = c .before .before .before .before .before .before .args in
-    sym (count-empty (a .start) (a .length) (a .page) (c .before .before .before .before .up .result)
+    sym (count-empty (a .start) (a .length) (a .page) (c .before .before .before .before .round-up .result)
     _ (c .before .before .first-page .result) (omega arith)
-    (c .before .before .before .before .up .ensures) (c .before .before .before .if2 .left) refl
+    (c .before .before .before .before .round-up .ensures) (c .before .before .before .if2 .left) refl
     (c .before .before .first-page .ensures) (c .before .if3 .left) (c .if4 .taken))
 
 sub-result : tie.Need-sub-result
@@ -83,9 +100,9 @@ sub-result c = search needs
 returns-5 : tie.Need-returns-5
 returns-5 c =
     let a = c .before .before .before .before .before .before .args in
-    sym (count-less (a .start) (a .length) (a .page) (c .before .before .before .before .up .result)
+    sym (count-less (a .start) (a .length) (a .page) (c .before .before .before .before .round-up .result)
     _ (c .before .before .first-page .result) (omega arith)
-    (c .before .before .before .before .up .ensures) (c .before .before .before .if2 .left) refl
+    (c .before .before .before .before .round-up .ensures) (c .before .before .before .if2 .left) refl
     (c .before .before .first-page .ensures) (c .before .if3 .left))
 
 pub page-count-spec : {M : Type 1} → statement M
@@ -94,14 +111,15 @@ page-count-spec =
     (tie.spec
     returns
     add-end
-    up-requires
+    round-up-requires
     returns-2
     add-n
     div-n
     cast-n
     first-page-requires
-    cast-stop
     mul-stop
+    cast-stop
+    mul-stop-2
     add-stop
     returns-3
     returns-4

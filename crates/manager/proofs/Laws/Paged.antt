@@ -7,7 +7,7 @@ use mathlib.Core.List.{List, [], _∷_, _++_}
 use native.Mathlib.Nat.{add-zero}
 use native.Mathlib.Omega.{arith}
 use lib.Dec.{eqb, leb}
-use borrow.Author.Tests.{leb-true, leb-false, le-leb, lt-leb, eqb-true, eq-eqb, ne-eqb}
+use borrow.Author.Tests.{leb-true, leb-false, le-leb, lt-leb, eqb-true, eqb-false, eq-eqb, ne-eqb}
 use Rattle.manager.specs.Map.{Segment, free, held, isHeldSegment, draw, decode, soundMap, total}
 use Rattle.manager.specs.Map.{sizeOf}
 use Rattle.manager.proofs.Laws.Map.{Sized, both-true, total-cons}
@@ -173,30 +173,30 @@ fit-at k at (free n ∷ s) p e = go (leb k n) refl (λ e′. fit-at k (at + n) s
         (omega (arith, h .0), rw (beyond p k at n (omega (arith, h .0)), f) (ap (λ (t : List Segment). free n ∷ t) (h .1)))
 
 -- A GET IS FIRST FIT
-pub fit-is : (k : ℕ) (s : List Segment) → allocate paged k s ≡ firstFit k s
-fit-is k s = go (placeFrom k 0 s) refl
+pub fit-is : (k at : ℕ) (s : List Segment) → allocate paged k at s ≡ firstFit k s
+fit-is k at s = go (placeFrom k at s) refl
   where
-    go : (q : Place) → placeFrom k 0 s ≡ q → onPlace q (λ p. occupyFrom p k 0 s) s ≡ firstFit k s
-    go (At p) e = fit-at k 0 s p e .1
-    go Nowhere e = sym (fit-none k 0 s e)
+    go : (q : Place) → placeFrom k at s ≡ q → onPlace q (λ p. occupyFrom p k at s) s ≡ firstFit k s
+    go (At p) e = fit-at k at s p e .1
+    go Nowhere e = sym (fit-none k at s e)
 
 -- it keeps a map well formed and its pages in number
-pub well-take : (k : ℕ) (s : List Segment) → 1 ≤ k → Well true s → Well true (allocate paged k s)
-well-take k s o w = go (placeFrom k 0 s)
+pub well-take : (k at : ℕ) (s : List Segment) → 1 ≤ k → Well true s → Well true (allocate paged k at s)
+well-take k at s o w = go (placeFrom k at s)
   where
-    go : (q : Place) → Well true (onPlace q (λ p. occupyFrom p k 0 s) s)
-    go (At p) = well-occupy p k 0 true s o w
+    go : (q : Place) → Well true (onPlace q (λ p. occupyFrom p k at s) s)
+    go (At p) = well-occupy p k at true s o w
     go Nowhere = w
 
-pub total-take : (k : ℕ) (s : List Segment) → total (allocate paged k s) ≡ total s
-total-take k s = go (placeFrom k 0 s)
+pub total-take : (k at : ℕ) (s : List Segment) → total (allocate paged k at s) ≡ total s
+total-take k at s = go (placeFrom k at s)
   where
-    go : (q : Place) → total (onPlace q (λ p. occupyFrom p k 0 s) s) ≡ total s
-    go (At p) = total-occupy p k 0 s
+    go : (q : Place) → total (onPlace q (λ p. occupyFrom p k at s) s) ≡ total s
+    go (At p) = total-occupy p k at s
     go Nowhere = refl
 
-pub take-none : (k : ℕ) (s : List Segment) → placeFrom k 0 s ≡ Nowhere → allocate paged k s ≡ s
-take-none k s e = rw e
+pub take-none : (k at : ℕ) (s : List Segment) → placeFrom k at s ≡ Nowhere → allocate paged k at s ≡ s
+take-none k at s e = rw e
 
 -- where k pages are placed at page i: the map before, a free segment with room, and the map behind
 pub record Hit (k at i : ℕ) (s : List Segment) : Type 0 where
@@ -374,9 +374,54 @@ held-within p at (held n ∷ s) = go (eqb at p) (held-within p (at + n) s)
     go true h = omega arith
     go false h = omega arith
 
+-- ---- pages counted from elsewhere: a map that starts `by` pages further on has every page so many further on
+
+abbrev pub shifted : ℕ → Place → Place
+shifted by (At p) = At (by + p)
+shifted by Nowhere = Nowhere
+
+module _ (by : ℕ) where
+  shift-test : (at p : ℕ) (b : Bool) → eqb at p ≡ b → eqb (by + at) (by + p) ≡ b
+  shift-test at p true e = eq-eqb (by + at) (by + p) (omega (arith, eqb-true at p e))
+  shift-test at p false e = ne-eqb (by + at) (by + p) (λ q. eqb-false at p e (omega arith))
+
+  shift-at : (at p : ℕ) → eqb (by + at) (by + p) ≡ eqb at p
+  shift-at at p = shift-test at p (eqb at p) refl
+
+  pub place-shift : (k at : ℕ) (s : List Segment) → placeFrom k (by + at) s ≡ shifted by (placeFrom k at s)
+  unfolding placeFrom
+  place-shift k at [] = refl
+  place-shift k at (held n ∷ s) = let e : by + at + n ≡ by + (at + n) = omega arith in rw e (place-shift k (at + n) s)
+  place-shift k at (free n ∷ s) =
+      let e : by + at + n ≡ by + (at + n) = omega arith in
+      rw e (go (leb k n) (place-shift k (at + n) s))
+    where
+      go : (b : Bool) → placeFrom k (by + (at + n)) s ≡ shifted by (placeFrom k (at + n) s)
+          → cond b (At (by + at)) (placeFrom k (by + (at + n)) s) ≡ shifted by (cond b (At at) (placeFrom k (at + n) s))
+      go true h = refl
+      go false h = h
+
+  pub held-shift : (p at : ℕ) (s : List Segment) → heldFrom (by + p) (by + at) s ≡ heldFrom p at s
+  unfolding heldFrom
+  held-shift p at [] = refl
+  held-shift p at (free n ∷ s) = let e : by + at + n ≡ by + (at + n) = omega arith in rw e (held-shift p (at + n) s)
+  held-shift p at (held n ∷ s) = let e : by + at + n ≡ by + (at + n) = omega arith in rw (shift-at at p, e, held-shift p (at + n) s)
+
+  pub reach-shift : (p at : ℕ) (s : List Segment) → reachFrom (by + p) (by + at) s ≡ reachFrom p at s
+  unfolding reachFrom
+  reach-shift p at [] = refl
+  reach-shift p at (free n ∷ s) = let e : by + at + n ≡ by + (at + n) = omega arith in rw e (reach-shift p (at + n) s)
+  reach-shift p at (held n ∷ s) = let e : by + at + n ≡ by + (at + n) = omega arith in rw (shift-at at p, e, reach-shift p (at + n) s)
+
+  pub change-shift : (p k at : ℕ) (s : List Segment) → changeFrom (by + p) k (by + at) s ≡ changeFrom p k at s
+  unfolding changeFrom
+  change-shift p k at [] = refl
+  change-shift p k at (free n ∷ s) = let e : by + at + n ≡ by + (at + n) = omega arith in rw (e, change-shift p k (at + n) s)
+  change-shift p k at (held n ∷ s) = let e : by + at + n ≡ by + (at + n) = omega arith in rw (shift-at at p, e, change-shift p k (at + n) s)
+
 -- ---- of whole maps
 
 -- a get keeps a sound map sound and its length
 module _ (ws : List ℕ) (ok : soundMap apart ws ≡ true) where
-  pub sound-take : (k : ℕ) → 1 ≤ k → soundMap apart (draw (allocate paged k (decode ws))) ≡ true
-  sound-take k o = well-drawn (allocate paged k (decode ws)) (well-take k (decode ws) o (well-decoded ws ok))
+  pub sound-take : (k at : ℕ) → 1 ≤ k → soundMap apart (draw (allocate paged k at (decode ws))) ≡ true
+  sound-take k at o = well-drawn (allocate paged k at (decode ws)) (well-take k at (decode ws) o (well-decoded ws ok))

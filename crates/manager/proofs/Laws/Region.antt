@@ -11,7 +11,7 @@ use borrow.Rule.Slice.PartMut.{putMid}
 use Rattle.manager.specs.Map.{Segment, draw, tiled, soundMap, total}
 use Rattle.manager.specs.Paged.{apart, heldFrom}
 use Rattle.manager.proofs.Laws.Paged.{held-within}
-use Rattle.manager.specs.Region.{pagesOf, mapAt, mapWords, segments, withSegments, startsPage, pageAt, heldAt}
+use Rattle.manager.specs.Region.{pagesOf, firstPageOf, mapAt, mapWords, segments, withSegments, startsPage, pageAt, heldAt}
 use Rattle.manager.specs.Sound.{Laid, Sited}
 use Rattle.manager.proofs.Laws.Sound.{tiled-map, map-in, map-long, pages-few, with-is, total-segments}
 use Rattle.manager.specs.declared.Region.{Region}
@@ -56,6 +56,6 @@ pub ruleset lending = (lent-in, lent-few, lent-some, lent-tiled, lent-sound)
 pub held-few : (m : List ℕ) (r : Region) (address : ℕ) → Sited m r → heldAt m r address ≤ pagesOf r
 held-few m r address s = go (startsPage r address)
   where
-    go : (b : Bool) → cond b (heldFrom (pageAt r address) 0 (segments m r)) 0 ≤ pagesOf r
-    go true = omega (arith, held-within (pageAt r address) 0 (segments m r), total-segments m r s)
+    go : (b : Bool) → cond b (heldFrom (pageAt r address) (firstPageOf r) (segments m r)) 0 ≤ pagesOf r
+    go true = omega (arith, held-within (pageAt r address) (firstPageOf r) (segments m r), total-segments m r s)
     go false = omega arith

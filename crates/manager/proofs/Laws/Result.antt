@@ -9,7 +9,6 @@ use Rattle.manager.specs.Lists.{every}
 use Rattle.manager.proofs.Laws.Lists.{and-first, and-second}
 use Rattle.manager.proofs.Laws.Appended.{by-case}
 use Rattle.manager.specs.Regions.{answered}
-use Rattle.manager.specs.Sound.{sound}
 use borrow.Author.Tests.{eq-eqb, ne-eqb, lt-ltb, le-ltb, le-leb, lt-leb}
 use Rattle.manager.specs.Result.{Result, Performs, Check, check, checked, answerOf, replied, refused}
 use Rattle.manager.specs.declared.Manager.{Manager}
@@ -47,17 +46,17 @@ by-checks P t (c ∷ cs) refuse act h f g =
     (λ e. by-checks P t cs refuse act (and-second (t (c .status)) (every (λ k. t (k .status)) cs) h) f (λ p. g (e, p)))
 
 -- in front of them stands the check of the records: unsound ones are answered 25, and of sound ones it passes
-module _ (m : List ℕ) (d : Manager) (cs : List Check) (act : Result) where
-  pub answered-sound : sound m d ≡ true → answered m d cs act ≡ checked cs (refused m d) act
+module _ {ok : Bool} (m : List ℕ) (d : Manager) (cs : List Check) (act : Result) where
+  pub answered-sound : ok ≡ true → answered ok m d cs act ≡ checked cs (refused m d) act
   unfolding checked
   answered-sound e = rw e
 
   pub by-answer : (P : Result → Type 0) (t : Status → Bool) → every (λ c. t (c .status)) cs ≡ true
-      → (sound m d ≡ false → P (refused m d InternalError)) → (sound m d ≡ true → (s : Status) → t s ≡ true → P (refused m d s))
-      → (sound m d ≡ true → Passed cs → P act) → P (answered m d cs act)
+      → (ok ≡ false → P (refused m d InternalError)) → (ok ≡ true → (s : Status) → t s ≡ true → P (refused m d s))
+      → (ok ≡ true → Passed cs → P act) → P (answered ok m d cs act)
   unfolding checked
   by-answer P t h f g k =
-      by-case (sound m d) (λ b. P (cond (not b) (refused m d InternalError) (checked cs (refused m d) act)))
+      by-case ok (λ b. P (cond (not b) (refused m d InternalError) (checked cs (refused m d) act)))
       (λ e. by-checks P t cs (refused m d) act h (g e) (k e)) f
 
 -- what a call performs

@@ -18,7 +18,7 @@ use Rattle.manager.specs.Map.{Segment, decode, draw, tiled, soundMap, to
 use Rattle.manager.proofs.Laws.Map.{Sized, redraw, reread, sound-drawn, sound-tiled, length-draw, total-decoded, sized-decoded}
 use Rattle.manager.proofs.Laws.Apart.{Well, well-decoded}
 use Rattle.manager.specs.Paged.{Kind}
-use Rattle.manager.specs.Region.{dead, kind, pagesOf, baseOf, mapAt, mapWords, segments, withSegments, addressOf}
+use Rattle.manager.specs.Region.{dead, kind, pagesOf, firstPageOf, mapAt, mapWords, segments, withSegments, addressOf}
 use Rattle.manager.specs.Sound.{Laid, Sited, sound, soundLength, inside, soundPage, liveRegion, soundRegion, soundPartition, soundAreas, soundQueue}
 use Rattle.manager.specs.declared.Manager.{Manager}
 use Rattle.manager.specs.declared.Region.{Region}
@@ -95,13 +95,13 @@ module _ (m : List ℕ) (r : Region) (s : Laid m r) where
   pages-few = omega (arith, map-in, s .words)
 
   -- and so do its pages
-  pub pages-end : baseOf r + pagesOf r * r .page ≤ 65536
+  pub pages-end : addressOf r (firstPageOf r) + pagesOf r * r .page ≤ 65536
   pages-end =
       let b = count-end (r .start) (r .length) (r .page) (omega (arith, s .page-low)) (s .some) in
       omega (arith, s .inside, s .words)
 
-  pub address-in : (p k : ℕ) → p + k ≤ pagesOf r → addressOf r p + k * r .page ≤ 65536
-  address-in p k h = omega (arith, mul-le-mul-right (r .page) h, add-mul p k (r .page), pages-end)
+  pub address-in : (p k : ℕ) → p + k ≤ firstPageOf r + pagesOf r → addressOf r p + k * r .page ≤ 65536
+  address-in p k h = omega (arith, mul-le-mul-right (r .page) h, add-mul p k (r .page), add-mul (firstPageOf r) (pagesOf r) (r .page), pages-end)
 
   -- other segments drawn in its map
   module _ (t : List Segment) (e : total t ≡ pagesOf r) where

@@ -28,8 +28,8 @@ abbrev pub refuses : Check → Bool
 refuses c = refusing (c .status)
 
 -- of sound records: what holds of the action and of each refusal holds of the answer
-pub by-sound : (m : List ℕ) (d : Manager) (cs : List Check) (act : Result) → sound m d ≡ true → (P : Result → Type 0) → every refuses cs ≡ true
-    → ((s : Status) → refusing s ≡ true → P (refused m d s)) → (Passed cs → P act) → P (answered m d cs act)
+pub by-sound : {ok : Bool} (m : List ℕ) (d : Manager) (cs : List Check) (act : Result) → ok ≡ true → (P : Result → Type 0) → every refuses cs ≡ true
+    → ((s : Status) → refusing s ≡ true → P (refused m d s)) → (Passed cs → P act) → P (answered ok m d cs act)
 by-sound m d cs act e P h f g = rw (answered-sound m d cs act e) (by-checks P refusing cs (refused m d) act h f g)
 
 -- what a call that is answered without notices enters
@@ -69,6 +69,6 @@ module _ (c : Call) (m : List ℕ) (d : Manager) (t : Receipts) (v : Inv m d t) 
       kept-words c m t (replied m d s n) refl (rw (note-other c m d t n s a w) v)
 
   -- a directive keeps it where its action does
-  pub kept-checked : (cs : List Check) (act : Result) → sound m d ≡ true → every refuses cs ≡ true → (Passed cs → Kept c m t act)
-      → Kept c m t (answered m d cs act)
+  pub kept-checked : {ok : Bool} (cs : List Check) (act : Result) → ok ≡ true → every refuses cs ≡ true → (Passed cs → Kept c m t act)
+      → Kept c m t (answered ok m d cs act)
   kept-checked cs act e h k = by-sound m d cs act e (Kept c m t) h (λ s r. kept-refused s 0 r) k

@@ -50,8 +50,8 @@ agree {m} {d} (test {b} {c} {s} {cs} {xs} {act} {r} e f) =
 
 module _ (m : List ℕ) (d : Manager) where
   -- of sound books the check for 25 passes
-  pub answers : (cs : List Check) (act : Result) (r : Reply) → sound m d ≡ true → Answers m d cs act r → replyOf (answered m d cs act) ≡ r
-  answers cs act r ok a = ap (λ (s : Result). replyOf s) (answered-sound m d cs act ok) ∙ a
+  pub answers : {ok : Bool} (cs : List Check) (act : Result) (r : Reply) → ok ≡ true → Answers m d cs act r → replyOf (answered ok m d cs act) ≡ r
+  answers cs act r e a = ap (λ (s : Result). replyOf s) (answered-sound m d cs act e) ∙ a
 
   -- 4, and then what the entry says
   pub at-region : (r : Region) (o : Option RegionEntry) → RegionSlot m r o → (cs : Region → List Check) (act : Region → Result) (f : RegionEntry → Reply)
