@@ -8,6 +8,7 @@ use Rattle.manager.specs.Result.{Result, check, done}
 use Rattle.manager.specs.Lists.{indexOf}
 use Rattle.manager.specs.Partition.{deadPartition, buffers, bufferAt, isBuffer, isFree, linkAll, afterGet, gotten, afterReturn, returned}
 use Rattle.manager.specs.Regions.{answered, overlaps, pastMemory}
+use Rattle.manager.specs.Sound.{sound}
 use Rattle.manager.specs.declared.Manager.{Manager}
 use Rattle.manager.specs.declared.Partition.{Partition}
 use Rattle.manager.specs.declared.Area.{Area}

@@ -12,7 +12,6 @@ use Rattle.manager.proofs.Laws.Lists.{and-first, and-second}
 use Rattle.manager.proofs.Laws.Result.{Passed, by-checks, answered-sound}
 use Rattle.manager.specs.Result.{Result, Check, replied, refused}
 use Rattle.manager.specs.Regions.{answered}
-use Rattle.manager.specs.Sound.{sound}
 use Rattle.manager.specs.declared.Manager.{Manager}
 use Rattle.manager.specs.declared.Call.{Call}
 use Rattle.manager.specs.declared.Status.{Status}

@@ -11,7 +11,6 @@ use Rattle.manager.specs.Result.{Result, Check, check, checked, refused}
 use Rattle.manager.specs.Region.{dead}
 use Rattle.manager.specs.Partition.{deadPartition}
 use Rattle.manager.specs.Regions.{answered}
-use Rattle.manager.specs.Sound.{sound}
 use Rattle.manager.specs.declared.Manager.{Manager}
 use Rattle.manager.specs.declared.Region.{Region}
 use Rattle.manager.specs.declared.Partition.{Partition}
