@@ -11,7 +11,6 @@ use Prim.Native.Nat.{ℕ, _+_, _-_, _*_, _/_, _≤_, _<_}
 use lib.ListN.{length, getD, take, drop}
 use lib.Seq.{sets}
 use lib.Dec.{eqb}
-use Rattle.arith.specs.Layout.{mapStart}
 use Rattle.manager.specs.Record.{mostWords, partitionOf}
 use Rattle.manager.specs.Map.{Segment, free, held, draw, decode}
 use Rattle.manager.specs.Perform.{Implementation}
@@ -24,7 +23,7 @@ use Rattle.manager.specs.declared.Status.the-variants.{Successful, Unsatisfied,
 use Rattle.manager.specs.Lists.{In, Distinct}
 use Rattle.trace.specs.Loans.{Loan, Lent, loanPages, sum, enter, amend}
 use Rattle.trace.specs.Reading.{NoPlace}
-use Rattle.trace.specs.Receipts.{reading, pagesOver, Servable, Receipts, RegionEntry, PartitionEntry, Wait, replyOf, isSuccess, unit, pagesIn, addressIn, pageIn, byPage, pageLoans, buffersIn, buffersFrom}
+use Rattle.trace.specs.Receipts.{reading, pagesOver, Servable, Receipts, RegionEntry, PartitionEntry, Wait, replyOf, isSuccess, unit, layoutIn, pagesIn, spanIn, addressIn, pageIn, byPage, pageLoans, buffersIn, buffersFrom}
 use Rattle.trace.specs.Queue.{queueOf, inLine, dueIn}
 use Rattle.trace.specs.Replies.{informationIn, grantTo, byReceipts, writeByReceipts, readByReceipts}
 use Rattle.trace.specs.Trace.{Ask, call, read, write, State, answer, answerWrite, after, Object, Loaned, Owned, Runs, start}
@@ -47,10 +46,10 @@ waitersFor id (w ∷ ws) = cond (not (eqb (w .task) 0) && eqb (w .region) id) (w
 
 -- OF A REGION WITH THE LOANS l, at addresses: no place would serve a get of so many bytes; page p is the one that it takes
 abbrev pub Full : RegionEntry → List Loan → ℕ → Type 0
-Full e l size = NoPlace (reading e) (pagesIn e) (byPage e l) (pagesOver e size)
+Full e l size = NoPlace (reading e) (spanIn e) (byPage e l) (pagesOver e size)
 
 abbrev pub Takes : RegionEntry → List Loan → ℕ → ℕ → Type 0
-Takes e l size p = reading e .Chosen (pagesIn e) (byPage e l) (pagesOver e size) p
+Takes e l size p = reading e .Chosen (spanIn e) (byPage e l) (pagesOver e size) p
 
 -- GRANTS BY THE RECEIPTS: to the first waits in order, each at the place that a get takes at that moment, up to the first wait that has none
 pub data Grants (e : RegionEntry) : List Loan → List Wait → List Notice → Type 0 where
@@ -62,7 +61,7 @@ pub data Grants (e : RegionEntry) : List Loan → List Wait → List Notice → 
 
 -- a region's map words in the memory: where they lie, and how many they are, follows from what create asked for
 abbrev pub mapIn : List ℕ → RegionEntry → List ℕ
-mapIn m e = take (pagesIn e) (drop (mapStart (e .start) / 4) m)
+mapIn m e = take (pagesIn e) (drop (layoutIn e .map) m)
 
 -- the pages free in a map
 unfoldable pub freePages : List Segment → ℕ
@@ -75,10 +74,10 @@ pub record RegionClaims (i : Implementation) (s : State) (id : ℕ) (e : RegionE
   -- "Where an object's pages or buffers lie follows from what create asked for": each loan is at the address of a page
   pub placed : (a k : ℕ) → Lent (e .loans) a k → a ≡ addressIn e (pageIn e a)
   -- its loans lie in its pages, and no two share one
-  pub ordered : reading e .Fits (pagesIn e) (pageLoans e)
+  pub ordered : reading e .Fits (spanIn e) (pageLoans e)
   -- "The drawn map has a held segment for each loan and a free one for each unbroken run of unheld pages, taken whole": the region's map
   -- is the drawn one
-  pub map : mapIn (s .memory) e ≡ draw (reading e .drawn (pagesIn e) (pageLoans e))
+  pub map : mapIn (s .memory) e ≡ draw (reading e .drawn (spanIn e) (pageLoans e))
   -- pages held by the receipts and pages free in the map make up the region
   pub counted : sum (loanPages (e .loans)) + freePages (decode (mapIn (s .memory) e)) ≡ pagesIn e
   -- "A get is valid if its checks ahead of 13, the one for 25 aside, refuse nothing": one that won't wait is answered 13 exactly when no
@@ -101,7 +100,7 @@ pub record RegionClaims (i : Implementation) (s : State) (id : ℕ) (e : RegionE
   pub resize : (a k size : ℕ) → Lent (e .loans) a k → 0 < size
       → (answer i s (ResizeSegment id a size) .value ≡ k * unit e)
       × ((answer i s (ResizeSegment id a size) .status ≡ Unsatisfied)
-      ↔ (¬ reading e .Room (pagesIn e) (pageLoans e) (pageIn e a) k (pagesOver e size)))
+      ↔ (¬ reading e .Room (spanIn e) (pageLoans e) (pageIn e a) k (pagesOver e size)))
   -- the queue is the waits of the receipts, in order
   pub queue : waitersFor id (s .manager .waiters) ≡ waitersOf (queueOf id e (s .receipts))
   -- after a return the grants go to the first waits in that order, each to the place that a get takes at that moment, and stop exactly

@@ -11,8 +11,9 @@ use Rattle.manager.specs.Lists as lists
 use Rattle.manager.specs.Map.{draw}
 use Rattle.manager.specs.Examples.{Step, step, Row, layout, calls, words, same, told}
 use Rattle.manager.specs.declared.Order.the-variants.{Fifo}
+use Rattle.trace.specs.Loans.{behind}
 use Rattle.trace.specs.Pages.{drawn}
-use Rattle.trace.specs.Receipts.{Receipts, RegionEntry, Reply, blank, pagesIn, addressIn, pageLoans, note, reading}
+use Rattle.trace.specs.Receipts.{Receipts, RegionEntry, Reply, blank, pagesIn, spanIn, addressIn, pageLoans, note, reading}
 use Rattle.trace.specs.Replies.{byReceipts}
 
 -- an answer: status, value, and the notices (task, status, address)
@@ -28,12 +29,13 @@ follows t (step c status value notices ∷ ss) after =
 
 -- where an area's pages lie
 abbrev lies : RegionEntry → ℕ → ℕ → ℕ → Bool
-lies e n first last = eqb (pagesIn e) n && (eqb (addressIn e 0) first && eqb (addressIn e n) (last + 1))
+lies e n first last =
+    eqb (pagesIn e) n && (eqb (addressIn e (spanIn e .first)) first && eqb (addressIn e (behind (spanIn e))) (last + 1))
 
 -- the words of the map that is drawn from a region's loans
 abbrev drawnWords : Option RegionEntry → List ℕ
 drawnWords none = []
-drawnWords (some e) = draw (reading e .drawn (pagesIn e) (pageLoans e))
+drawnWords (some e) = draw (reading e .drawn (spanIn e) (pageLoans e))
 
 abbrev pub holds : Row → Bool
 holds (layout start bytes page n first last) =

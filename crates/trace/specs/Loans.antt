@@ -5,7 +5,7 @@ use mathlib.Core.Path.{_≡_}
 use mathlib.Core.Bool.{cond}
 use mathlib.Core.List.{List, [], _∷_}
 use mathlib.Core.Logic.{_⊎_}
-use Prim.Native.Nat.{ℕ, zero, suc, _+_, _-_, _/_, _≤_, _<_, max}
+use Prim.Native.Nat.{ℕ, zero, suc, _+_, _/_, _≤_, _<_, max}
 use lib.Dec.{leb, eqb}
 
 -- a loan of pages: where it starts (an address, or a page's number), and how many pages it has
@@ -32,10 +32,10 @@ unfoldable pub Lent : List Loan → ℕ → ℕ → Type 0
 Lent [] p k = ⊥
 Lent (loan a n ∷ l) p k = ((a ≡ p) × (n ≡ k)) ⊎ Lent l p k
 
--- loans at addresses, each with the number of its page for its address: pages of `page` bytes are counted from the one at `first` on
-unfoldable pub inPages : ℕ → ℕ → List Loan → List Loan
-inPages first page [] = []
-inPages first page (loan a k ∷ l) = loan ((a - first) / page) k ∷ inPages first page l
+-- loans at addresses, each with the number of its page for its address: pages of `page` bytes are counted from address 0 on
+unfoldable pub inPages : ℕ → List Loan → List Loan
+inPages page [] = []
+inPages page (loan a k ∷ l) = loan (a / page) k ∷ inPages page l
 
 -- ---- loans by their pages
 
@@ -58,8 +58,17 @@ unfoldable pub sum : List ℕ → ℕ
 sum [] = 0
 sum (n ∷ ns) = n + sum ns
 
--- a run: k adjoining pages from p on, one or more, of n pages, none of them held
-pub record Run (n : ℕ) (l : List Loan) (k p : ℕ) : Type 0 where
+-- the pages of an area: the number of the first one, and how many they are; and the number behind the last one's
+pub record Span : Type 0 where
+  pub first : ℕ
+  pub count : ℕ
+
+abbrev pub behind : Span → ℕ
+behind a = a .first + a .count
+
+-- a run: k adjoining pages from p on, one or more, of an area, none of them held
+pub record Run (a : Span) (l : List Loan) (k p : ℕ) : Type 0 where
   pub some : 0 < k
-  pub upto : p + k ≤ n
+  pub from : a .first ≤ p
+  pub upto : p + k ≤ behind a
   pub unheld : (q : ℕ) → p ≤ q → q < p + k → ¬ Held l q

@@ -8,7 +8,7 @@ use Rattle.manager.specs.Map.{Segment, free, held}
 use Rattle.manager.specs.declared.Order.{Order}
 use Rattle.manager.specs.declared.Place.{Place}
 use Rattle.manager.specs.declared.Place.the-variants.{At, Nowhere}
-use Rattle.trace.specs.Loans.{Loan, loan, Held, Run}
+use Rattle.trace.specs.Loans.{Loan, loan, Held, Span, behind, Run}
 use Rattle.trace.specs.Reading.{Reading}
 
 -- the pages of each unbroken run of unheld pages, from page `at` to page n, taken whole; a gap of no page is no run
@@ -37,26 +37,26 @@ Ordered n at [] = at ≤ n
 Ordered n at (loan a k ∷ l) = (at ≤ a) × (0 < k) × Ordered n (a + k) l
 
 -- the lowest run of k pages
-pub record Lowest (n : ℕ) (l : List Loan) (k p : ℕ) : Type 0 where
-  pub run : Run n l k p
-  pub first : (q : ℕ) → Run n l k q → p ≤ q
+pub record Lowest (a : Span) (l : List Loan) (k p : ℕ) : Type 0 where
+  pub run : Run a l k p
+  pub first : (q : ℕ) → Run a l k q → p ≤ q
 
 -- the loan of m pages at page p can have k: the pages that it lacks are pages of the region, and unheld
-pub record Room (n : ℕ) (l : List Loan) (p m k : ℕ) : Type 0 where
-  pub upto : p + k ≤ n
+pub record Room (a : Span) (l : List Loan) (p m k : ℕ) : Type 0 where
+  pub upto : p + k ≤ behind a
   pub unheld : (q : ℕ) → p + m ≤ q → q < p + k → ¬ Held l q
 
--- where the next loan starts, or the region of n pages ends
+-- where the next loan starts, or the region's pages end, before page n
 abbrev pub upTo : ℕ → List Loan → ℕ
 upTo n [] = n
 upTo n (loan a k ∷ l) = a
 
--- the most pages, of n, that the loan at page p can have: its own, and the unheld ones up to the next loan
+-- the most pages, below page n, that the loan at page p can have: its own, and the unheld ones up to the next loan
 unfoldable pub mostPagesAt : ℕ → ℕ → List Loan → ℕ
 mostPagesAt n p [] = 0
 mostPagesAt n p (loan a k ∷ l) = cond (eqb a p) (upTo n l - a) (mostPagesAt n p l)
 
--- the lowest run of k unheld pages, of n, from page `at` on: the first gap between loans that has k pages
+-- the lowest run of k unheld pages, from page `at` on and below page n: the first gap between loans that has k pages
 unfoldable pub lowestRun : ℕ → ℕ → ℕ → List Loan → Place
 lowestRun n k at [] = cond (leb k (n - at)) (At at) Nowhere
 lowestRun n k at (loan a m ∷ l) = cond (leb k (a - at)) (At at) (lowestRun n k (a + m) l)
@@ -66,12 +66,12 @@ abbrev pub pages : Reading
 pages =
     record {
       rounded = λ k. k;
-      place = λ n l k. lowestRun n k 0 l;
-      most = λ n l p. mostPagesAt n p l;
-      drawn = λ n l. drawn n 0 l;
-      runs = λ n l. runs n 0 l;
-      Fits = λ n l. Ordered n 0 l;
-      Starts = λ n k p. Unit {0};
+      place = λ a l k. lowestRun (behind a) k (a .first) l;
+      most = λ a l p. mostPagesAt (behind a) p l;
+      drawn = λ a l. drawn (behind a) (a .first) l;
+      runs = λ a l. runs (behind a) (a .first) l;
+      Fits = λ a l. Ordered (behind a) (a .first) l;
+      Starts = λ a k p. Unit {0};
       Chosen = Lowest;
       Room = Room;
     }

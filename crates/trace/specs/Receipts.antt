@@ -6,7 +6,8 @@ use mathlib.Core.Option.{Option, none, some}
 use Prim.Native.Nat.{ℕ, zero, suc, _+_, _-_, _*_, _/_, _≤_}
 use lib.Dec.{eqb, leb}
 use Rattle.arith.specs.Round.{roundUp, pagesFor}
-use Rattle.arith.specs.Layout.{pageCount, firstPage}
+use Rattle.arith.specs.Layout.{layoutOf}
+use Rattle.arith.specs.declared.Layout.{Layout}
 use Rattle.manager.specs.Status.{numberOf}
 use Rattle.manager.specs.Result.{Result}
 use Rattle.manager.specs.declared.Call.{Call}
@@ -15,7 +16,7 @@ use Rattle.manager.specs.declared.Notice.{Notice}
 use Rattle.manager.specs.declared.Information.{Information}
 use Rattle.manager.specs.declared.Order.{Order}
 use Rattle.manager.specs.declared.Status.{Status}
-use Rattle.trace.specs.Loans.{Loan, enter, amend, inPages}
+use Rattle.trace.specs.Loans.{Loan, Span, enter, amend, inPages}
 use Rattle.trace.specs.Reading.{Reading}
 use Rattle.trace.specs.Pages.{readingOf}
 
@@ -55,22 +56,25 @@ pub record Receipts : Type 0 where
 abbrev pub blank : Receipts
 blank = record { regions = λ id. none; partitions = λ id. none; waits = [] }
 
--- "Where an object's pages or buffers lie follows from what create asked for": the page size rounded, the page count, the address of
--- a page and the page at an address; the buffers
+-- "Where an object's pages or buffers lie follows from what create asked for": the page size rounded, the layout, the page count and the
+-- pages; the address of a page and the page at an address; the buffers
 abbrev pub unit : RegionEntry → ℕ
 unit e = roundUp (e .page) 8
 
-abbrev pub pagesIn : RegionEntry → ℕ
-pagesIn e = pageCount (e .start) (e .bytes) (unit e)
+abbrev pub layoutIn : RegionEntry → Layout
+layoutIn e = layoutOf (e .start) (e .bytes) (unit e)
 
-abbrev pub firstIn : RegionEntry → ℕ
-firstIn e = firstPage (e .start) (unit e) (pagesIn e)
+abbrev pub pagesIn : RegionEntry → ℕ
+pagesIn e = layoutIn e .pages
+
+abbrev pub spanIn : RegionEntry → Span
+spanIn e = record { first = layoutIn e .first; count = pagesIn e }
 
 abbrev pub addressIn : RegionEntry → ℕ → ℕ
-addressIn e p = firstIn e + p * unit e
+addressIn e p = p * unit e
 
 abbrev pub pageIn : RegionEntry → ℕ → ℕ
-pageIn e a = (a - firstIn e) / unit e
+pageIn e a = a / unit e
 
 -- what they say of its kind, and the pages that are given for so many bytes: "rounded up by the region's rule"
 abbrev pub reading : RegionEntry → Reading
@@ -88,7 +92,7 @@ Servable e size = pagesOver e size ≤ pagesIn e
 
 -- loans at addresses of a region, by their pages; and all its loans so
 abbrev pub byPage : RegionEntry → List Loan → List Loan
-byPage e l = inPages (firstIn e) (unit e) l
+byPage e l = inPages (unit e) l
 
 abbrev pub pageLoans : RegionEntry → List Loan
 pageLoans e = byPage e (e .loans)

@@ -22,13 +22,13 @@ use Rattle.manager.specs.declared.Wait.the-variants.{No, Yes}
 use Rattle.manager.specs.declared.Status.{Status}
 use Rattle.manager.specs.declared.Status.the-variants.{Successful, InvalidName, InvalidId, TooMany, InvalidSize, InvalidAddress, InvalidNumber, ResourceInUse, Unsatisfied, IncorrectState, InvalidPriority, Waiting}
 use Rattle.trace.specs.Loans.{Loan, loan, loanPages, most, sum, enter, amend}
-use Rattle.trace.specs.Receipts.{Receipts, RegionEntry, Wait, Reply, unit, reading, pagesOver, servableIn, pagesIn, addressIn, pageIn, byPage, pageLoans}
+use Rattle.trace.specs.Receipts.{Receipts, RegionEntry, Wait, Reply, unit, reading, pagesOver, servableIn, spanIn, addressIn, pageIn, byPage, pageLoans}
 use Rattle.trace.specs.Queue.{queueOf, inLine, dueIn}
 
 -- INFORMATION BY THE RECEIPTS: count, largest and total bytes over the runs of unheld pages, then over the loans
 abbrev pub informationIn : RegionEntry → Information
 informationIn e =
-    let frees = reading e .runs (pagesIn e) (pageLoans e) in
+    let frees = reading e .runs (spanIn e) (pageLoans e) in
     let helds = loanPages (e .loans) in
     record {
       «free_count» = length frees;
@@ -119,10 +119,10 @@ pagesAt a (loan b k ∷ l) = cond (eqb b a) k (pagesAt a l)
 
 -- where a get of so many bytes is placed, with the loans l at addresses; and the most pages that the loan at an address can have
 abbrev pub placeIn : RegionEntry → List Loan → ℕ → Place
-placeIn e l size = reading e .place (pagesIn e) (byPage e l) (pagesOver e size)
+placeIn e l size = reading e .place (spanIn e) (byPage e l) (pagesOver e size)
 
 abbrev pub mostIn : RegionEntry → ℕ → ℕ
-mostIn e a = reading e .most (pagesIn e) (pageLoans e) (pageIn e a)
+mostIn e a = reading e .most (spanIn e) (pageLoans e) (pageIn e a)
 
 -- GRANTS: to the first waits in order, each where a get of its size is placed at that moment, up to the first wait that has no place
 abbrev pub grantTo : Wait → ℕ → Notice
