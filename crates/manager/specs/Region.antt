@@ -48,9 +48,12 @@ startsPage r a = eqb (a % r .page) 0
 abbrev pub pageAt : Region → ℕ → ℕ
 pageAt r a = a / r .page
 
--- the words of its map
+-- the words of a map by its layout, and of its own
+abbrev pub wordsAt : List ℕ → Layout → List ℕ
+wordsAt m l = take (l .pages) (drop (l .map) m)
+
 abbrev pub mapWords : List ℕ → Region → List ℕ
-mapWords m r = take (pagesOf r) (drop (mapAt r) m)
+mapWords m r = wordsAt m (layoutOf r)
 
 -- its segments, and the memory with other segments drawn into its map
 abbrev pub segments : List ℕ → Region → List Segment

@@ -1,12 +1,12 @@
 -- In a tiled map a word is odd exactly where a held segment starts, and its page is the word's place: so one word says what a scan of the
 -- words before it finds (`one-word`). Assumes nothing.
-use Prim.Native.Nat.{ℕ, zero, suc, _+_, _-_, _*_, _/_, _%_, _≤_}
+use Prim.Native.Nat.{ℕ, zero, suc, _+_, _-_, _*_, _/_, _%_, _≤_, _<_}
 use mathlib.Core.Path.{_≡_, refl, sym, ap, _∙_}
-use mathlib.Core.Bool.{Bool, true, false, cond, not, _||_}
+use mathlib.Core.Bool.{Bool, true, false, cond, not, _&&_, _||_}
 use mathlib.Core.List.{List, [], _∷_}
 use native.Mathlib.Omega.{arith}
-use borrow.Author.Tests.{eq-eqb, ne-eqb, eqb-true, eqb-false}
-use lib.Dec.{eqb}
+use borrow.Author.Tests.{eq-eqb, ne-eqb, eqb-true, eqb-false, leb-true, leb-false}
+use lib.Dec.{eqb, leb}
 use lib.ListN.{length, getD}
 use Rattle.manager.specs.Lists.{any}
 use Rattle.manager.proofs.Laws.Map.{head-parts, rest-parts, no-end, decode-start, decode-skip, size-of, held-of as mark-of, total-cons, total-decoded, sound-tiled}
@@ -14,11 +14,12 @@ use Rattle.manager.proofs.Laws.Apart.{Well, well-decoded}
 use Rattle.manager.specs.Map.{Segment, free, held, segmentOf, isHeld, isHeldSegment, decode, tiledFrom, tiled, soundMap, total}
 use Rattle.manager.specs.Paged.{apart, heldFrom}
 use Rattle.manager.specs.Record.{regionOf}
-use Rattle.manager.specs.Region.{heldAt, anyHeld, mapWords, pageAt, pagesOf, startsPage}
+use Rattle.manager.specs.Region.{layoutOf, pagesOf, firstPageOf, mapWords, segments, heldAt, anyHeld}
 use Rattle.manager.specs.Sound.{sound}
 use Rattle.manager.specs.Sound.{Sited}
 use Rattle.manager.proofs.Laws.Sound.{sited, tiled-map, map-long}
 use Rattle.manager.specs.declared.Manager.{Manager}
+use Rattle.arith.specs.declared.Layout.{Layout}
 use Rattle.manager.specs.declared.Region.{Region}
 use Rattle.map.specs.Word.{heldWord, heldWordAt, oneFree}
 use Rattle.map.proofs.Scan.{atPage, pages, held-is, past, word-held, word-hit, word-free}
@@ -73,16 +74,33 @@ told zero (w ∷ ws) i (suc k) e =
     let p = head-parts w ws e in
     first-next w ws i (p .0) k (told (w / 2 - 1) ws (suc i) k (p .1))
 
-pub one-word : (ws : List ℕ) (p : ℕ) → tiled ws ≡ true → heldWord ws p ≡ heldFrom p 0 (decode ws)
+-- of a map that starts at page `first`
+pub one-word : (ws : List ℕ) (first k : ℕ) → tiled ws ≡ true → heldWord ws k ≡ heldFrom (first + k) first (decode ws)
 unfolding tiled
-one-word ws p e =
-    let a : 0 + p ≡ p = omega arith in
-    let b : 0 + 0 ≡ 0 = omega arith in
-    (rw (a, b) at (told 0 ws 0 p e)) ∙ held-is p 0 (decode ws)
+one-word ws first k e =
+    let b : first + 0 ≡ first = omega arith in
+    (rw b at (told 0 ws first k e)) ∙ held-is (first + k) first (decode ws)
+
+-- no segment starts before the first page
+before-first : (p first : ℕ) (s : List Segment) → p < first → heldFrom p first s ≡ 0
+before-first p first s h = sym (held-is p first s) ∙ past pages p first s h
 
 -- a region whose map is sound: the word of a page says the segment that starts there
-pub held-of : (m : List ℕ) (r : Region) → Sited m r → (a n : ℕ) → n ≡ heldWordAt m r a → n ≡ heldAt m r a
-held-of m r s a n en = en ∙ ap (λ (k : ℕ). cond (startsPage r a) k 0) (one-word (mapWords m r) (pageAt r a) (tiled-map m r s))
+pub held-of : (m : List ℕ) (r : Region) → Sited m r → (l : Layout) → l ≡ layoutOf r → (a n : ℕ) → n ≡ heldWordAt m l (r .page) a → n ≡ heldAt m r a
+held-of m r s l el a n en = en ∙ rw (el, ne-eqb (r .page) 0 (λ z. omega (arith, z, s .laid .page-low))) (starts (eqb (a % r .page) 0))
+  where
+    reads : (b : Bool) → leb (firstPageOf r) (a / r .page) ≡ b
+        → cond b (heldWord (mapWords m r) (a / r .page - firstPageOf r)) 0 ≡ heldFrom (a / r .page) (firstPageOf r) (segments m r)
+    reads true e =
+        let h = leb-true (firstPageOf r) (a / r .page) e in
+        let x : firstPageOf r + (a / r .page - firstPageOf r) ≡ a / r .page = omega arith in
+        rw x at (one-word (mapWords m r) (firstPageOf r) (a / r .page - firstPageOf r) (tiled-map m r s))
+    reads false e = sym (before-first (a / r .page) (firstPageOf r) (segments m r) (leb-false (firstPageOf r) (a / r .page) e))
+
+    starts : (b : Bool) → cond (b && leb (firstPageOf r) (a / r .page)) (heldWord (mapWords m r) (a / r .page - firstPageOf r)) 0
+        ≡ cond b (heldFrom (a / r .page) (firstPageOf r) (segments m r)) 0
+    starts true = reads (leb (firstPageOf r) (a / r .page)) refl
+    starts false = refl
 
 -- NOTHING HELD. Behind a free segment stands a held one, if anything
 behind-free : (t : List Segment) → Well false t → any isHeldSegment t ≡ not (eqb (total t) 0)
@@ -113,19 +131,19 @@ first-says (w ∷ ws) e h =
     rw (d, mark-of w) (first-by-mark w (suc (length ws)) (decode ws) (isHeld w) refl n (rw (mark-of w) at (v .2)))
 
 -- a region whose map is sound
-pub free-of : (m : List ℕ) (r : Region) → Sited m r → (b : Bool) → b ≡ oneFree m r → not b ≡ anyHeld m r
-free-of m r s b eb =
-    let l : length (mapWords m r) ≡ pagesOf r = map-long m r (s .laid) in
-    let t : oneFree m r ≡ eqb (getD (mapWords m r) 0 0) (2 * length (mapWords m r)) = rw l in
-    ap not (eb ∙ t) ∙ sym (first-says (mapWords m r) (s .sound) (omega (arith, l, s .laid .some)))
+pub free-of : (m : List ℕ) (r : Region) → Sited m r → (l : Layout) → l ≡ layoutOf r → (b : Bool) → b ≡ oneFree m l → not b ≡ anyHeld m r
+free-of m r s l el b eb =
+    let n : length (mapWords m r) ≡ pagesOf r = map-long m r (s .laid) in
+    let t : oneFree m l ≡ eqb (getD (mapWords m r) 0 0) (2 * length (mapWords m r)) = rw (el, n) in
+    ap not (eb ∙ t) ∙ sym (first-says (mapWords m r) (s .sound) (omega (arith, n, s .laid .some)))
 
 -- A LIVE REGION OF A SOUND RECORD
-module _ (m : List ℕ) (d : Manager) (id : ℕ) (e : sound m d ≡ true) (r : Region) (er : r ≡ regionOf d id) (l : r .name ≡ 0 → ⊥) where
+module _ (m : List ℕ) (d : Manager) (id : ℕ) (e : sound m d ≡ true) (r : Region) (er : r ≡ regionOf d id) (n : r .name ≡ 0 → ⊥) (l : Layout) (el : l ≡ layoutOf r) where
   live : Sited m r
-  live = rw er (sited m d id e (rw (← er) (ne-eqb (r .name) 0 l)))
+  live = rw er (sited m d id e (rw (← er) (ne-eqb (r .name) 0 n)))
 
-  pub held-told : (a n : ℕ) → n ≡ heldWordAt m r a → n ≡ heldAt m r a
-  held-told = held-of m r live
+  pub held-told : (a k : ℕ) → k ≡ heldWordAt m l (r .page) a → k ≡ heldAt m r a
+  held-told = held-of m r live l el
 
-  pub free-told : (b : Bool) → b ≡ oneFree m r → not b ≡ anyHeld m r
-  free-told = free-of m r live
+  pub free-told : (b : Bool) → b ≡ oneFree m l → not b ≡ anyHeld m r
+  free-told = free-of m r live l el

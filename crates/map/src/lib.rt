@@ -1,32 +1,19 @@
 // Where a region's map lies in the memory, and what its words say. Every function is total: any words are read, sound or not.
+use arith::Layout;
 use manager::Region;
 ghost use mathlib.Core.Path.{_≡_};
+ghost use Prim.Native.Nat.{_-_, _/_};
 ghost use Rattle.manager.specs.Lists.{any};
 ghost use Rattle.manager.specs.Map.{decode, soundMap, isHeldSegment};
 ghost use Rattle.manager.specs.Paged.{apart};
-ghost use Rattle.manager.specs.Region.{pagesOf, baseOf, pageAt, mapAt, mapWords, anyHeld, pagesAsked};
+ghost use Rattle.manager.specs.Region.{layoutOf, wordsAt, pagesAsked};
 ghost use Rattle.map.specs.Word.{heldWord, heldWordAt, oneFree};
 
-// How many pages the region has.
-pub fn pages_of(r: Region) -> u32
-    ensures { λ n. ⌜ n ≡ pagesOf r ⌝ }
+// Where the region's map and pages lie: worked out once in a call, and handed on.
+pub fn layout_of(r: Region) -> Layout
+    ensures { λ l. ⌜ l ≡ layoutOf r ⌝ }
 {
-    arith::page_count(r.start, r.length, r.page)
-}
-
-// The address of its first page.
-pub fn base_of(r: Region) -> u64
-    ensures { λ a. ⌜ a ≡ baseOf r ⌝ }
-{
-    let n = pages_of(r);
-    arith::first_page(r.start, r.page, n)
-}
-
-// The index of the first word of its map.
-pub fn map_at(r: Region) -> usize
-    ensures { λ i. ⌜ i ≡ mapAt r ⌝ }
-{
-    (arith::round_up(r.start, 4) / 4) as usize
+    arith::layout_of(r.start, r.length, r.page)
 }
 
 // How many pages a request for so many bytes takes.
@@ -36,12 +23,12 @@ pub fn pages_asked(r: Region, size: u32) -> u32
     arith::pages_for(size, r.page)
 }
 
-// The words of its map: fewer where the memory ends before them.
-pub fn map_words<'a>(mem: &'a [u32], r: Region) -> &'a [u32]
-    ensures { λ ws. ⌜ now ws ≡ mapWords (now (mem .entry)) r ⌝ }
+// The words of a map: fewer where the memory ends before them.
+pub fn map_words<'a>(mem: &'a [u32], l: Layout) -> &'a [u32]
+    ensures { λ ws. ⌜ now ws ≡ wordsAt (now (mem .entry)) l ⌝ }
 {
-    let at = map_at(r);
-    let n = pages_of(r) as usize;
+    let at = l.map;
+    let n = l.pages as usize;
     if mem.len() < at {
         return &mem[0..0];
     }
@@ -97,75 +84,63 @@ pub fn any_held(map: &[u32]) -> bool
     false
 }
 
-// The pages that the word of page p says, where it is marked as held; else 0. In a sound map that is the held segment which starts at
-// page p, and no other word has to be read.
-pub fn held_word(map: &[u32], p: u32) -> u32
+// The pages that word p of a map says, where it is marked as held; else 0. In a sound map that is the held segment which starts there,
+// and no other word has to be read.
+pub fn held_word(map: &[u32], p: usize) -> u32
     ensures { λ r. ⌜ r ≡ heldWord (now (map .entry)) p ⌝ }
 {
-    let at = p as usize;
-    if map.len() <= at {
+    if map.len() <= p {
         return 0;
     }
-    let first = map[at];
+    let first = map[p];
     if first % 2 == 1 {
         return first / 2;
     }
     0
 }
 
-// The page that starts at an address.
-pub fn page_at(r: Region, address: u32) -> u32
-    ensures { λ p. ⌜ p ≡ pageAt r address ⌝ }
+// The place in a map of the word of the page at an address; 0 where the address is before the first page.
+pub fn index_at(l: Layout, page: u32, address: u32) -> usize
+    ensures { λ i. ⌜ i ≡ address / page - l .first ⌝ }
 {
-    let page = r.page;
     if page == 0 {
         return 0;
     }
-    let base = base_of(r);
-    if (address as u64) < base {
+    let p = (address / page) as u64;
+    let first = l.first;
+    if p < first {
         return 0;
     }
-    ((address as u64 - base) / page as u64) as u32
+    (p - first) as usize
 }
 
-// The pages of the region's held segment that starts at an address, as the word of that page says it; 0 where none does.
-pub fn held_word_at(mem: &[u32], r: Region, address: u32) -> u32
-    ensures { λ n. ⌜ n ≡ heldWordAt (now (mem .entry)) r address ⌝ }
+// The pages of the held segment that starts at an address, as the word of that page says it; 0 where none does.
+pub fn held_word_at(mem: &[u32], l: Layout, page: u32, address: u32) -> u32
+    ensures { λ n. ⌜ n ≡ heldWordAt (now (mem .entry)) l page address ⌝ }
 {
-    let page = r.page;
     if page == 0 {
         return 0;
     }
-    let base = base_of(r);
-    if (address as u64) < base {
+    if address % page != 0 {
         return 0;
     }
-    let past = address as u64 - base;
-    if past % page as u64 != 0 {
+    if ((address / page) as u64) < l.first {
         return 0;
     }
-    let map = map_words(mem, r);
-    held_word(map, (past / page as u64) as u32)
+    let map = map_words(mem, l);
+    held_word(map, index_at(l, page, address))
 }
 
 // Whether the first word says one free segment of all pages. In a sound map that is so where nothing is held, and no other word has to be
 // read.
-pub fn one_free(mem: &[u32], r: Region) -> bool
-    ensures { λ b. ⌜ b ≡ oneFree (now (mem .entry)) r ⌝ }
+pub fn one_free(mem: &[u32], l: Layout) -> bool
+    ensures { λ b. ⌜ b ≡ oneFree (now (mem .entry)) l ⌝ }
 {
-    let map = map_words(mem, r);
-    let n = pages_of(r);
+    let map = map_words(mem, l);
+    let n = l.pages;
     if map.len() == 0 {
         return n == 0;
     }
     let first = map[0];
     first as u64 == 2 * n as u64
-}
-
-// Whether something of the region is held.
-pub fn any_held_in(mem: &[u32], r: Region) -> bool
-    ensures { λ b. ⌜ b ≡ anyHeld (now (mem .entry)) r ⌝ }
-{
-    let map = map_words(mem, r);
-    any_held(map)
 }

@@ -1,6 +1,6 @@
 -- `map_words` meets its contract: each part is what `take` leaves of the words from the map's start on. Assumes nothing.
-use borrow.Author.Needs.{needs}
 use Rattle.map.proofs.Part.{parts}
+use borrow.Author.Needs.{needs}
 use Rattle.map.proofs.map_words.Statement.{statement}
 use Rattle.map.proofs.map_words.Tie as tie
 
@@ -8,22 +8,20 @@ pub map-words-spec : {M : Type 1} → statement M
 map-words-spec =
     tie.close
     (tie.spec
-    (λ c κs. search needs)
-    (λ c κs. search needs)
-    (λ c. search needs)
-    (λ c. search needs)
-    (λ c. search needs)
-    (λ c. search needs)
     (λ c. search (needs, parts))
-    (λ c. search needs)
-    (λ c. search needs)
-    (λ c. search needs)
-    (λ c. search needs)
-    (λ c. search needs)
     (λ c. search (needs, parts))
-    (λ c. search needs)
-    (λ c. search needs)
-    (λ c. search needs)
-    (λ c. search needs)
-    (λ c. search needs)
+    (λ c. search (needs, parts))
+    (λ c. search (needs, parts))
+    (λ c. search (needs, parts))
+    (λ c. search (needs, parts))
+    (λ c. search (needs, parts))
+    (λ c. search (needs, parts))
+    (λ c. search (needs, parts))
+    (λ c. search (needs, parts))
+    (λ c. search (needs, parts))
+    (λ c. search (needs, parts))
+    (λ c. search (needs, parts))
+    (λ c. search (needs, parts))
+    (λ c. search (needs, parts))
+    (λ c. search (needs, parts))
     (λ c. search (needs, parts)))
