@@ -2,15 +2,14 @@
 use Prim.Native.Nat.{ℕ}
 use mathlib.Core.Path.{_≡_}
 use mathlib.Core.List.{List}
-use Rattle.manager.specs.Map.{Segment}
-use Rattle.manager.specs.Region.{withSegments, placed, taken}
+use Rattle.manager.specs.Region.{changed, placed, taken}
 use Rattle.manager.specs.Sound.{Sited}
 use Rattle.manager.specs.declared.Region.{Region}
 use Rattle.manager.specs.declared.Place.{Place}
 
--- other segments are drawn in the map of a region, which stays a live one
-pub record Draws (r : Region) (m out : List ℕ) (s : List Segment) : Type 0 where
-  pub memory : out ≡ withSegments m r s
+-- the held segment at an address has k pages from now on (0: it is returned), and the region stays a live one
+pub record Changes (r : Region) (address k : ℕ) (m out : List ℕ) : Type 0 where
+  pub memory : out ≡ changed m r address k
   pub sited : Sited out r
 
 -- k pages are taken, where there is room

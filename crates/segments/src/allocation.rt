@@ -1,6 +1,7 @@
 // What the directives do once their checks have passed, over a live region of sound records: pages are taken, freed or changed.
 use crate::lending;
 use crate::serving;
+use arith::Layout;
 use manager::Answer;
 use manager::Manager;
 use manager::Place;
@@ -14,8 +15,7 @@ ghost use Prim.Native.Nat.{ℕ, _≤_};
 ghost use lib.Dec.{leb};
 ghost use Rattle.manager.specs.Record.{regionOf};
 ghost use Rattle.manager.specs.Result.{Performs, done, replied};
-ghost use Rattle.manager.specs.Paged.{heldFrom, reachFrom, changeFrom};
-ghost use Rattle.manager.specs.Region.{addressOf, segments, withSegments, placed, taken};
+ghost use Rattle.manager.specs.Region.{layoutOf, addressOf, heldAt, roomAt, changed, placed, taken};
 ghost use Rattle.manager.specs.Paged.{onPlace};
 ghost use Rattle.manager.specs.Serve.{serve, fromServed};
 ghost use Rattle.manager.specs.Regions.{unplaced};
@@ -28,15 +28,15 @@ pub(crate) fn take_or_wait(
     mem: &mut [u32],
     d: Manager,
     r: Region,
+    l: Layout,
     k: u32,
     wait: Wait,
     w: Waiter,
 ) -> Answer
-    requires { ⌜ Sited (now mem) r ⌝ }
-    requires { ⌜ 1 ≤ k ⌝ }
+    requires { ⌜ (Sited (now mem) r) × (l ≡ layoutOf r) × (1 ≤ k) ⌝ }
     ensures { λ a. ⌜ Performs (onPlace (placed (now (mem .entry)) r k) (λ p. done (taken (now (mem .entry)) r k) d (addressOf r p)) (unplaced (now (mem .entry)) d wait w)) (now (mem .exit)) a ⌝ }
 {
-    if let Place::At(p) = lending::take_pages(mem, r, k) {
+    if let Place::At(p) = lending::take_pages(mem, r, l, k) {
         return reply::reply(d, Status::Successful, serving::address_of(r, p));
     }
     match wait {
@@ -48,13 +48,20 @@ pub(crate) fn take_or_wait(
     }
 }
 
-// The held segment at page p joins its free neighbours, and the queue is served.
-pub(crate) fn release_and_serve(mem: &mut [u32], d: Manager, id: u32, r: Region, p: u32) -> Answer
-    requires { ⌜ (Sited (now mem) r) × (r ≡ regionOf d id) × (Asking d) × (1 ≤ heldFrom p 0 (segments (now mem) r)) ⌝ }
-    ensures { λ a. ⌜ Performs (fromServed (serve (withSegments (now (mem .entry)) r (changeFrom p 0 0 (segments (now (mem .entry)) r))) d id)) (now (mem .exit)) a ⌝ }
+// The held segment at an address joins its free neighbours, and the queue is served.
+pub(crate) fn release_and_serve(
+    mem: &mut [u32],
+    d: Manager,
+    id: u32,
+    r: Region,
+    l: Layout,
+    address: u32,
+) -> Answer
+    requires { ⌜ (Sited (now mem) r) × (r ≡ regionOf d id) × (l ≡ layoutOf r) × (Asking d) × (1 ≤ heldAt (now mem) r address) ⌝ }
+    ensures { λ a. ⌜ Performs (fromServed (serve (changed (now (mem .entry)) r address 0) d id)) (now (mem .exit)) a ⌝ }
 {
-    lending::release_pages(mem, r, p as usize);
-    let g = serving::serve(mem, d, id);
+    lending::release_pages(mem, r, l, address);
+    let g = serving::serve(mem, d, id, r, l);
     let manager = g.manager;
     let notices = g.notices;
     let information = reply::no_information();
@@ -67,21 +74,22 @@ pub(crate) fn release_and_serve(mem: &mut [u32], d: Manager, id: u32, r: Region,
     }
 }
 
-// The held segment at page p has k pages from now on, where it can have so many.
+// The held segment at an address has k pages from now on, where it can have so many.
 pub(crate) fn resize_within(
     mem: &mut [u32],
     d: Manager,
     r: Region,
-    p: u32,
+    l: Layout,
+    address: u32,
     k: u32,
     old: u32,
 ) -> Answer
-    requires { ⌜ (Sited (now mem) r) × (1 ≤ heldFrom p 0 (segments (now mem) r)) × (1 ≤ k) ⌝ }
-    ensures { λ a. ⌜ Performs (cond (leb k (reachFrom p 0 (segments (now (mem .entry)) r))) (done (withSegments (now (mem .entry)) r (changeFrom p k 0 (segments (now (mem .entry)) r))) d old) (replied (now (mem .entry)) d Unsatisfied old)) (now (mem .exit)) a ⌝ }
+    requires { ⌜ (Sited (now mem) r) × (l ≡ layoutOf r) × (1 ≤ heldAt (now mem) r address) × (1 ≤ k) ⌝ }
+    ensures { λ a. ⌜ Performs (cond (leb k (roomAt (now (mem .entry)) r address)) (done (changed (now (mem .entry)) r address k) d old) (replied (now (mem .entry)) d Unsatisfied old)) (now (mem .exit)) a ⌝ }
 {
-    if lending::reach_of(mem, r, p as usize) < k {
+    if lending::reach_of(mem, r, l, address) < k {
         return reply::reply(d, Status::Unsatisfied, old);
     }
-    lending::resize_pages(mem, r, p as usize, k);
+    lending::resize_pages(mem, r, l, address, k);
     reply::reply(d, Status::Successful, old)
 }

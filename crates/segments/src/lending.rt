@@ -1,57 +1,57 @@
-// The part of the memory that is a region's map, lent to the stores of `map_words`: these functions need a live region of sound books.
+// The part of the memory that is a region's map, lent to the stores of `map_words`. Pages are named by address here, and there by the
+// place of their word: these functions need a live region of sound records, and its layout.
 use crate::map_words;
+use arith::Layout;
 use manager::Place;
 use manager::Region;
 ghost use mathlib.Core.Path.{_≡_};
 ghost use Prim.Native.Nat.{ℕ, _≤_};
-ghost use Rattle.manager.specs.Paged.{heldFrom, reachFrom, changeFrom};
-ghost use Rattle.manager.specs.Region.{segments};
+ghost use Rattle.manager.specs.Region.{layoutOf, heldAt, roomAt};
 ghost use Rattle.manager.specs.Sound.{Sited};
-ghost use Rattle.segments.specs.Lending.{Draws, Takes};
+ghost use Rattle.segments.specs.Lending.{Changes, Takes};
 
 // Takes k pages of the region where there is room, and says where.
-pub(crate) fn take_pages(mem: &mut [u32], r: Region, k: u32) -> Place
-    requires { ⌜ Sited (now mem) r ⌝ }
-    requires { ⌜ 1 ≤ k ⌝ }
+pub(crate) fn take_pages(mem: &mut [u32], r: Region, l: Layout, k: u32) -> Place
+    requires { ⌜ (Sited (now mem) r) × (l ≡ layoutOf r) × (1 ≤ k) ⌝ }
     ensures { λ p. ⌜ Takes r k (now (mem .entry)) (now (mem .exit)) p ⌝ }
 {
-    let at = map::map_at(r);
-    let n = map::pages_of(r);
-    let end = at + n as usize;
-    map_words::allocate(&mut mem[at..end], k)
+    let at = l.map;
+    let end = at + l.pages as usize;
+    match map_words::allocate(&mut mem[at..end], k) {
+        Place::Nowhere => Place::Nowhere,
+        Place::At(i) => Place::At(l.first as usize + i),
+    }
 }
 
-// Frees the held segment at page p of the region.
-pub(crate) fn release_pages(mem: &mut [u32], r: Region, p: usize)
-    requires { ⌜ Sited (now mem) r ⌝ }
-    requires { ⌜ 1 ≤ heldFrom p 0 (segments (now mem) r) ⌝ }
-    ensures { λ _. ⌜ Draws r (now (mem .entry)) (now (mem .exit)) (changeFrom p 0 0 (segments (now (mem .entry)) r)) ⌝ }
+// Frees the held segment at an address.
+pub(crate) fn release_pages(mem: &mut [u32], r: Region, l: Layout, address: u32)
+    requires { ⌜ (Sited (now mem) r) × (l ≡ layoutOf r) × (1 ≤ heldAt (now mem) r address) ⌝ }
+    ensures { λ _. ⌜ Changes r address 0 (now (mem .entry)) (now (mem .exit)) ⌝ }
 {
-    let at = map::map_at(r);
-    let n = map::pages_of(r);
-    let end = at + n as usize;
+    let at = l.map;
+    let end = at + l.pages as usize;
+    let p = map::index_at(l, r.page, address);
     map_words::release_at(&mut mem[at..end], p);
 }
 
-// The most pages that the held segment at page p of the region can have.
-pub(crate) fn reach_of(mem: &[u32], r: Region, p: usize) -> u32
-    requires { ⌜ Sited (now mem) r ⌝ }
-    requires { ⌜ 1 ≤ heldFrom p 0 (segments (now mem) r) ⌝ }
-    ensures { λ n. ⌜ n ≡ reachFrom p 0 (segments (now (mem .entry)) r) ⌝ }
+// The most pages that the held segment at an address can have.
+pub(crate) fn reach_of(mem: &[u32], r: Region, l: Layout, address: u32) -> u32
+    requires { ⌜ (Sited (now mem) r) × (l ≡ layoutOf r) × (1 ≤ heldAt (now mem) r address) ⌝ }
+    ensures { λ n. ⌜ n ≡ roomAt (now (mem .entry)) r address ⌝ }
 {
-    let words = map::map_words(mem, r);
+    let words = map::map_words(mem, l);
+    let p = map::index_at(l, r.page, address);
     map_words::reach_at(words, p)
 }
 
-// The held segment at page p of the region has k pages from now on.
-pub(crate) fn resize_pages(mem: &mut [u32], r: Region, p: usize, k: u32)
-    requires { ⌜ Sited (now mem) r ⌝ }
-    requires { ⌜ 1 ≤ heldFrom p 0 (segments (now mem) r) ⌝ }
-    requires { ⌜ (1 ≤ k) × (k ≤ reachFrom p 0 (segments (now mem) r)) ⌝ }
-    ensures { λ _. ⌜ Draws r (now (mem .entry)) (now (mem .exit)) (changeFrom p k 0 (segments (now (mem .entry)) r)) ⌝ }
+// The held segment at an address has k pages from now on.
+pub(crate) fn resize_pages(mem: &mut [u32], r: Region, l: Layout, address: u32, k: u32)
+    requires { ⌜ (Sited (now mem) r) × (l ≡ layoutOf r) × (1 ≤ heldAt (now mem) r address) ⌝ }
+    requires { ⌜ (1 ≤ k) × (k ≤ roomAt (now mem) r address) ⌝ }
+    ensures { λ _. ⌜ Changes r address k (now (mem .entry)) (now (mem .exit)) ⌝ }
 {
-    let at = map::map_at(r);
-    let n = map::pages_of(r);
-    let end = at + n as usize;
+    let at = l.map;
+    let end = at + l.pages as usize;
+    let p = map::index_at(l, r.page, address);
     map_words::resize_at(&mut mem[at..end], p, k);
 }

@@ -39,8 +39,9 @@ pub fn get_segment(
     if r.name == 0 {
         return reply::reply(d, Status::InvalidId, 0);
     }
+    let l = map::layout_of(r);
     let k = map::pages_asked(r, size);
-    if map::pages_of(r) < k {
+    if l.pages < k {
         return reply::reply(d, Status::InvalidSize, 0);
     }
     if let Verdict::Bad(s) = checks::may_wait(d, wait, task, priority) {
@@ -53,7 +54,7 @@ pub fn get_segment(
         priority,
         ticks,
     };
-    allocation::take_or_wait(mem, d, r, k, wait, w)
+    allocation::take_or_wait(mem, d, r, l, k, wait, w)
 }
 
 // Return: 4, 9. The segment is freed and the region's queue served; the notices say who got what.
@@ -67,12 +68,12 @@ pub fn return_segment(mem: &mut [u32], d: Manager, id: u32, address: u32) -> Ans
     if r.name == 0 {
         return reply::reply(d, Status::InvalidId, 0);
     }
-    let pages = map::held_word_at(mem, r, address);
+    let l = map::layout_of(r);
+    let pages = map::held_word_at(mem, l, r.page, address);
     if pages == 0 {
         return reply::reply(d, Status::InvalidAddress, 0);
     }
-    let p = map::page_at(r, address);
-    allocation::release_and_serve(mem, d, id, r, p)
+    allocation::release_and_serve(mem, d, id, r, l, address)
 }
 
 // Size: 4, 9. The value is the length of the held segment; no word of the memory changes.
@@ -86,7 +87,8 @@ pub fn segment_size(mem: &[u32], d: Manager, id: u32, address: u32) -> Answer
     if r.name == 0 {
         return reply::reply(d, Status::InvalidId, 0);
     }
-    let pages = map::held_word_at(mem, r, address);
+    let l = map::layout_of(r);
+    let pages = map::held_word_at(mem, l, r.page, address);
     if pages == 0 {
         return reply::reply(d, Status::InvalidAddress, 0);
     }
@@ -107,12 +109,12 @@ pub fn resize_segment(mem: &mut [u32], d: Manager, id: u32, address: u32, size: 
     if r.name == 0 {
         return reply::reply(d, Status::InvalidId, 0);
     }
-    let pages = map::held_word_at(mem, r, address);
+    let l = map::layout_of(r);
+    let pages = map::held_word_at(mem, l, r.page, address);
     if pages == 0 {
         return reply::reply(d, Status::InvalidAddress, 0);
     }
     let old = pages * r.page;
     let k = map::pages_asked(r, size);
-    let p = map::page_at(r, address);
-    allocation::resize_within(mem, d, r, p, k, old)
+    allocation::resize_within(mem, d, r, l, address, k, old)
 }

@@ -45,7 +45,7 @@ fn take_at(map: &mut [u32], i: usize, k: u32)
     requires { ⌜ (soundMap apart (now map) ≡ true) × (length (now map) ≤ 16384) ⌝ }
     requires { ⌜ 1 ≤ k ⌝ }
     requires { ⌜ placeFrom k 0 (decode (now map)) ≡ Place.At i ⌝ }
-    ensures { λ _. ⌜ now (map .exit) ≡ draw (allocate paged k (decode (now (map .entry)))) ⌝ }
+    ensures { λ _. ⌜ now (map .exit) ≡ draw (allocate paged k 0 (decode (now (map .entry)))) ⌝ }
 {
     let pages = map[i] / 2;
     hold(map, i, pages, k);
@@ -55,7 +55,7 @@ fn take_at(map: &mut [u32], i: usize, k: u32)
 pub(crate) fn allocate(map: &mut [u32], k: u32) -> Place
     requires { ⌜ (soundMap apart (now map) ≡ true) × (length (now map) ≤ 16384) ⌝ }
     requires { ⌜ 1 ≤ k ⌝ }
-    ensures { λ r. ⌜ (r ≡ placeFrom k 0 (decode (now (map .entry)))) × (now (map .exit) ≡ draw (allocate paged k (decode (now (map .entry))))) ⌝ }
+    ensures { λ r. ⌜ (r ≡ placeFrom k 0 (decode (now (map .entry)))) × (now (map .exit) ≡ draw (allocate paged k 0 (decode (now (map .entry))))) ⌝ }
 {
     match find(map, k) {
         Place::Nowhere => Place::Nowhere,

@@ -1,5 +1,6 @@
 // Serving the queue of a region.
 use crate::lending;
+use arith::Layout;
 use manager::Manager;
 use manager::Notice;
 use manager::Place;
@@ -8,7 +9,7 @@ use manager::Status;
 ghost use mathlib.Core.Path.{_≡_};
 ghost use Prim.Native.Nat.{ℕ, _≤_};
 ghost use Rattle.manager.specs.Record.{regionOf};
-ghost use Rattle.manager.specs.Region.{addressOf};
+ghost use Rattle.manager.specs.Region.{layoutOf, addressOf};
 ghost use Rattle.manager.specs.Serve.{serve};
 ghost use Rattle.manager.specs.Sound.{Sited};
 ghost use Rattle.segments.specs.Serving.{Asking, Serves, Turns};
@@ -24,8 +25,7 @@ pub(crate) fn address_of(r: Region, p: usize) -> u32
     requires { ⌜ addressOf r p ≤ 65536 ⌝ }
     ensures { λ a. ⌜ a ≡ addressOf r p ⌝ }
 {
-    let base = map::base_of(r);
-    (base + p as u64 * r.page as u64) as u32
+    (p as u64 * r.page as u64) as u32
 }
 
 // A turn of serving: nobody can be served, or the waiter at a place of the queue gets its notice.
@@ -35,19 +35,17 @@ pub(crate) enum Turn {
 }
 
 // The first waiter of the region is tried.
-fn try_first(mem: &mut [u32], d: Manager, id: u32) -> Turn
-    requires { ⌜ Sited (now mem) (regionOf d id) ⌝ }
-    requires { ⌜ Asking d ⌝ }
+fn try_first(mem: &mut [u32], d: Manager, id: u32, r: Region, l: Layout) -> Turn
+    requires { ⌜ (Sited (now mem) r) × (r ≡ regionOf d id) × (l ≡ layoutOf r) × (Asking d) ⌝ }
     ensures { λ t. ⌜ Turns (now (mem .entry)) d id (now (mem .exit)) t ⌝ }
 {
-    let r = objects::region_of(d, id);
     let i = queue::first_of(d, id);
     if Manager::TASKS <= i {
         return Turn::Stop;
     }
     let w = d.waiters[i];
     let k = map::pages_asked(r, w.size);
-    match lending::take_pages(mem, r, k) {
+    match lending::take_pages(mem, r, l, k) {
         Place::Nowhere => Turn::Stop,
         Place::At(p) => {
             let notice = Notice {
@@ -61,16 +59,15 @@ fn try_first(mem: &mut [u32], d: Manager, id: u32) -> Turn
 }
 
 // While the first waiter of the region finds room, it leaves the queue with its segment.
-pub(crate) fn serve(mem: &mut [u32], d: Manager, id: u32) -> Granted
-    requires { ⌜ Sited (now mem) (regionOf d id) ⌝ }
-    requires { ⌜ Asking d ⌝ }
+pub(crate) fn serve(mem: &mut [u32], d: Manager, id: u32, r: Region, l: Layout) -> Granted
+    requires { ⌜ (Sited (now mem) r) × (r ≡ regionOf d id) × (l ≡ layoutOf r) × (Asking d) ⌝ }
     ensures { λ g. ⌜ Serves (serve (now (mem .entry)) d id) (now (mem .exit)) g ⌝ }
 {
     let mut e = d;
     let mut told = reply::no_notices();
     let mut n: usize = 0;
     while n < Manager::TASKS {
-        match try_first(mem, e, id) {
+        match try_first(mem, e, id, r, l) {
             Turn::Stop => {
                 break;
             }

@@ -16,7 +16,8 @@ use Rattle.manager.specs.Lists.{every, pairwise, adjacent}
 use Rattle.manager.proofs.Laws.Lists.{and-first, and-second, rest-cons}
 use Rattle.manager.specs.Queue.{byPriority, urgent, goesBefore}
 use Rattle.manager.specs.Record.{slots, tasks, slotOf, noRegion, noWaiter, regionOf}
-use Rattle.manager.specs.Region.{dead, anyHeld, pagesOf}
+use Rattle.manager.specs.Region.{layoutOf, dead, anyHeld}
+use Rattle.arith.specs.declared.Layout.{Layout}
 use Rattle.manager.specs.Sound.{unused, emptyWaiter, soundWaiter, soundPlace, otherTask, inOrder, soundQueue}
 use Rattle.manager.specs.declared.Manager.{Manager}
 use Rattle.manager.specs.declared.Order.{Order}
@@ -202,10 +203,10 @@ no-facts m = refl
 pub facts-kept : (m : List ℕ) (kept : Facts) (id : ℕ) (r : Region) → kept .id ≡ id → kept ≡ cond (eqb (kept .id) id) kept (factsOf m id r)
 facts-kept m kept id r e = rw (eq-eqb (kept .id) id e)
 
-pub facts-new : (m : List ℕ) (kept : Facts) (id : ℕ) (r : Region) (n : ℕ) (b : Bool) → (kept .id ≡ id → ⊥) → n ≡ pagesOf r
+pub facts-new : (m : List ℕ) (kept : Facts) (id : ℕ) (r : Region) (l : Layout) (b : Bool) → (kept .id ≡ id → ⊥) → l ≡ layoutOf r
     → b ≡ (not (dead r) && anyHeld m r)
-    → record { id = id; region = r; pages = n; held = b } ≡ cond (eqb (kept .id) id) kept (factsOf m id r)
-facts-new m kept id r n b e en eb = rw (ne-eqb (kept .id) id e, en, eb)
+    → record { id = id; region = r; pages = l .pages; held = b } ≡ cond (eqb (kept .id) id) kept (factsOf m id r)
+facts-new m kept id r l b e el eb = rw (ne-eqb (kept .id) id e, el, eb)
 
 getD-any : {A : Type 0} (l : List A) (i : ℕ) (x y : A) → i < length l → getD l i x ≡ getD l i y
 getD-any [] i x y h = absurd (omega arith)

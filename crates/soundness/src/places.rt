@@ -1,5 +1,6 @@
 // The wait queue: each place holds a sound waiter or is unused and all zeros, no task waits twice, and the waiters stand in the order in
 // which they are served. One walk makes all three checks, and only over the used places: behind an unused place all are unused.
+use arith::Layout;
 use manager::Manager;
 use manager::Order;
 use manager::Region;
@@ -11,7 +12,7 @@ ghost use lib.Dec.{eqb};
 ghost use lib.ListN.{drop};
 ghost use Rattle.manager.specs.Lists.{every};
 ghost use Rattle.manager.specs.Record.{tasks};
-ghost use Rattle.manager.specs.Region.{dead, anyHeld};
+ghost use Rattle.manager.specs.Region.{layoutOf, dead, anyHeld};
 ghost use Rattle.manager.specs.Sound.{emptyWaiter, soundQueue};
 ghost use Rattle.soundness.specs.Waiters.{factsOf, noFacts, frontWaiter, soundRequest, soundIn, queueOf};
 
@@ -47,13 +48,15 @@ struct Facts {
 }
 
 // Whether a region is live with something held.
-fn live_and_held(mem: &[u32], r: Region) -> bool
+fn live_and_held(mem: &[u32], r: Region, l: Layout) -> bool
+    requires { ⌜ l ≡ layoutOf r ⌝ }
     ensures { λ b. ⌜ b ≡ (not (dead r) && anyHeld (now (mem .entry)) r) ⌝ }
 {
     if r.name == 0 {
         return false;
     }
-    map::any_held_in(mem, r)
+    let map = map::map_words(mem, l);
+    map::any_held(map)
 }
 
 // The facts of a region; those kept where they are of the same one.
@@ -63,12 +66,12 @@ fn facts_of(mem: &[u32], kept: Facts, id: u32, r: Region) -> Facts
     if kept.id == id {
         return kept;
     }
-    let pages = map::pages_of(r);
-    let held = live_and_held(mem, r);
+    let l = map::layout_of(r);
+    let held = live_and_held(mem, r, l);
     Facts {
         id,
         region: r,
-        pages,
+        pages: l.pages,
         held,
     }
 }

@@ -77,10 +77,11 @@ fn sound_region(mem: &[u32], r: Region) -> bool
     if !sound_page(r.page) {
         return false;
     }
-    if map::pages_of(r) < 1 {
+    let l = map::layout_of(r);
+    if l.pages < 1 {
         return false;
     }
-    let words = map::map_words(mem, r);
+    let words = map::map_words(mem, l);
     map::is_sound(words)
 }
 
