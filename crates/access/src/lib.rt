@@ -21,7 +21,8 @@ pub fn read_segment<'a>(mem: &'a [u32], d: Manager, id: u32, address: u32) -> &'
     if r.name == 0 {
         return &mem[0..0];
     }
-    let pages = map::held_word_at(mem, r, address);
+    let l = map::layout_of(r);
+    let pages = map::held_word_at(mem, l, r.page, address);
     if pages == 0 {
         return &mem[0..0];
     }
@@ -55,7 +56,8 @@ pub fn write_segment(
     if r.name == 0 {
         return reply::reply(d, Status::InvalidId, 0);
     }
-    let held = map::held_word_at(mem, r, address);
+    let l = map::layout_of(r);
+    let held = map::held_word_at(mem, l, r.page, address);
     if held == 0 {
         return reply::reply(d, Status::InvalidAddress, 0);
     }

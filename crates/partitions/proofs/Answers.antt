@@ -12,7 +12,7 @@ use lib.ListN.{length}
 use lib.Dec.{eqb, ltb}
 use borrow.Author.Tests.{eq-eqb, ne-eqb, le-leb, lt-leb, ltb-false, eqb-false, not-true, not-false}
 use Rattle.manager.proofs.Laws.Appended.{or-first, or-second}
-use Rattle.manager.specs.Record.{slotOf, noPartition, partitionOf, withPartition}
+use Rattle.manager.specs.Record.{slots, slotOf, noPartition, partitionOf, withPartition}
 use Rattle.manager.specs.Result.{Result, Performs, checked, answerOf, replied, refused, done}
 use Rattle.manager.specs.Sound.{sound, livePartition}
 use Rattle.manager.specs.Partition.{buffers, isBuffer, isFree, linkAll, afterGet, gotten, afterReturn, returned}
@@ -105,11 +105,11 @@ module _ (m : List ℕ) (d : Manager) (name : ℕ) (b : Bool) (q : b ≡ sound m
   ident-nameless e = rw (← q, s, eq-eqb _ _ e)
 
   module _ (h : name ≡ 0 → ⊥) (slot : ℕ) (k : slot ≡ partitionNamed d name) where
-    pub ident-none : 8 ≤ slot → identPartition m d name ≡ refused m d InvalidName
+    pub ident-none : slots ≤ slot → identPartition m d name ≡ refused m d InvalidName
     unfolding identPartition checked
     ident-none e = rw (← q, s, ne-eqb _ _ h, ← k, le-leb _ _ e)
 
-    pub ident-found : slot < 8 → identPartition m d name ≡ done m d (slot + 1)
+    pub ident-found : slot < slots → identPartition m d name ≡ done m d (slot + 1)
     unfolding identPartition checked
     ident-found e =
         let z : slot + 1 ≡ suc slot = add-one slot in

@@ -12,7 +12,7 @@ use Rattle.manager.specs.Map.{draw, total}
 use Rattle.manager.specs.Paged.{free+}
 use Rattle.manager.proofs.Laws.Paged.{total-free}
 use Rattle.manager.specs.Region.{pagesOf, mapAt, opened}
-use Rattle.manager.proofs.Laws.Region.{lent, putBack, lent-long, lent-in, lent-few, lent-some, put-back}
+use Rattle.manager.proofs.Laws.Region.{lent, putBack, lent-long, lent-in, lent-fits, lent-bytes, lent-few, lent-some, put-back, map-laid, pages-laid}
 use Rattle.manager.specs.Sound.{Laid}
 use Rattle.manager.specs.declared.Region.{Region}
 
@@ -55,4 +55,4 @@ opens r at n ea en m l ws e =
     ap (putBack at n m) (e ∙ ap (λ (k : ℕ). draw (free+ k [])) (lent-long r at n ea en m l))
     ∙ put-back r at n ea en m l (free+ (pagesOf r) []) (total-free (pagesOf r) [] ∙ add-zero (pagesOf r))
 
-pub ruleset opening = (lent-in, lent-few, lent-some, opens)
+pub ruleset opening = (map-laid, pages-laid, lent-in, lent-fits, lent-bytes, lent-few, lent-some, opens)

@@ -15,15 +15,17 @@ use borrow.Author.Needs.{fits-under}
 use borrow.Author.Tests.{eq-eqb, ne-eqb, le-leb, lt-leb, ltb-false, eqb-false, not-true, not-false}
 use Rattle.arith.specs.Round.{roundUp}
 use Rattle.arith.proofs.Laws.Round.{round-ge, round-least}
-use Rattle.manager.specs.Record.{withRegion}
+use Rattle.manager.specs.Record.{slots, withRegion}
 use Rattle.manager.specs.Result.{Result, checked, refused, done}
 use Rattle.manager.proofs.Laws.Result.{performs-by, performs-replied}
 use Rattle.manager.proofs.Laws.Appended.{or-first, or-second}
-use Rattle.manager.specs.Region.{pagesOf, opened}
+use Rattle.manager.specs.Region.{layoutOf, pagesOf, opened}
+use Rattle.manager.proofs.Laws.Region.{pages-laid}
 use Rattle.manager.specs.Regions.{overlaps, regionNamed, newRegion, createRegion}
 use Rattle.manager.specs.Sound.{sound, Laid}
 use Rattle.manager.proofs.Laws.Sound.{sound-words}
 use Rattle.manager.specs.declared.Manager.{Manager}
+use Rattle.arith.specs.declared.Layout.{Layout}
 use Rattle.manager.specs.declared.Region.{Region}
 use Rattle.manager.specs.declared.Order.{Order}
 use Rattle.regions.specs.Entered.{entered}
@@ -130,12 +132,15 @@ pub ruleset creating = (performs-replied, performs-by, page-allowed, new-laid, c
 
 -- ---- the new region
 
-module _ (m : List ℕ) (d : Manager) (r : Region) (k : ℕ) (ek : k ≡ pagesOf r) where
-  pub enter-empty : k ≡ 0 → entered m d r ≡ refused m d InvalidSize
+module _ (m : List ℕ) (d : Manager) (r : Region) (l : Layout) (el : l ≡ layoutOf r) where
+  ek : l .pages ≡ pagesOf r
+  ek = pages-laid r l el
+
+  pub enter-empty : l .pages ≡ 0 → entered m d r ≡ refused m d InvalidSize
   unfolding entered checked
   enter-empty e = rw (← ek, eq-eqb _ _ e)
 
-  module _ (o : k ≡ 0 → ⊥) where
+  module _ (o : l .pages ≡ 0 → ⊥) where
     pub enter-laid : (1 ≤ pagesOf r → Laid m r) → Laid m r
     enter-laid f = f (rw (← ek) (pos-of-ne-zero o))
 
@@ -148,13 +153,13 @@ module _ (m : List ℕ) (d : Manager) (r : Region) (k : ℕ) (ek : k ≡ pagesOf
       enter-overlaps e = rw (some-page, ← eb, e)
 
       module _ (h : b ≡ false) (slot : ℕ) (es : slot ≡ regionNamed d 0) where
-        pub enter-full : 8 ≤ slot → entered m d r ≡ refused m d TooMany
+        pub enter-full : slots ≤ slot → entered m d r ≡ refused m d TooMany
         unfolding entered checked
-        enter-full l = rw (some-page, ← eb, h, ← es, le-leb _ _ l)
+        enter-full k = rw (some-page, ← eb, h, ← es, le-leb _ _ k)
 
         -- the map is drawn, and the record has the region
-        pub enter-done : slot < 8 → (out : List ℕ) → out ≡ opened m r → (e : Manager) → e ≡ withRegion d slot r → entered m d r ≡ done out e (slot + 1)
+        pub enter-done : slot < slots → (out : List ℕ) → out ≡ opened m r → (e : Manager) → e ≡ withRegion d slot r → entered m d r ≡ done out e (slot + 1)
         unfolding entered checked
-        enter-done l out x e ee = rw (x, ee, some-page, ← eb, h, ← es, lt-leb _ _ l, add-one slot)
+        enter-done k out x e ee = rw (x, ee, some-page, ← eb, h, ← es, lt-leb _ _ k, add-one slot)
 
 pub ruleset entry = (performs-replied, enter-empty, enter-laid, enter-overlaps, enter-full, enter-done)

@@ -7,16 +7,17 @@ use native.Mathlib.Omega.{arith}
 use native.Mathlib.Numerals.{add-one}
 use lib.ListN.{length, replicate}
 use borrow.Author.Tests.{eq-eqb, ne-eqb, le-leb, lt-leb, not-true, not-false}
-use Rattle.manager.specs.Record.{tasks, noRegion, noNotice, regionOf, slotOf, withRegion}
+use Rattle.manager.specs.Record.{slots, tasks, noRegion, noNotice, regionOf, slotOf, withRegion}
 use Rattle.manager.specs.Result.{Result, Performs, checked, refused, done}
 use Rattle.manager.proofs.Laws.Result.{performs-replied}
 use Rattle.manager.specs.Map.{decode, tiled, freeSizes, heldSizes}
-use Rattle.manager.specs.Region.{mapWords, anyHeld}
+use Rattle.manager.specs.Region.{layoutOf, wordsAt, mapWords, anyHeld}
 use Rattle.map.specs.Word.{oneFree}
 use Rattle.map.proofs.Word.{free-told}
 use Rattle.manager.specs.Regions.{regionNamed, identRegion, deleteRegion, regionInformation, informationOf}
 use Rattle.manager.specs.Sound.{sound, Sited}
 use Rattle.manager.proofs.Laws.Sound.{tiled-map, live-sited, map-long, pages-few}
+use Rattle.arith.specs.declared.Layout.{Layout}
 use Rattle.manager.specs.declared.Manager.{Manager}
 use Rattle.manager.specs.declared.Region.{Region}
 use Rattle.manager.specs.declared.Information.{Information}
@@ -36,11 +37,11 @@ module _ (m : List ℕ) (d : Manager) (b : Bool) (eb : b ≡ sound m d) where
       ident-nameless e = rw (← eb, s, eq-eqb _ _ e)
 
       module _ (n : name ≡ 0 → ⊥) (slot : ℕ) (es : slot ≡ regionNamed d name) where
-        pub ident-none : 8 ≤ slot → identRegion m d name ≡ refused m d InvalidName
+        pub ident-none : slots ≤ slot → identRegion m d name ≡ refused m d InvalidName
         unfolding identRegion checked
         ident-none l = rw (← eb, s, ne-eqb _ _ n, ← es, le-leb _ _ l)
 
-        pub ident-found : slot < 8 → identRegion m d name ≡ done m d (slot + 1)
+        pub ident-found : slot < slots → identRegion m d name ≡ done m d (slot + 1)
         unfolding identRegion checked
         ident-found l = rw (← eb, s, ne-eqb _ _ n, ← es, lt-leb _ _ l, add-one slot)
 
@@ -63,28 +64,31 @@ module _ (m : List ℕ) (d : Manager) (b : Bool) (eb : b ≡ sound m d) where
       unfolding regionInformation checked
       information-dead e = rw (← eb, s, ← er, eq-eqb _ _ e)
 
-      module _ (l : r .name ≡ 0 → ⊥) where
+      module _ (n : r .name ≡ 0 → ⊥) (l : Layout) (el : l ≡ layoutOf r) where
         -- delete
-        module _ (c : Bool) (oc : c ≡ oneFree m r) where
+        module _ (c : Bool) (oc : c ≡ oneFree m l) where
           ec : not c ≡ anyHeld m r
-          ec = free-told m d id (sym eb ∙ s) r er l c oc
+          ec = free-told m d id (sym eb ∙ s) r er n l el c oc
 
           pub delete-held : not c ≡ true → deleteRegion m d id ≡ refused m d ResourceInUse
           unfolding deleteRegion checked
-          delete-held e = rw (← eb, s, ← er, ne-eqb _ _ l, ← ec, e)
+          delete-held e = rw (← eb, s, ← er, ne-eqb _ _ n, ← ec, e)
 
           pub delete-done : not c ≡ false → (i : ℕ) → i ≡ slotOf id → (e : Manager) → e ≡ withRegion d i noRegion → deleteRegion m d id ≡ done m e 0
           unfolding deleteRegion checked
-          delete-done g i ei e x = rw (← eb, s, ← er, ne-eqb _ _ l, ← ec, g, x, ei)
+          delete-done g i ei e x = rw (← eb, s, ← er, ne-eqb _ _ n, ← ec, g, x, ei)
 
         -- information: the map of a live region is tiled, and short
         live : Sited m r
-        live = live-sited m d (sym eb ∙ s) id r er l
+        live = live-sited m d (sym eb ∙ s) id r er n
 
         pub page-small : r .page ≤ 4096
         page-small = live .laid .page-high
 
-        module _ (ws : List ℕ) (ew : ws ≡ mapWords m r) where
+        module _ (ws : List ℕ) (ewl : ws ≡ wordsAt m l) where
+          ew : ws ≡ mapWords m r
+          ew = ewl ∙ rw el
+
           pub map-tiled : tiled ws ≡ true
           map-tiled = rw ew (tiled-map m r live)
 
@@ -95,7 +99,7 @@ module _ (m : List ℕ) (d : Manager) (b : Bool) (eb : b ≡ sound m d) where
               → (ns : List Notice) → ns ≡ replicate tasks noNotice
               → Performs (regionInformation m d id) m (record { status = Successful; value = 0; information = i; notices = ns; manager = d })
           unfolding regionInformation checked
-          information-done i ei ns f = rw (← eb, s, ← er, ne-eqb _ _ l, ei, f, ew) (record { memory = refl; answer = refl })
+          information-done i ei ns f = rw (← eb, s, ← er, ne-eqb _ _ n, ei, f, ew) (record { memory = refl; answer = refl })
 
 pub ruleset naming = (performs-replied, ident-unsound, ident-nameless, ident-none, ident-found, not-true, not-false)
 

@@ -1,4 +1,5 @@
 // Create, over sound records: the checks, then the record and the map of the new region.
+use arith::Layout;
 use manager::Answer;
 use manager::Area;
 use manager::Manager;
@@ -14,7 +15,7 @@ ghost use lib.ListN.{length};
 ghost use Rattle.manager.specs.Result.{Performs};
 ghost use Rattle.manager.specs.Map.{draw};
 ghost use Rattle.manager.specs.Paged.{free+};
-ghost use Rattle.manager.specs.Region.{pagesOf, opened};
+ghost use Rattle.manager.specs.Region.{layoutOf, pagesOf, opened};
 ghost use Rattle.manager.specs.Regions.{newRegion, createRegion};
 ghost use Rattle.manager.specs.Sound.{sound, Laid};
 ghost use Rattle.regions.specs.Entered.{entered};
@@ -58,13 +59,12 @@ fn clear(map: &mut [u32])
 }
 
 // Draws the map of a new region: one free segment.
-fn clear_map(mem: &mut [u32], r: Region)
-    requires { ⌜ Laid (now mem) r ⌝ }
+fn clear_map(mem: &mut [u32], r: Region, l: Layout)
+    requires { ⌜ (Laid (now mem) r) × (l ≡ layoutOf r) ⌝ }
     ensures { λ _. ⌜ now (mem .exit) ≡ opened (now (mem .entry)) r ⌝ }
 {
-    let at = map::map_at(r);
-    let n = map::pages_of(r);
-    let end = at + n as usize;
+    let at = l.map;
+    let end = at + l.pages as usize;
     clear(&mut mem[at..end]);
 }
 
@@ -73,7 +73,8 @@ fn enter(mem: &mut [u32], d: Manager, r: Region) -> Answer
     requires { ⌜ (1 ≤ pagesOf r → Laid (now mem) r) ⌝ }
     ensures { λ a. ⌜ Performs (entered (now (mem .entry)) d r) (now (mem .exit)) a ⌝ }
 {
-    if map::pages_of(r) == 0 {
+    let l = map::layout_of(r);
+    if l.pages == 0 {
         return reply::reply(d, Status::InvalidSize, 0);
     }
     let area = Area {
@@ -87,7 +88,7 @@ fn enter(mem: &mut [u32], d: Manager, r: Region) -> Answer
     if Manager::SLOTS <= slot {
         return reply::reply(d, Status::TooMany, 0);
     }
-    clear_map(mem, r);
+    clear_map(mem, r, l);
     let e = objects::with_region(d, slot, r);
     reply::reply(e, Status::Successful, slot as u32 + 1)
 }

@@ -58,7 +58,8 @@ pub fn delete_region(mem: &[u32], d: Manager, id: u32) -> Answer
     if r.name == 0 {
         return reply::reply(d, Status::InvalidId, 0);
     }
-    if !map::one_free(mem, r) {
+    let l = map::layout_of(r);
+    if !map::one_free(mem, l) {
         return reply::reply(d, Status::ResourceInUse, 0);
     }
     let none = Region {
@@ -83,7 +84,8 @@ pub fn region_information(mem: &[u32], d: Manager, id: u32) -> Answer
     if r.name == 0 {
         return reply::reply(d, Status::InvalidId, 0);
     }
-    let map = map::map_words(mem, r);
+    let l = map::layout_of(r);
+    let map = map::map_words(mem, l);
     let information = tally::tally(map, r.page);
     let notices = reply::no_notices();
     Answer {

@@ -213,7 +213,7 @@ getD-any [] i x y h = absurd (omega arith)
 getD-any (a ∷ l) zero x y h = refl
 getD-any (a ∷ l) (suc i) x y h = getD-any l i x y (omega arith)
 
-no-region : (rs : List Region) (id : ℕ) → length rs ≡ slots → 8 ≤ slotOf id → getD rs (slotOf id) noRegion ≡ noRegion
+no-region : (rs : List Region) (id : ℕ) → length rs ≡ slots → slots ≤ slotOf id → getD rs (slotOf id) noRegion ≡ noRegion
 no-region rs id h g = List·getD-eq-default rs noRegion (omega arith)
 
 module _ (m : List ℕ) (rs : List Region) (ws : List Waiter) where
@@ -245,7 +245,7 @@ module _ (m : List ℕ) (rs : List Region) (ws : List Waiter) where
       unfolding soundPlace
       place-by s e = rw (ne-eqb (getD ws i z .task) 0 u) e
 
-      pub walk-astray : (slot : ℕ) → slot ≡ slotOf (getD ws i z .region) → 8 ≤ slot → false ≡ w
+      pub walk-astray : (slot : ℕ) → slot ≡ slotOf (getD ws i z .region) → slots ≤ slot → false ≡ w
       unfolding soundWaiter
       walk-astray slot e g =
           sym
@@ -254,7 +254,7 @@ module _ (m : List ℕ) (rs : List Region) (ws : List Waiter) where
           ∙ here
 
       -- with the facts of its region, kept or worked out
-      module _ (slot : ℕ) (es : slot ≡ slotOf (getD ws i z .region)) (hs : slot < 8) (y : Region) (n : Facts)
+      module _ (slot : ℕ) (es : slot ≡ slotOf (getD ws i z .region)) (hs : slot < slots) (y : Region) (n : Facts)
           (en : n ≡ cond (eqb (f .id) (getD ws i z .region)) f (factsOf m (getD ws i z .region) (getD rs slot y))) where
         looked-up : getD rs slot y ≡ regionOf (queueOf rs ws) (getD ws i z .region)
         looked-up = getD-any rs slot y noRegion (omega (arith, v .slots-in)) ∙ rw es

@@ -1,6 +1,6 @@
 -- The part of the memory that is a region's map, lent and put back: what the words of the map become, the memory has in their place. And
 -- no held segment is larger than its region. Assumes nothing.
-use Prim.Native.Nat.{ℕ, _+_, _-_, _≤_}
+use Prim.Native.Nat.{ℕ, _+_, _-_, _*_, _≤_}
 use mathlib.Core.Path.{_≡_, ap, sym, _∙_}
 use mathlib.Core.Bool.{Bool, true, false, cond}
 use mathlib.Core.List.{List, _++_}
@@ -8,12 +8,16 @@ use native.Mathlib.Omega.{arith}
 use lib.ListN.{length, take, drop}
 use lib.Seq.{drop-drop}
 use borrow.Rule.Slice.PartMut.{putMid}
+use borrow.Author.Needs.{fits-under}
+use mir.Syntax.{w64}
+use mir.Val.{Fits}
 use Rattle.manager.specs.Map.{Segment, draw, tiled, soundMap, total}
 use Rattle.manager.specs.Paged.{apart, heldFrom}
 use Rattle.manager.proofs.Laws.Paged.{held-within}
-use Rattle.manager.specs.Region.{pagesOf, firstPageOf, mapAt, mapWords, segments, withSegments, startsPage, pageAt, heldAt}
+use Rattle.manager.specs.Region.{layoutOf, pagesOf, firstPageOf, mapAt, mapWords, segments, withSegments, startsPage, pageAt, heldAt}
 use Rattle.manager.specs.Sound.{Laid, Sited}
 use Rattle.manager.proofs.Laws.Sound.{tiled-map, map-in, map-long, pages-few, with-is, total-segments}
+use Rattle.arith.specs.declared.Layout.{Layout}
 use Rattle.manager.specs.declared.Region.{Region}
 
 -- n words from place `at` on, as the code lends them, and the memory with others in their place
@@ -29,6 +33,12 @@ module _ (r : Region) (at n : ℕ) (ea : at ≡ mapAt r) (en : n ≡ pagesOf r) 
 
   pub lent-in : Laid m r → at + n ≤ length m
   lent-in l = omega (arith, map-in m r l)
+
+  pub lent-fits : Laid m r → Fits w64 (at + n)
+  lent-fits l = fits-under w64 (at + n) 16385 (omega (arith, lent-in l, l .words)) tt
+
+  pub lent-bytes : Laid m r → Fits w64 (at * 4)
+  lent-bytes l = fits-under w64 (at * 4) 65537 (omega (arith, lent-in l, l .words)) tt
 
   pub lent-long : Laid m r → length (lent at n m) ≡ pagesOf r
   lent-long l = ap length lent-is ∙ map-long m r l
@@ -49,6 +59,13 @@ module _ (r : Region) (at n : ℕ) (ea : at ≡ mapAt r) (en : n ≡ pagesOf r) 
   put-back l t e =
       let z : at + n - at ≡ n = omega arith in
       rw (z, ea, en) (ap (λ (w : List ℕ). take (mapAt r) m ++ (draw t ++ w)) (drop-drop (pagesOf r) (mapAt r) m) ∙ sym (with-is m r l t e))
+
+-- a layout that is the region's
+pub map-laid : (r : Region) (l : Layout) → l ≡ layoutOf r → l .map ≡ mapAt r
+map-laid r l e = rw e
+
+pub pages-laid : (r : Region) (l : Layout) → l ≡ layoutOf r → l .pages ≡ pagesOf r
+pages-laid r l e = rw e
 
 pub ruleset lending = (lent-in, lent-few, lent-some, lent-tiled, lent-sound)
 

@@ -16,6 +16,7 @@ delete-region-spec =
     (λ c. search (needs, deleting))
     (λ c κs. search (needs, deleting))
     (λ c κs. search (needs, deleting))
+    (λ c κs. search (needs, deleting))
     (λ c. search (needs, deleting))
     (λ c κs. search (needs, deleting))
     (λ c κs. search (needs, deleting))

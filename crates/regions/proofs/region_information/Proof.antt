@@ -17,4 +17,5 @@ region-information-spec =
     (λ c κs. search (needs, informing))
     (λ c κs. search (needs, informing))
     (λ c κs. search (needs, informing))
+    (λ c κs. search (needs, informing))
     (λ c. search (needs, informing)))

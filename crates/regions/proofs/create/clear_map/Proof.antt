@@ -8,8 +8,6 @@ pub clear-map-spec : {M : Type 1} → statement M
 clear-map-spec =
     tie.close
     (tie.spec
-    (λ c κs. search (needs, opening))
-    (λ c κs. search (needs, opening))
     (λ c. search (needs, opening))
     (λ c. search (needs, opening))
     (λ c. search (needs, opening))
