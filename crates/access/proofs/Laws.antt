@@ -7,14 +7,12 @@ use mathlib.Core.List.{List, [], _∷_, _++_, append-assoc, append-nil}
 use native.Mathlib.Omega.{arith}
 use native.Mathlib.Numerals.{add-one}
 use native.Mathlib.Nat.{add-mul, div-add-mod', le-of-lt, lt-of-le-of-lt, mul-le-mul-left, mul-le-mul-right, mul-lt-mul-of-pos-right, pos-of-ne-zero}
-use borrow.Author.Tests.{eq-eqb, ne-eqb, lt-ltb, le-ltb, leb-true, eqb-true, not-true, not-false}
-use lib.Dec.{leb}
+use borrow.Author.Tests.{eq-eqb, ne-eqb, lt-ltb, le-ltb, eqb-true, not-true, not-false}
 use lib.ListN.{length, take, drop, set, getD, length-drop, drop-of-length-le}
 use lib.Pow.{pow-pos, pow-add}
 use lib.Seq.{sets, sets-eq, drop-cons, drop-drop, take-all}
 use Rattle.arith.proofs.Laws.Layout.{count-end}
 use Rattle.manager.specs.Access.{readSegment, writeSegment}
-use Rattle.manager.proofs.Laws.Lists.{and-first, and-second}
 use Rattle.manager.specs.Map.{held, total}
 use Rattle.manager.proofs.Laws.Map.{Sized, total-append, total-cons}
 use Rattle.manager.specs.Paged.{heldFrom}
@@ -22,12 +20,13 @@ use Rattle.manager.proofs.Laws.Paged.{Spot, spot, held-at}
 use Rattle.manager.specs.Record.{regionOf}
 use Rattle.map.specs.Word.{heldWordAt}
 use Rattle.map.proofs.Word.{held-told}
-use Rattle.manager.specs.Region.{baseOf, heldAt, pageAt, pagesOf, segments, startsPage}
+use Rattle.manager.specs.Region.{layoutOf, pagesOf, firstPageOf, addressOf, pageAt, startsPage, segments, heldAt}
 use Rattle.manager.specs.Result.{Result, Performs, answerOf, checked, refused, replied, done}
 use Rattle.manager.proofs.Laws.Result.{performs-by, performs-reply}
 use Rattle.manager.specs.Sound.{sound}
 use Rattle.manager.specs.Sound.{Sited}
 use Rattle.manager.proofs.Laws.Sound.{sited, sized-segments, total-segments}
+use Rattle.arith.specs.declared.Layout.{Layout}
 use Rattle.manager.specs.declared.Answer.{Answer}
 use Rattle.manager.specs.declared.Manager.{Manager}
 use Rattle.manager.specs.declared.Region.{Region}
@@ -79,14 +78,15 @@ quarters a x n h = omega arith
 
 module _ (m : List ℕ) (r : Region) (s : Sited m r) where
   -- its pages are some of the region's
-  held-pages : (p : ℕ) → 1 ≤ heldFrom p 0 (segments m r) → p + heldFrom p 0 (segments m r) ≤ pagesOf r
-  held-pages p h = go (spot p 0 (segments m r) h)
+  held-pages : (p : ℕ) → 1 ≤ heldFrom p (firstPageOf r) (segments m r)
+      → p + heldFrom p (firstPageOf r) (segments m r) ≤ firstPageOf r + pagesOf r
+  held-pages p h = go (spot p (firstPageOf r) (segments m r) h)
     where
-      go : Spot p 0 (segments m r) → p + heldFrom p 0 (segments m r) ≤ pagesOf r
+      go : Spot p (firstPageOf r) (segments m r) → p + heldFrom p (firstPageOf r) (segments m r) ≤ firstPageOf r + pagesOf r
       go x =
           let w : Sized (x .pre ++ (held (x .pages) ∷ x .post)) = rw (x .is) at (sized-segments m r s) in
-          let n : heldFrom p 0 (segments m r) ≡ x .pages =
-          ap (heldFrom p 0) (x .is) ∙ held-at p 0 0 (x .pre) (x .pages) (x .post) w (x .page) in
+          let n : heldFrom p (firstPageOf r) (segments m r) ≡ x .pages =
+          ap (heldFrom p (firstPageOf r)) (x .is) ∙ held-at p 0 (firstPageOf r) (x .pre) (x .pages) (x .post) w (x .page) in
           let t : total (segments m r) ≡ total (x .pre ++ (held (x .pages) ∷ x .post)) = ap total (x .is) in
           omega (
             arith,
@@ -99,18 +99,23 @@ module _ (m : List ℕ) (r : Region) (s : Sited m r) where
           )
 
   -- and end where the last of the region's do, or before
-  held-ends : (a p k : ℕ) → a ≡ baseOf r + p * r .page → p + k ≤ pagesOf r → a + k * r .page ≤ 4 * length m
+  held-ends : (a p k : ℕ) → a ≡ addressOf r p → p + k ≤ firstPageOf r + pagesOf r → a + k * r .page ≤ 4 * length m
   held-ends a p k e h =
       let b = count-end (r .start) (r .length) (r .page) (omega (arith, s .laid .page-low)) (s .laid .some) in
-      omega (arith, e, b, mul-le-mul-right (r .page) h, add-mul p k (r .page), s .laid .inside)
+      omega (
+        arith,
+        e,
+        b,
+        mul-le-mul-right (r .page) h,
+        add-mul p k (r .page),
+        add-mul (firstPageOf r) (pagesOf r) (r .page),
+        s .laid .inside,
+      )
 
-  page-start : (a : ℕ) → startsPage r a ≡ true → a ≡ baseOf r + pageAt r a * r .page
-  page-start a e =
-      let l : baseOf r ≤ a = leb-true (baseOf r) a (and-first (leb (baseOf r) a) _ e) in
-      let z : (a - baseOf r) % r .page ≡ 0 = eqb-true ((a - baseOf r) % r .page) 0 (and-second (leb (baseOf r) a) _ e) in
-      omega (arith, l, z, div-add-mod' (a - baseOf r) (r .page))
+  page-start : (a : ℕ) → startsPage r a ≡ true → a ≡ addressOf r (pageAt r a)
+  page-start a e = omega (arith, eqb-true (a % r .page) 0 e, div-add-mod' a (r .page))
 
-  held-in : (a k : ℕ) (b : Bool) → startsPage r a ≡ b → k ≡ cond b (heldFrom (pageAt r a) 0 (segments m r)) 0 → 0 < k
+  held-in : (a k : ℕ) (b : Bool) → startsPage r a ≡ b → k ≡ cond b (heldFrom (pageAt r a) (firstPageOf r) (segments m r)) 0 → 0 < k
       → a + k * r .page ≤ 4 * length m
   held-in a k true e q h =
       held-ends a (pageAt r a) k (page-start a e) (rw q (held-pages (pageAt r a) (omega (arith, q))))
@@ -146,9 +151,9 @@ module _ (m : List ℕ) (d : Manager) (b : Bool) (q : b ≡ sound m d) (id addre
     unfolding writeSegment checked
     write-dead first ws e = rw (← q, s, ← o, eq-eqb _ _ e)
 
-    module _ (l : r .name ≡ 0 → ⊥) (k : ℕ) (wx : k ≡ heldWordAt m r address) where
+    module _ (l : r .name ≡ 0 → ⊥) (y : Layout) (ey : y ≡ layoutOf r) (k : ℕ) (wx : k ≡ heldWordAt m y (r .page) address) where
       x : k ≡ heldAt m r address
-      x = held-told m d id (sym q ∙ s) r o l address k wx
+      x = held-told m d id (sym q ∙ s) r o l y ey address k wx
 
       -- no held segment starts at the address
       pub read-none : k ≡ 0 → [] ≡ readSegment m d id address
@@ -159,29 +164,29 @@ module _ (m : List ℕ) (d : Manager) (b : Bool) (q : b ≡ sound m d) (id addre
       unfolding writeSegment checked
       write-none first ws e = rw (← q, s, ← o, ne-eqb _ _ l, ← x, eq-eqb _ _ e)
 
-      module _ (n : k ≡ 0 → ⊥) (w : ℕ) (y : w ≡ k * r .page / 4) where
+      module _ (n : k ≡ 0 → ⊥) (w : ℕ) (ew : w ≡ k * r .page / 4) where
         lives : Sited m r
         lives = rw o (sited m d id (sym q ∙ s) (ne-eqb _ _ (λ e. l (ap (λ (t : Region). t .name) o ∙ e))))
 
         pub words-in : address / 4 + w ≤ length m
-        words-in = rw y (held-words m r lives address k x (pos-of-ne-zero n))
+        words-in = rw ew (held-words m r lives address k x (pos-of-ne-zero n))
 
         pub read-part : take (address / 4 + w - address / 4) (drop (address / 4) m) ≡ readSegment m d id address
         unfolding readSegment
         read-part =
             let e : address / 4 + w - address / 4 ≡ w = omega arith in
-            rw (← q, s, ← o, ne-eqb _ _ l, ← x, ne-eqb _ _ n, e, y)
+            rw (← q, s, ← o, ne-eqb _ _ l, ← x, ne-eqb _ _ n, e, ew)
 
         module _ (first : ℕ) (ws : List ℕ) where
           -- they would end past the segment's end
           pub write-past : w < first + length ws → writeSegment m d id address first ws ≡ refused m d InvalidSize
           unfolding writeSegment checked
-          write-past e = rw (← q, s, ← o, ne-eqb _ _ l, ← x, ne-eqb _ _ n, ← y, lt-ltb _ _ e)
+          write-past e = rw (← q, s, ← o, ne-eqb _ _ l, ← x, ne-eqb _ _ n, ← ew, lt-ltb _ _ e)
 
           module _ (v : first + length ws ≤ w) where
             write-done : writeSegment m d id address first ws ≡ done (sets m (address / 4 + first) ws) d 0
             unfolding writeSegment checked
-            write-done = rw (← q, s, ← o, ne-eqb _ _ l, ← x, ne-eqb _ _ n, ← y, le-ltb _ _ v)
+            write-done = rw (← q, s, ← o, ne-eqb _ _ l, ← x, ne-eqb _ _ n, ← ew, le-ltb _ _ v)
 
             -- the words come to stand there, and nothing else moves
             pub write-performs : (t : List ℕ) (a : Answer) → t ≡ sets (take (length m - (address / 4 + first)) (drop (address / 4 + first) m)) 0 ws

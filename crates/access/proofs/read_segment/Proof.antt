@@ -37,6 +37,9 @@ part-result-end-2 c = search needs
 returns-2 : tie.Need-returns-2
 returns-2 c = search (needs, reading)
 
+layout-of-requires : tie.Need-layout-of-requires
+layout-of-requires c κs = search needs
+
 held-word-at-requires : tie.Need-held-word-at-requires
 held-word-at-requires c κs = search needs
 
@@ -62,12 +65,13 @@ words-of-requires c κs = search needs
 add-e : tie.Need-add-e
 add-e c =
     let h = c .before .before in
-    let r = h .before .before .before in
+    let y = h .before in
+    let r = y .before .before .before in
     let s = r .before .before in
     omega (
       arith,
       words-in _ _ _ (s .is-sound .ensures) (s .before .before .args .id) _ (not-false _ (r .before .if1 .left)) _ (r .region-of .ensures)
-          (h .before .if2 .left) _ (h .held-word-at .ensures) (c .before .if3 .left) _ (c .words-of .ensures),
+          (y .before .if2 .left) _ (y .layout-of .ensures) _ (h .held-word-at .ensures) (c .before .if3 .left) _ (c .words-of .ensures),
     )
 
 mul-result : tie.Need-mul-result
@@ -99,6 +103,7 @@ read-segment-spec =
     part-result-start-2
     part-result-end-2
     returns-2
+    layout-of-requires
     held-word-at-requires
     sub-result-3
     part-result-start-3
