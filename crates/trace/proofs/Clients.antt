@@ -6,12 +6,11 @@ use mathlib.Core.List.{List}
 use mathlib.Core.Logic.{⊎-elim}
 use mathlib.Core.Option.{Option, some}
 use Prim.Native.Nat.{ℕ, _+_, _*_, _/_, _%_, _≤_, _<_}
+use native.Mathlib.Nat.{mul-le-mul-right, add-mul}
 use native.Mathlib.Omega.{arith}
 use lib.ListN.{getD}
-use Rattle.arith.specs.Layout.{mapStart}
-use Rattle.arith.specs.Round.{pagesFor}
 use Rattle.manager.specs.Record.{regionOf, partitionOf}
-use Rattle.manager.specs.Region.{baseOf, mapAt, areaOf}
+use Rattle.manager.specs.Region.{firstPageOf, addressOf, mapAt, areaOf}
 use Rattle.manager.specs.declared.Area.{Area}
 use Rattle.manager.specs.declared.Manager.{Manager}
 use Rattle.manager.specs.declared.Region.{Region}
@@ -21,7 +20,7 @@ use Rattle.trace.specs.Loans.{Lent}
 use Rattle.trace.specs.Receipts.{Receipts, RegionEntry, PartitionEntry, unit, pagesIn, addressIn, pageIn, pageLoans}
 use Rattle.trace.specs.Trace.{Object, region, partition, Loaned, segment, buffer, Owned, ClientsWrite}
 use Rattle.trace.proofs.Invariant.{Inside, regionFor, RegionIs, RegionSlot, PartitionIs, PartitionSlot, Inv, empty, live, OnlyMap}
-use Rattle.trace.proofs.Frame.{unit-whole, whole-times, page-upto, first-from, region-unit, region-inside, region-before, region-same, partition-shaped, buffer-lies, buffers-apart, chained-buffer, link-next, link-before, buffer-inside, partition-same}
+use Rattle.trace.proofs.Frame.{unit-whole, whole-times, page-from, page-upto, region-unit, region-inside, region-before, region-same, partition-shaped, buffer-lies, buffers-apart, chained-buffer, link-next, link-before, buffer-inside, partition-same}
 use Rattle.trace.proofs.Segments.{law, regular, loan-holds}
 use Rattle.trace.proofs.Areas.{areaFor, areaIn, sound-clear, same-object}
 use Rattle.trace.proofs.Disjoint.{clear-words}
@@ -78,8 +77,11 @@ pub record LoanIn (a : Area) (address bytes : ℕ) : Type 0 where
 
 -- where a loan of a region lies: at or behind its first page
 module _ (m : List ℕ) (e : RegionEntry) (is : RegionIs m e) (a n : ℕ) (l : SegmentLoan e a n) where
-  pub segment-behind : baseOf (regionFor e) ≤ a
-  segment-behind = omega (arith, l .at)
+  page-behind : firstPageOf (regionFor e) ≤ l .p
+  page-behind = law e .lent-from (is .fits) (l .p) (l .k) (l .lent)
+
+  pub segment-behind : addressOf (regionFor e) (firstPageOf (regionFor e)) ≤ a
+  segment-behind = omega (arith, l .at, mul-le-mul-right (unit e) page-behind)
 
   pub segment-some : 0 < l .k
   segment-some = law e .lent-some (is .fits) (l .p) (l .k) (l .lent)
@@ -87,11 +89,11 @@ module _ (m : List ℕ) (e : RegionEntry) (is : RegionIs m e) (a n : ℕ) (l : S
   pub segment-in : LoanIn (areaFor (regionFor e)) a n
   segment-in =
       let w : unit e % 4 ≡ 0 = omega (arith, unit-whole e) in
-      let u = page-upto (e .start) (e .bytes) (unit e) (region-unit m e is) (is .some-page) (l .p + l .k) (law e .lent-within (is .fits) (l .p) (l .k) (l .lent)) in
+      let u = page-upto (e .start) (e .bytes) (unit e) (l .p + l .k) (region-unit m e is) (is .some-page) (law e .lent-within (is .fits) (l .p) (l .k) (l .lent)) in
       record {
-        from = omega (arith, l .at, first-from (e .start) (e .bytes) (unit e) (region-unit m e is));
-        upto = omega (arith, l .at, l .bytes, u);
-        whole = omega (arith, l .at, whole-times (pagesFor (mapStart (e .start) + 4 * pagesIn e) (unit e)) (unit e) w, whole-times (l .p) (unit e) w);
+        from = omega (arith, l .at, page-from (e .start) (e .bytes) (unit e) (l .p) (region-unit m e is) page-behind);
+        upto = omega (arith, l .at, l .bytes, u, add-mul (l .p) (l .k) (unit e));
+        whole = omega (arith, l .at, whole-times (l .p) (unit e) w);
         whole-bytes = omega (arith, l .bytes, whole-times (l .k) (unit e) w);
       }
 

@@ -5,7 +5,7 @@ use mathlib.Core.Bool.{true, not}
 use mathlib.Core.List.{List, [], _∷_, _++_, append-assoc}
 use mathlib.Core.Logic.{_⊎_, inl, inr, ⊎-elim}
 use Prim.Native.Nat.{ℕ, suc, _+_, _*_, _/_, _%_, _≤_, _<_}
-use native.Mathlib.Nat.{mul-le-mul-right}
+use native.Mathlib.Nat.{mul-le-mul-right, add-mul}
 use native.Mathlib.Omega.{arith}
 use lib.ListN.{length, getD, take, drop, set, length-take, length-drop, length-set}
 use lib.Seq.{sets, sets-eq, getD-set-other, getD-take, getD-drop, ext-getD, take-at, drop-at, length-take-le}
@@ -15,7 +15,7 @@ use Rattle.arith.proofs.Laws.Round.{round-multiple}
 use Rattle.arith.specs.Layout.{mapStart, firstPage, pageCount}
 use Rattle.arith.proofs.Laws.Layout.{map-ge, count-map, count-end}
 use Rattle.manager.proofs.Laws.Lists.{and-first, and-second}
-use Rattle.manager.specs.Region.{pagesOf, baseOf, mapAt, mapWords}
+use Rattle.manager.specs.Region.{pagesOf, firstPageOf, mapAt, mapWords, addressOf}
 use Rattle.manager.specs.Partition.{isBuffer, chain}
 use Rattle.manager.proofs.Laws.Distinct.{On, same-or-not, on-in}
 use Rattle.manager.proofs.Laws.Partition.Buffers.{Shaped, Laid, Buffer, buffer-of, Placed, placed, apart}
@@ -88,7 +88,7 @@ module _ (start bytes page : ℕ) (hp : 0 < page) (some : 1 ≤ pageCount start 
         high = omega (arith, map-at start, count-map start bytes page hp, count-end start bytes page hp some);
       }
 
-  pub map-before : w < mapStart start / 4 + pageCount start bytes page → 4 * w + 4 ≤ firstPage start page (pageCount start bytes page)
+  pub map-before : w < mapStart start / 4 + pageCount start bytes page → 4 * w + 4 ≤ firstPage start page (pageCount start bytes page) * page
   map-before h = omega (arith, map-at start, count-map start bytes page hp)
 
 -- the map lies in a memory in which the area does
@@ -96,12 +96,14 @@ pub map-fits : (start bytes page n : ℕ) → 0 < page → 1 ≤ pageCount start
 map-fits start bytes page n hp some h = omega (arith, map-at start, count-map start bytes page hp, count-end start bytes page hp some)
 
 -- the pages lie inside the area
-pub page-upto : (start bytes page : ℕ) → 0 < page → 1 ≤ pageCount start bytes page → (p : ℕ) → p ≤ pageCount start bytes page
-    → firstPage start page (pageCount start bytes page) + p * page ≤ start + bytes
-page-upto start bytes page hp some p h = omega (arith, count-end start bytes page hp some, mul-le-mul-right page h)
+pub page-from : (start bytes page p : ℕ) → 0 < page → firstPage start page (pageCount start bytes page) ≤ p → start ≤ p * page
+page-from start bytes page p hp h = omega (arith, map-ge start, count-map start bytes page hp, mul-le-mul-right page h)
 
-pub first-from : (start bytes page : ℕ) → 0 < page → start ≤ firstPage start page (pageCount start bytes page)
-first-from start bytes page hp = omega (arith, map-ge start, count-map start bytes page hp)
+pub page-upto : (start bytes page p : ℕ) → 0 < page → 1 ≤ pageCount start bytes page
+    → p ≤ firstPage start page (pageCount start bytes page) + pageCount start bytes page → p * page ≤ start + bytes
+page-upto start bytes page p hp some h =
+    let n = pageCount start bytes page in
+    omega (arith, count-end start bytes page hp some, mul-le-mul-right page h, add-mul (firstPage start page n) n page)
 
 -- the page size of an entry: whole, and in bounds
 pub unit-least : (e : RegionEntry) → 1 ≤ e .page → 8 ≤ unit e
@@ -157,7 +159,7 @@ module _ (m : List ℕ) (e : RegionEntry) (is : RegionIs m e) where
   pub region-inside : (w : ℕ) → mapAt (regionFor e) ≤ w → w < mapAt (regionFor e) + pagesIn e → Inside (e .start) (e .bytes) w
   region-inside w l h = map-inside (e .start) (e .bytes) (unit e) region-unit (is .some-page) w l h
 
-  pub region-before : (w : ℕ) → w < mapAt (regionFor e) + pagesIn e → 4 * w + 4 ≤ baseOf (regionFor e)
+  pub region-before : (w : ℕ) → w < mapAt (regionFor e) + pagesIn e → 4 * w + 4 ≤ addressOf (regionFor e) (firstPageOf (regionFor e))
   region-before w h = map-before (e .start) (e .bytes) (unit e) region-unit (is .some-page) w h
 
   -- a change of its map is one of its area
