@@ -15,7 +15,7 @@ use Rattle.arith.specs.Round.{pagesFor}
 use Rattle.arith.proofs.Laws.Round.{pages-some}
 use Rattle.manager.specs.Map.{Segment, draw}
 use Rattle.manager.specs.Paged.{free+}
-use Rattle.manager.specs.Region.{firstPageOf, startsPage, mapAt, mapWords, segments, withSegments, kind, opened}
+use Rattle.manager.specs.Region.{firstPageOf, startsPage, mapAt, mapWords, segments, withSegments, kind}
 use Rattle.manager.specs.Region as region
 use Rattle.manager.specs.declared.Region.{Region}
 use Rattle.manager.specs.declared.Place.{Place}

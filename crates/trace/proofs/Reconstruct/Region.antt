@@ -11,7 +11,6 @@ use lib.Dec.{eqb, leb}
 use borrow.Author.Tests.{eqb-true, eqb-false, leb-true}
 use Rattle.manager.proofs.Laws.Lists.{and-first, and-second}
 use Rattle.manager.specs.Map.{soundMap, draw}
-use Rattle.manager.specs.Paged.{Kind}
 use Rattle.manager.proofs.Laws.Map.{redraw, sound-tiled}
 use Rattle.manager.specs.Record.{noRegion}
 use Rattle.manager.specs.Region.{dead, kind, pagesOf, firstPageOf, mapWords, segments}
