@@ -4,6 +4,7 @@ use mathlib.Core.Bool.{cond}
 use mathlib.Core.List.{List, [], _∷_}
 use mathlib.Core.Logic.{inl, inr, _↔_}
 use Prim.Native.Nat.{ℕ, _≤_, _<_}
+use native.Mathlib.Nat.{mul-div-left}
 use Rattle.arith.specs.Round.{pagesFor}
 use Rattle.arith.proofs.Laws.Round.{pages-some}
 use Rattle.manager.specs.Paged.{kindOf}
@@ -17,7 +18,7 @@ use Rattle.trace.specs.Claims.{Full, Takes}
 use Rattle.trace.proofs.Invariant.{atAddresses, RegionIs}
 use Rattle.trace.proofs.Frame.{region-unit}
 use Rattle.trace.proofs.Loans.Tests.{by-eqb}
-use Rattle.trace.proofs.Loans.Addresses.{page-of, pages-back, lent-address, address-lent, enter-address, amend-address}
+use Rattle.trace.proofs.Loans.Addresses.{pages-back, lent-address, address-lent, enter-address, amend-address}
 use Rattle.trace.proofs.Loans.Lawful as lawful
 use Rattle.trace.proofs.Loans.Lawful.{Lawful, Found, found, nowhere, drawn-is, place-found}
 use Rattle.trace.proofs.Loans.Pages.{lawful-of}
@@ -69,15 +70,11 @@ pub data Places (e : RegionEntry) (size : ℕ) : Place → Type 0 where
   full : Full e (e .loans) size → Places e size Nowhere
 
 module _ (e : RegionEntry) (g : Regular e) where
-  -- a page's address, and back
-  pub page-address : (p : ℕ) → pageIn e (addressIn e p) ≡ p
-  page-address p = page-of (unit e) (g .some-unit) p
-
   -- A LOAN AT AN ADDRESS IS ONE AT ITS PAGE
   pub loan-holds : (a k : ℕ) → Lent (e .loans) a k → Holds e a k
   loan-holds a k l =
       let x = address-lent (unit e) (pageLoans e) a k (rw (g .placed) at l) in
-      let p : x .0 ≡ pageIn e a = sym (page-address (x .0)) ∙ ap (pageIn e) (sym (x .1)) in
+      let p : x .0 ≡ pageIn e a = sym (mul-div-left (x .0) (g .some-unit)) ∙ ap (pageIn e) (sym (x .1)) in
       record { at = x .1 ∙ ap (addressIn e) p; lent = subst (λ (q : ℕ). Lent (pageLoans e) q k) p (x .2) }
 
   pub holds-loan : (a k : ℕ) → Holds e a k → Lent (e .loans) a k

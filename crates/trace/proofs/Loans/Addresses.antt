@@ -1,12 +1,12 @@
 -- Loans at addresses and loans by their pages: where each loan is at the address of a page, the two lists say the same. Entering and
 -- amending a loan at the address of page p is entering and amending it at page p, since addresses of pages are in the order of the pages.
 -- Assumes nothing.
-use mathlib.Core.Path.{_≡_, refl, sym, ap, _∙_}
+use mathlib.Core.Path.{_≡_, refl, sym, ap}
 use mathlib.Core.Bool.{cond}
 use mathlib.Core.List.{List, [], _∷_}
 use mathlib.Core.Logic.{inl, inr}
-use Prim.Native.Nat.{ℕ, zero, suc, _*_, _/_, _≤_, _<_}
-use native.Mathlib.Nat.{mul-div-left, mul-le-mul-right}
+use Prim.Native.Nat.{ℕ, zero, suc, _*_, _<_}
+use native.Mathlib.Nat.{mul-div-left, mul-le-mul-right, mul-lt-mul-of-pos-right, eq-of-mul-eq-mul-right}
 use native.Mathlib.Omega.{arith}
 use lib.Dec.{eqb, leb}
 use borrow.Author.Tests.{eq-eqb, ne-eqb, le-leb, lt-leb}
@@ -45,28 +45,24 @@ module _ (page : ℕ) where
 
   -- where there is a page size
   module _ (h : 0 < page) where
-    pub page-of : (p : ℕ) → p * page / page ≡ p
-    page-of p = mul-div-left p h
-
     -- BACK TO PAGES
     pub pages-back : (l : List Loan) → inPages page (atPages page l) ≡ l
     unfolding inPages atPages
     pages-back [] = refl
-    pages-back (loan p k ∷ l) = rw (page-of p, pages-back l)
+    pages-back (loan p k ∷ l) = rw (mul-div-left p h, pages-back l)
 
     -- addresses are in the order of their pages
     address-le : (p q : ℕ) → leb (p * page) (q * page) ≡ leb p q
     address-le p q =
         by-leb p q (λ b. leb (p * page) (q * page) ≡ b)
-        (λ l. le-leb (p * page) (q * page) (omega (arith, mul-le-mul-right page l)))
-        (λ l. let m : suc q * page ≤ p * page = mul-le-mul-right page (omega arith) in
-        lt-leb (p * page) (q * page) (omega arith))
+        (λ l. le-leb (p * page) (q * page) (mul-le-mul-right page l))
+        (λ l. lt-leb (p * page) (q * page) (mul-lt-mul-of-pos-right l h))
 
-    pub address-eq : (p q : ℕ) → eqb (p * page) (q * page) ≡ eqb p q
+    address-eq : (p q : ℕ) → eqb (p * page) (q * page) ≡ eqb p q
     address-eq p q =
         by-eqb p q (λ b. eqb (p * page) (q * page) ≡ b)
         (λ e. eq-eqb (p * page) (q * page) (ap (λ (i : ℕ). i * page) e))
-        (λ n. ne-eqb (p * page) (q * page) (λ e. n (sym (page-of p) ∙ ap (λ (a : ℕ). a / page) e ∙ page-of q)))
+        (λ n. ne-eqb (p * page) (q * page) (λ e. n (eq-of-mul-eq-mul-right page h p q e)))
 
     -- A LOAN ENTERED
     pub enter-address : (p k : ℕ) (l : List Loan) → enter (p * page) k (atPages page l) ≡ atPages page (enter p k l)

@@ -52,8 +52,7 @@ pub record Lawful (K : Kind) (R : Reading) : Type 0 where
   pub reads : {a : Span} {l : List Loan} {s : List Segment} → Drawing R a l s → decode (draw s) ≡ s
   pub size : {a : Span} {l : List Loan} {s : List Segment} → Drawing R a l s → length (draw s) ≡ a .count
   -- a sound map is drawn from the loans that its held segments are
-  pub loans : (at : ℕ) (ws : List ℕ) → soundMap (K .proper) ws ≡ true
-      → Drawing R (record { first = at; count = length ws }) (loansOf at (decode ws)) (decode ws)
+  pub loans : (a : Span) (ws : List ℕ) → soundMap (K .proper) ws ≡ true → length ws ≡ a .count → Drawing R a (loansOf (a .first) (decode ws)) (decode ws)
   -- its counts
   pub held-pages : {a : Span} {l : List Loan} {s : List Segment} → Drawing R a l s → heldSizes s ≡ loanPages l
   pub free-runs : {a : Span} {l : List Loan} {s : List Segment} → Drawing R a l s → freeSizes s ≡ R .runs a l

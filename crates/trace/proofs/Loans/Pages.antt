@@ -97,7 +97,7 @@ paged-lawful =
       sound = sound;
       reads = reads;
       size = size;
-      loans = λ at ws e. let i = words.sound-loans at ws e in record { fits = i .ordered; is = i .drawing };
+      loans = λ a ws e h. let i = words.sound-loans (behind a) (a .first) ws e (omega arith) in record { fits = i .ordered; is = i .drawing };
       held-pages = held-pages;
       free-runs = free-runs;
       counted = counted;

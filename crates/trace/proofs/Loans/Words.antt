@@ -147,5 +147,5 @@ loans-of n at before (held k ∷ s) w e =
     }
 
 -- EVERY SOUND MAP IS DRAWN FROM LOANS
-pub sound-loans : (at : ℕ) (ws : List ℕ) → soundMap apart ws ≡ true → Loans (at + length ws) at (decode ws) (loansOf at (decode ws))
-sound-loans at ws e = loans-of (at + length ws) at true (decode ws) (well-decoded ws e) (omega (arith, total-decoded ws (sound-tiled apart ws e)))
+pub sound-loans : (n at : ℕ) (ws : List ℕ) → soundMap apart ws ≡ true → at + length ws ≡ n → Loans n at (decode ws) (loansOf at (decode ws))
+sound-loans n at ws e h = loans-of n at true (decode ws) (well-decoded ws e) (omega (arith, total-decoded ws (sound-tiled apart ws e)))

@@ -19,7 +19,7 @@ use Rattle.manager.specs.declared.Region.{Region}
 use Rattle.manager.specs.declared.Order.{Order}
 use Rattle.manager.specs.declared.Order.the-variants.{Fifo, Priority}
 use Rattle.trace.specs.Loans.{Loan}
-use Rattle.trace.specs.Receipts.{RegionEntry, unit, pagesIn, spanIn, byPage, pageLoans, reading}
+use Rattle.trace.specs.Receipts.{RegionEntry, unit, spanIn, byPage, pageLoans, reading}
 use Rattle.trace.proofs.Invariant.{regionFor, atAddresses, RegionIs, RegionSlot, empty, live}
 use Rattle.trace.proofs.Frame.{map-fits, map-length, inside-parts}
 use Rattle.trace.proofs.Loans.Addresses.{atPages, pages-back}
@@ -94,8 +94,7 @@ pub is-region : (m : List ℕ) (e : RegionEntry) → ¬ (e .name ≡ 0) → Regi
 is-region m e n q l h s =
     let ws = mapWords m (regionFor e) in
     let f = map-fits (e .start) (e .bytes) (unit e) (length m) (omega (arith, q .least)) (q .some-page) (inside-parts m (e .start) (e .bytes) (q .inside) .upto) in
-    let z : length ws ≡ pagesIn e = map-length m (regionFor e) f in
-    let x = law e .loans (firstPageOf (regionFor e)) ws (q .map) in
+    let x = law e .loans (spanIn e) ws (q .map) (map-length m (regionFor e) f) in
     let l′ = loansOf (firstPageOf (regionFor e)) (segments m (regionFor e)) in
     let s′ : pageLoans e ≡ l′ = ap (byPage e) s ∙ pages-back (unit e) (omega (arith, q .least)) l′ in
     record {
@@ -105,10 +104,9 @@ is-region m e n q l h s =
       page-most = h;
       some-page = q .some-page;
       placed = s ∙ ap (atAddresses e) (sym s′);
-      fits = subst (reading e .Fits (spanIn e)) (sym s′) (subst (λ (k : ℕ). reading e .Fits (record { first = spanIn e .first; count = k }) l′) z (x .fits));
+      fits = subst (reading e .Fits (spanIn e)) (sym s′) (x .fits);
       map =
           sym (redraw ws (sound-tiled (kind (regionFor e) .proper) ws (q .map))) ∙ ap draw (x .is)
-          ∙ ap (λ (k : ℕ). draw (reading e .drawn (record { first = spanIn e .first; count = k }) l′)) z
           ∙ ap (λ (j : List Loan). draw (reading e .drawn (spanIn e) j)) (sym s′);
     }
 
