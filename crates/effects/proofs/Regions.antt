@@ -15,7 +15,7 @@ use Rattle.manager.specs.Paged.{free+, allocate, paged, reachFrom, changeFrom}
 use Rattle.manager.proofs.Laws.Paged.{total-free, total-take, total-change}
 use Rattle.manager.specs.Queue.{enqueue}
 use Rattle.manager.proofs.Laws.Appended.{by-case}
-use Rattle.manager.specs.Region.{dead, pagesOf, pageAt, addressOf, segments, withSegments, heldAt, pagesAsked, placed, taken}
+use Rattle.manager.specs.Region.{dead, pagesOf, firstPageOf, pageAt, addressOf, segments, withSegments, heldAt, pagesAsked, placed, taken}
 use Rattle.manager.specs.Paged.{onPlace}
 use Rattle.manager.specs.Serve.{serve}
 use Rattle.manager.specs.Sound.{sound}
@@ -95,7 +95,7 @@ module _ (m : List ℕ) (d : Manager) where
     taken-only ok live =
         let r = regionOf d id in
         let k = pagesAsked r size in
-        drawn-only m r (allocate paged k (segments m r)) (total-take k (segments m r) ∙ mapped id ok live .pages)
+        drawn-only m r (allocate paged k (firstPageOf r) (segments m r)) (total-take k (firstPageOf r) (segments m r) ∙ mapped id ok live .pages)
 
     waits : (w : Waiter) → sound m d ≡ true → CallEffects m d (GetSegment id size Yes task priority ticks) (replied m (enqueue d w) Waiting 0)
     unfolding enqueue any
@@ -131,8 +131,9 @@ module _ (m : List ℕ) (d : Manager) where
       effects m d (ReturnSegment id address) _ _ refl refl (λ ok c.
       acts m d (ReturnSegment id address) ok _ refl refl (λ w.
       let s = mapped id ok (c .0) in
-      let t : total (changeFrom p 0 0 (segments m r)) ≡ pagesOf r = total-change p 0 0 (segments m r) (omega arith) ∙ s .pages in
-      only-then (drawn-only m r (changeFrom p 0 0 (segments m r)) t) (served-only tasks _ d id (drawn-mapped m r s (changeFrom p 0 0 (segments m r)) t))))
+      let g = changeFrom p 0 (firstPageOf r) (segments m r) in
+      let t : total g ≡ pagesOf r = total-change p 0 (firstPageOf r) (segments m r) (omega arith) ∙ s .pages in
+      only-then (drawn-only m r g t) (served-only tasks _ d id (drawn-mapped m r s g t))))
 
   -- a resize: the map with the segment changed, or 13 with the old length
   pub resize-effects : (id address size : ℕ) → CallEffects m d (ResizeSegment id address size) (resizeSegment m d id address size)
@@ -142,11 +143,12 @@ module _ (m : List ℕ) (d : Manager) where
       let p = pageAt r address in
       let k = pagesAsked r size in
       let old = heldAt m r address * r .page in
+      let most = reachFrom p (firstPageOf r) (segments m r) in
+      let g = changeFrom p k (firstPageOf r) (segments m r) in
       let c = ResizeSegment id address size in
       effects m d c _ _ refl refl (λ ok q.
-      by-case (leb k (reachFrom p 0 (segments m r)))
-      (λ b. CallEffects m d c (cond b (done (withSegments m r (changeFrom p k 0 (segments m r))) d old) (replied m d Unsatisfied old)))
+      by-case (leb k most)
+      (λ b. CallEffects m d c (cond b (done (withSegments m r g) d old) (replied m d Unsatisfied old)))
       (λ e. acts m d c ok _ refl refl (λ w.
-      drawn-only m r (changeFrom p k 0 (segments m r))
-      (total-change p k 0 (segments m r) (leb-true k (reachFrom p 0 (segments m r)) e) ∙ mapped id ok (q .1 .0) .pages)))
+      drawn-only m r g (total-change p k (firstPageOf r) (segments m r) (leb-true k most e) ∙ mapped id ok (q .1 .0) .pages)))
       (λ e. refuses m d c ok Unsatisfied old refl refl refl refl))

@@ -17,7 +17,7 @@ use Rattle.manager.specs.Paged.{allocate, paged}
 use Rattle.manager.proofs.Laws.Paged.{total-take}
 use Rattle.manager.specs.Queue.{firstOf, dequeue}
 use Rattle.manager.proofs.Laws.Appended.{by-case}
-use Rattle.manager.specs.Region.{pagesOf, mapAt, segments, withSegments, addressOf, pagesAsked, placed, taken}
+use Rattle.manager.specs.Region.{pagesOf, firstPageOf, mapAt, segments, withSegments, addressOf, pagesAsked, placed, taken}
 use Rattle.manager.specs.Paged.{onPlace}
 use Rattle.manager.specs.Serve.{Served, quiet, granted, telling, serveUpTo}
 use Rattle.manager.specs.Sound.{Laid, Sited}
@@ -114,8 +114,9 @@ served-only (suc f) m d id s =
     let i = firstOf id (d .waiters) in
     let w = getD (d .waiters) i noWaiter in
     let k = pagesAsked r (w .size) in
-    let t : total (allocate paged k (segments m r)) ≡ pagesOf r = total-take k (segments m r) ∙ s .pages in
-    let next = served-only f (taken m r k) (dequeue d i) id (drawn-mapped m r s (allocate paged k (segments m r)) t) in
+    let g = allocate paged k (firstPageOf r) (segments m r) in
+    let t : total g ≡ pagesOf r = total-take k (firstPageOf r) (segments m r) ∙ s .pages in
+    let next = served-only f (taken m r k) (dequeue d i) id (drawn-mapped m r s g t) in
     by-case (ltb i tasks) (λ b. Only (MapWord r) m (cond b (turn m d id w (placed m r k) (serveUpTo f (taken m r k) (dequeue d i) id)) (quiet m d) .memory))
-    (λ x. turn-only m d id w (placed m r k) (serveUpTo f (taken m r k) (dequeue d i) id) (only-then (drawn-only m r (allocate paged k (segments m r)) t) next))
+    (λ x. turn-only m d id w (placed m r k) (serveUpTo f (taken m r k) (dequeue d i) id) (only-then (drawn-only m r g t) next))
     (λ x. unchanged)

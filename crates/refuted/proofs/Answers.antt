@@ -12,7 +12,7 @@ use Rattle.manager.specs.Record.{noWaiter, slotOf, regionOf, partitionOf, withR
 use Rattle.manager.specs.Result.{refused, done}
 use Rattle.manager.specs.Map.{Segment, freeSizes, sumOf, total}
 use Rattle.manager.specs.Paged.{placeFrom, allocate, paged}
-use Rattle.manager.specs.Region.{baseOf, addressOf, pageAt, mapAt, segments, withSegments, heldAt, pagesAsked, placed, taken}
+use Rattle.manager.specs.Region.{firstPageOf, addressOf, pageAt, mapAt, segments, withSegments, heldAt, pagesAsked, placed, taken}
 use Rattle.manager.specs.Queue.{enqueue, dequeue}
 use Rattle.manager.specs.Paged.{onPlace}
 use Rattle.manager.specs.Partition.{setBefore, link}
@@ -50,7 +50,10 @@ not-refusesGets = differs refusesGets (create ∷ get 64 ∷ []) refl
 
 -- 3. ONE ADDRESS FOR ALL: a get answers the region's first page, with the memory as it should be
 abbrev oneAddress : Implementation
-oneAddress = but segment-get 0 λ m d c a. valued a (baseOf (regionOf d (asked c .id)))
+oneAddress =
+    but segment-get 0 λ m d c a.
+    let r = regionOf d (asked c .id) in
+    valued a (addressOf r (firstPageOf r))
 
 not-oneAddress : ¬ Demand3 oneAddress
 unfolding everything
@@ -65,7 +68,7 @@ lastFit =
     but segment-get 0 λ m d c a.
     let r = regionOf d (asked c .id) in
     let k = pagesAsked r (asked c .number) in
-    done (withSegments m r (reverse (allocate paged k (reverse (segments m r))))) d (addressOf r (lastPlace (segments m r) k))
+    done (withSegments m r (reverse (allocate paged k 0 (reverse (segments m r))))) d (addressOf r (firstPageOf r + lastPlace (segments m r) k))
 
 not-lastFit : ¬ Demand3 lastFit
 unfolding everything
@@ -76,7 +79,7 @@ abbrev comparesTotal : Implementation
 comparesTotal =
     but segment-get 13 λ m d c a.
     let r = regionOf d (asked c .id) in
-    cond (leb (pagesAsked r (asked c .number)) (sumOf (freeSizes (segments m r)))) (done m d (baseOf r)) a
+    cond (leb (pagesAsked r (asked c .number)) (sumOf (freeSizes (segments m r)))) (done m d (addressOf r (firstPageOf r))) a
 
 not-comparesTotal : ¬ Demand3 comparesTotal
 unfolding everything
@@ -123,7 +126,7 @@ abbrev unjoined : Implementation
 unjoined =
     but segment-return 0 λ m d c a.
     let r = regionOf d (asked c .id) in
-    done (sets m (mapAt r + pageAt r (asked c .number)) (2 * heldAt m r (asked c .number) ∷ [])) d 0
+    done (sets m (mapAt r + (pageAt r (asked c .number) - firstPageOf r)) (2 * heldAt m r (asked c .number) ∷ [])) d 0
 
 not-unjoined : ¬ Demand3 unjoined
 unfolding everything

@@ -12,7 +12,7 @@ use lib.Seq.{sets}
 use Rattle.manager.specs.Record.{slots, noWaiter, regionOf, partitionOf}
 use Rattle.manager.specs.Result.{Result, refused, done}
 use Rattle.manager.specs.Map.{largestOf, freeSizes}
-use Rattle.manager.specs.Region.{baseOf, mapAt, pagesOf, segments}
+use Rattle.manager.specs.Region.{firstPageOf, addressOf, mapAt, pagesOf, segments}
 use Rattle.manager.proofs.Laws.Distinct.{On, on-nil, on-cases}
 use Rattle.manager.specs.Access.{readSegment, writeSegment}
 use Rattle.manager.specs.Perform.{Implementation, perform, defined}
@@ -144,7 +144,10 @@ not-timeoutAnswered =
 
 -- 41. A DAMAGED RECORD ISN'T NOTICED: a get goes on where a map's word was overwritten
 abbrev damageUnnoticed : Implementation
-damageUnnoticed = but segment-get 25 λ m d c a. done m d (baseOf (regionOf d (asked c .id)))
+damageUnnoticed =
+    but segment-get 25 λ m d c a.
+    let r = regionOf d (asked c .id) in
+    done m d (addressOf r (firstPageOf r))
 
 not-damageUnnoticed : ¬ Demand1 damageUnnoticed
 unfolding everything

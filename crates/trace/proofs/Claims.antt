@@ -22,7 +22,7 @@ use Rattle.manager.specs.declared.Partition.{Partition}
 use Rattle.manager.specs.declared.Status.the-variants.{InternalError}
 use Rattle.manager.specs.Lists.{In}
 use Rattle.trace.specs.Loans.{Lent, loanPages, sum}
-use Rattle.trace.specs.Receipts.{RegionEntry, PartitionEntry, Wait, Reply, replyOf, unit, firstIn, pageIn, pageLoans, buffersIn, buffersFrom}
+use Rattle.trace.specs.Receipts.{RegionEntry, PartitionEntry, Wait, Reply, replyOf, unit, pageIn, pageLoans, buffersIn, buffersFrom}
 use Rattle.trace.specs.Queue.{queueOf, inLine, dueIn}
 use Rattle.trace.specs.Replies.{byReceipts, readByReceipts}
 use Rattle.trace.specs.Trace.{State, answer}
@@ -112,7 +112,7 @@ module _ (i : Implementation) (s : State) (v : Inv (s .memory) (s .manager) (s .
           ordered = loans .fits;
           map = at .is .map;
           counted =
-              ap (λ (l : List ℕ). sum l + freePages (segments (s .memory) (regionFor e))) (ap loanPages (loans .placed) ∙ address-pages (firstIn e) (unit e) (pageLoans e))
+              ap (λ (l : List ℕ). sum l + freePages (segments (s .memory) (regionFor e))) (ap loanPages (loans .placed) ∙ address-pages (unit e) (pageLoans e))
               ∙ law e .counted (drawing (s .memory) e (at .is));
           unsatisfied = λ size task priority ticks z h. rw (status-by (GetSegment id size No task priority ticks))
               (unsatisfied-by n t id e q loans size task priority ticks z h);

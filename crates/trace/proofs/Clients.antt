@@ -6,12 +6,13 @@ use mathlib.Core.List.{List}
 use mathlib.Core.Logic.{⊎-elim}
 use mathlib.Core.Option.{Option, some}
 use Prim.Native.Nat.{ℕ, _+_, _*_, _/_, _%_, _≤_, _<_}
+use native.Mathlib.Nat.{add-mul}
 use native.Mathlib.Omega.{arith}
 use lib.ListN.{getD}
 use Rattle.arith.specs.Layout.{mapStart}
-use Rattle.arith.specs.Round.{pagesFor}
+use Rattle.arith.proofs.Laws.Layout.{map-ge}
 use Rattle.manager.specs.Record.{regionOf, partitionOf}
-use Rattle.manager.specs.Region.{baseOf, mapAt, areaOf}
+use Rattle.manager.specs.Region.{mapAt, areaOf}
 use Rattle.manager.specs.declared.Area.{Area}
 use Rattle.manager.specs.declared.Manager.{Manager}
 use Rattle.manager.specs.declared.Region.{Region}
@@ -21,7 +22,7 @@ use Rattle.trace.specs.Loans.{Lent}
 use Rattle.trace.specs.Receipts.{Receipts, RegionEntry, PartitionEntry, unit, pagesIn, addressIn, pageIn, pageLoans}
 use Rattle.trace.specs.Trace.{Object, region, partition, Loaned, segment, buffer, Owned, ClientsWrite}
 use Rattle.trace.proofs.Invariant.{Inside, regionFor, RegionIs, RegionSlot, PartitionIs, PartitionSlot, Inv, empty, live, OnlyMap}
-use Rattle.trace.proofs.Frame.{unit-whole, whole-times, page-upto, first-from, region-unit, region-inside, region-before, region-same, partition-shaped, buffer-lies, buffers-apart, chained-buffer, link-next, link-before, buffer-inside, partition-same}
+use Rattle.trace.proofs.Frame.{map-at, unit-whole, whole-times, pages-from, pages-upto, region-inside, region-same, partition-shaped, buffer-lies, buffers-apart, chained-buffer, link-next, link-before, buffer-inside, partition-same}
 use Rattle.trace.proofs.Segments.{law, regular, loan-holds}
 use Rattle.trace.proofs.Areas.{areaFor, areaIn, sound-clear, same-object}
 use Rattle.trace.proofs.Disjoint.{clear-words}
@@ -76,10 +77,10 @@ pub record LoanIn (a : Area) (address bytes : ℕ) : Type 0 where
   pub whole : address % 4 ≡ 0
   pub whole-bytes : bytes % 4 ≡ 0
 
--- where a loan of a region lies: at or behind its first page
+-- where a loan of a region lies: in its pages, and so behind its map
 module _ (m : List ℕ) (e : RegionEntry) (is : RegionIs m e) (a n : ℕ) (l : SegmentLoan e a n) where
-  pub segment-behind : baseOf (regionFor e) ≤ a
-  segment-behind = omega (arith, l .at)
+  pub segment-behind : mapStart (e .start) + 4 * pagesIn e ≤ a
+  segment-behind = omega (arith, l .at, pages-from m e is (l .p) (law e .lent-from (is .fits) (l .p) (l .k) (l .lent)))
 
   pub segment-some : 0 < l .k
   segment-some = law e .lent-some (is .fits) (l .p) (l .k) (l .lent)
@@ -87,11 +88,11 @@ module _ (m : List ℕ) (e : RegionEntry) (is : RegionIs m e) (a n : ℕ) (l : S
   pub segment-in : LoanIn (areaFor (regionFor e)) a n
   segment-in =
       let w : unit e % 4 ≡ 0 = omega (arith, unit-whole e) in
-      let u = page-upto (e .start) (e .bytes) (unit e) (region-unit m e is) (is .some-page) (l .p + l .k) (law e .lent-within (is .fits) (l .p) (l .k) (l .lent)) in
+      let u = pages-upto m e is (l .p + l .k) (law e .lent-within (is .fits) (l .p) (l .k) (l .lent)) in
       record {
-        from = omega (arith, l .at, first-from (e .start) (e .bytes) (unit e) (region-unit m e is));
-        upto = omega (arith, l .at, l .bytes, u);
-        whole = omega (arith, l .at, whole-times (pagesFor (mapStart (e .start) + 4 * pagesIn e) (unit e)) (unit e) w, whole-times (l .p) (unit e) w);
+        from = omega (arith, segment-behind, map-ge (e .start));
+        upto = omega (arith, l .at, l .bytes, u, add-mul (l .p) (l .k) (unit e));
+        whole = omega (arith, l .at, whole-times (l .p) (unit e) w);
         whole-bytes = omega (arith, l .bytes, whole-times (l .k) (unit e) w);
       }
 
@@ -136,7 +137,7 @@ module _ (m : List ℕ) (d : Manager) (t : Receipts) (v : Inv m d t) where
   map-not-owned id e f w lo hi h =
       let r = region-at m (regionOf d id) (t .regions id) e (v .picture .regions id) f in
       let l = segment-loan m t id (h .1) (h .2) e (r .is) f (owned-of (region id) w (rw (r .region) (region-inside m e (r .is) w lo hi)) h) in
-      omega (arith, segment-behind m e (r .is) (h .1) (h .2) l, region-before m e (r .is) w hi, h .4)
+      omega (arith, segment-behind m e (r .is) (h .1) (h .2) l, map-at (e .start), h .4)
 
   -- NOR IS A WORD OF A BUFFER THAT IS NOT LENT
   pub buffer-not-owned : (id : ℕ) (e : PartitionEntry) → t .partitions id ≡ some e → (a w : ℕ) → In a (e .unlent) → Inside a (partitionOf d id .size) w → ¬ Owned t w

@@ -5,17 +5,17 @@ use mathlib.Core.Bool.{true, not}
 use mathlib.Core.List.{List, [], _∷_, _++_, append-assoc}
 use mathlib.Core.Logic.{_⊎_, inl, inr, ⊎-elim}
 use Prim.Native.Nat.{ℕ, suc, _+_, _*_, _/_, _%_, _≤_, _<_}
-use native.Mathlib.Nat.{mul-le-mul-right}
+use native.Mathlib.Nat.{mul-le-mul-right, add-mul}
 use native.Mathlib.Omega.{arith}
 use lib.ListN.{length, getD, take, drop, set, length-take, length-drop, length-set}
 use lib.Seq.{sets, sets-eq, getD-set-other, getD-take, getD-drop, ext-getD, take-at, drop-at, length-take-le}
 use lib.Dec.{eqb, leb}
 use borrow.Author.Tests.{eqb-false, leb-true, ne-eqb, le-leb, not-true}
 use Rattle.arith.proofs.Laws.Round.{round-multiple}
-use Rattle.arith.specs.Layout.{mapStart, firstPage, pageCount}
+use Rattle.arith.specs.Layout.{mapStart, pageCount}
 use Rattle.arith.proofs.Laws.Layout.{map-ge, count-map, count-end}
 use Rattle.manager.proofs.Laws.Lists.{and-first, and-second}
-use Rattle.manager.specs.Region.{pagesOf, baseOf, mapAt, mapWords}
+use Rattle.manager.specs.Region.{pagesOf, mapAt, mapWords}
 use Rattle.manager.specs.Partition.{isBuffer, chain}
 use Rattle.manager.proofs.Laws.Distinct.{On, same-or-not, on-in}
 use Rattle.manager.proofs.Laws.Partition.Buffers.{Shaped, Laid, Buffer, buffer-of, Placed, placed, apart}
@@ -26,7 +26,8 @@ use Rattle.manager.specs.Sound.{inside}
 use Rattle.manager.specs.declared.Region.{Region}
 use Rattle.manager.specs.declared.Partition.{Partition}
 use Rattle.manager.specs.Lists.{In}
-use Rattle.trace.specs.Receipts.{RegionEntry, PartitionEntry, unit, pagesIn}
+use Rattle.trace.specs.Loans.{behind}
+use Rattle.trace.specs.Receipts.{RegionEntry, PartitionEntry, unit, pagesIn, spanIn, addressIn}
 use Rattle.trace.proofs.Invariant.{Inside, Only, regionFor, RegionIs, PartitionIs, OnlyMap}
 
 -- ---- words inside an area, and changes of nothing else
@@ -79,7 +80,7 @@ part-stored m b ws n e h =
 pub map-at : (start : ℕ) → 4 * (mapStart start / 4) ≡ mapStart start
 map-at start = omega arith
 
--- a word of the map lies inside the area, and before the first page
+-- a word of the map lies inside the area
 module _ (start bytes page : ℕ) (hp : 0 < page) (some : 1 ≤ pageCount start bytes page) (w : ℕ) where
   pub map-inside : mapStart start / 4 ≤ w → w < mapStart start / 4 + pageCount start bytes page → Inside start bytes w
   map-inside l h =
@@ -88,20 +89,9 @@ module _ (start bytes page : ℕ) (hp : 0 < page) (some : 1 ≤ pageCount start 
         high = omega (arith, map-at start, count-map start bytes page hp, count-end start bytes page hp some);
       }
 
-  pub map-before : w < mapStart start / 4 + pageCount start bytes page → 4 * w + 4 ≤ firstPage start page (pageCount start bytes page)
-  map-before h = omega (arith, map-at start, count-map start bytes page hp)
-
 -- the map lies in a memory in which the area does
 pub map-fits : (start bytes page n : ℕ) → 0 < page → 1 ≤ pageCount start bytes page → start + bytes ≤ 4 * n → mapStart start / 4 + pageCount start bytes page ≤ n
 map-fits start bytes page n hp some h = omega (arith, map-at start, count-map start bytes page hp, count-end start bytes page hp some)
-
--- the pages lie inside the area
-pub page-upto : (start bytes page : ℕ) → 0 < page → 1 ≤ pageCount start bytes page → (p : ℕ) → p ≤ pageCount start bytes page
-    → firstPage start page (pageCount start bytes page) + p * page ≤ start + bytes
-page-upto start bytes page hp some p h = omega (arith, count-end start bytes page hp some, mul-le-mul-right page h)
-
-pub first-from : (start bytes page : ℕ) → 0 < page → start ≤ firstPage start page (pageCount start bytes page)
-first-from start bytes page hp = omega (arith, map-ge start, count-map start bytes page hp)
 
 -- the page size of an entry: whole, and in bounds
 pub unit-least : (e : RegionEntry) → 1 ≤ e .page → 8 ≤ unit e
@@ -157,8 +147,13 @@ module _ (m : List ℕ) (e : RegionEntry) (is : RegionIs m e) where
   pub region-inside : (w : ℕ) → mapAt (regionFor e) ≤ w → w < mapAt (regionFor e) + pagesIn e → Inside (e .start) (e .bytes) w
   region-inside w l h = map-inside (e .start) (e .bytes) (unit e) region-unit (is .some-page) w l h
 
-  pub region-before : (w : ℕ) → w < mapAt (regionFor e) + pagesIn e → 4 * w + 4 ≤ baseOf (regionFor e)
-  region-before w h = map-before (e .start) (e .bytes) (unit e) region-unit (is .some-page) w h
+  -- its pages lie in its area, behind the words of its map
+  pub pages-from : (p : ℕ) → spanIn e .first ≤ p → mapStart (e .start) + 4 * pagesIn e ≤ addressIn e p
+  pages-from p h = omega (arith, count-map (e .start) (e .bytes) (unit e) region-unit, mul-le-mul-right (unit e) h)
+
+  pub pages-upto : (p : ℕ) → p ≤ behind (spanIn e) → addressIn e p ≤ e .start + e .bytes
+  pages-upto p h =
+      omega (arith, count-end (e .start) (e .bytes) (unit e) region-unit (is .some-page), mul-le-mul-right (unit e) h, add-mul (spanIn e .first) (pagesIn e) (unit e))
 
   -- a change of its map is one of its area
   pub map-area : (m₁ m′ : List ℕ) → OnlyMap e m₁ m′ → Only (e .start) (e .bytes) m₁ m′

@@ -18,7 +18,7 @@ use Rattle.manager.specs.declared.Region.{Region}
 use Rattle.manager.specs.declared.Partition.{Partition}
 use Rattle.manager.specs.Lists.{In, Distinct}
 use Rattle.trace.specs.Loans.{Loan}
-use Rattle.trace.specs.Receipts.{Receipts, RegionEntry, PartitionEntry, Wait, unit, pagesIn, firstIn, pageLoans, reading, Servable}
+use Rattle.trace.specs.Receipts.{Receipts, RegionEntry, PartitionEntry, Wait, unit, pagesIn, spanIn, pageLoans, reading, Servable}
 use Rattle.trace.specs.Queue.{inLine}
 use Rattle.trace.specs.Claims.{waitersOf}
 use Rattle.trace.proofs.Loans.Addresses.{atPages}
@@ -39,7 +39,7 @@ regionFor e = record { name = e .name; start = e .start; length = e .bytes; page
 
 -- loans by their pages, at the addresses of an entry's pages
 abbrev pub atAddresses : RegionEntry → List Loan → List Loan
-atAddresses e l = atPages (firstIn e) (unit e) l
+atAddresses e l = atPages (unit e) l
 
 -- only map words of an entry's region differ
 abbrev pub OnlyMap : RegionEntry → List ℕ → List ℕ → Type 0
@@ -53,8 +53,8 @@ pub record RegionIs (m : List ℕ) (e : RegionEntry) : Type 0 where
   pub page-most : e .page ≤ 4096
   pub some-page : 1 ≤ pagesIn e
   pub placed : e .loans ≡ atAddresses e (pageLoans e)
-  pub fits : reading e .Fits (pagesIn e) (pageLoans e)
-  pub map : mapWords m (regionFor e) ≡ draw (reading e .drawn (pagesIn e) (pageLoans e))
+  pub fits : reading e .Fits (spanIn e) (pageLoans e)
+  pub map : mapWords m (regionFor e) ≡ draw (reading e .drawn (spanIn e) (pageLoans e))
 
 pub data RegionSlot (m : List ℕ) : Region → Option RegionEntry → Type 0 where
   empty : RegionSlot m noRegion none

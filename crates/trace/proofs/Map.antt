@@ -4,25 +4,24 @@
 use mathlib.Core.Path.{_≡_, refl, sym, ap, _∙_}
 use mathlib.Core.Bool.{Bool, true, false}
 use mathlib.Core.List.{List, [], _∷_}
-use Prim.Native.Nat.{ℕ, zero, suc, _+_, _-_, _*_, _%_, _≤_, _<_}
+use Prim.Native.Nat.{ℕ, zero, suc, _+_, _*_, _%_, _≤_, _<_}
 use native.Mathlib.Nat.{div-add-mod', mul-mod-left}
 use native.Mathlib.Omega.{arith}
 use lib.ListN.{length}
 use lib.Seq.{length-sets}
-use lib.Dec.{eqb, leb}
-use borrow.Author.Tests.{eqb-true, eqb-false, leb-true, eq-eqb, le-leb}
+use lib.Dec.{eqb}
+use borrow.Author.Tests.{eqb-true, eqb-false, eq-eqb}
 use Rattle.arith.specs.Round.{pagesFor}
 use Rattle.arith.proofs.Laws.Round.{pages-some}
-use Rattle.manager.proofs.Laws.Lists.{and-first, and-second}
 use Rattle.manager.specs.Map.{Segment, draw}
 use Rattle.manager.specs.Paged.{free+}
-use Rattle.manager.specs.Region.{baseOf, startsPage, mapAt, mapWords, segments, withSegments, kind, opened}
+use Rattle.manager.specs.Region.{firstPageOf, startsPage, mapAt, mapWords, segments, withSegments, kind}
 use Rattle.manager.specs.Region as region
 use Rattle.manager.specs.declared.Region.{Region}
 use Rattle.manager.specs.declared.Place.{Place}
 use Rattle.manager.specs.declared.Place.the-variants.{At, Nowhere}
 use Rattle.trace.specs.Loans.{Loan, loan, Lent, enter, amend, inPages, loanPages}
-use Rattle.trace.specs.Receipts.{RegionEntry, unit, reading, pagesOver, pagesIn, firstIn, addressIn, pageIn, byPage, pageLoans, withLoans}
+use Rattle.trace.specs.Receipts.{RegionEntry, unit, reading, pagesOver, pagesIn, spanIn, addressIn, pageIn, byPage, pageLoans, withLoans}
 use Rattle.trace.specs.Replies.{lendsAny, pagesAt, placeIn, mostIn}
 use Rattle.trace.specs.Claims.{Full, Takes}
 use Rattle.trace.proofs.Invariant.{OnlyMap, regionFor, atAddresses, RegionIs}
@@ -56,7 +55,7 @@ pub record Shows (m : List ℕ) (e : RegionEntry) : Type 0 where
       → Steps m e (region.changed m (regionFor e) a (pagesOver e size)) (amend a (pagesOver e size) (e .loans))
   -- counts
   pub any : region.anyHeld m (regionFor e) ≡ lendsAny (e .loans)
-  pub frees : region.frees m (regionFor e) ≡ reading e .runs (pagesIn e) (pageLoans e)
+  pub frees : region.frees m (regionFor e) ≡ reading e .runs (spanIn e) (pageLoans e)
   pub helds : region.helds m (regionFor e) ≡ loanPages (e .loans)
 
 module _ (m : List ℕ) (e : RegionEntry) (is : RegionIs m e) where
@@ -66,11 +65,11 @@ module _ (m : List ℕ) (e : RegionEntry) (is : RegionIs m e) where
   abbrev loans : Regular e
   loans = regular m e is
 
-  pub drawing : Drawing (reading e) (pagesIn e) (pageLoans e) (segments m r)
-  drawing = lawful.drawing _ _ (law e) (pagesIn e) (pageLoans e) (mapWords m r) (is .fits) (is .map)
+  pub drawing : Drawing (reading e) (spanIn e) (pageLoans e) (segments m r)
+  drawing = lawful.drawing _ _ (law e) (spanIn e) (pageLoans e) (mapWords m r) (is .fits) (is .map)
 
   -- another map, drawn from other loans
-  step : (k l : List Loan) (s : List Segment) → k ≡ atAddresses e l → Drawing (reading e) (pagesIn e) l s → Steps m e (withSegments m r s) k
+  step : (k l : List Loan) (s : List Segment) → k ≡ atAddresses e l → Drawing (reading e) (spanIn e) l s → Steps m e (withSegments m r s) k
   step k l s at d =
       let g = regular-with e loans k l at (d .fits) in
       record {
@@ -83,7 +82,7 @@ module _ (m : List ℕ) (e : RegionEntry) (is : RegionIs m e) where
           placed = g .placed;
           fits = g .fits;
           map = map-stored m r (draw s) (law e .size d) (region-fits m e is)
-              ∙ ap draw (d .is) ∙ ap (λ (j : List Loan). draw (reading e .drawn (pagesIn e) j)) (sym (back-to-pages e loans k l at));
+              ∙ ap draw (d .is) ∙ ap (λ (j : List Loan). draw (reading e .drawn (spanIn e) j)) (sym (back-to-pages e loans k l at));
         };
         only = map-words-only m r (draw s) (law e .size d);
       }
@@ -91,15 +90,10 @@ module _ (m : List ℕ) (e : RegionEntry) (is : RegionIs m e) where
   -- ---- the segment at an address
 
   starts-page : (p : ℕ) → startsPage r (addressIn e p) ≡ true
-  starts-page p =
-      let f : baseOf r + p * unit e - baseOf r ≡ p * unit e = omega arith in
-      rw (le-leb (baseOf r) (addressIn e p) (omega arith), f, eq-eqb (p * unit e % unit e) 0 (mul-mod-left p (unit e)))
+  starts-page p = eq-eqb (p * unit e % unit e) 0 (mul-mod-left p (unit e))
 
   page-start : (a : ℕ) → startsPage r a ≡ true → a ≡ addressIn e (pageIn e a)
-  page-start a h =
-      let l = leb-true (baseOf r) a (and-first (leb (baseOf r) a) (eqb ((a - baseOf r) % unit e) 0) h) in
-      let z = eqb-true ((a - baseOf r) % unit e) 0 (and-second (leb (baseOf r) a) (eqb ((a - baseOf r) % unit e) 0) h) in
-      omega (arith, div-add-mod' (a - baseOf r) (unit e))
+  page-start a h = omega (arith, eqb-true (a % unit e) 0 h, div-add-mod' a (unit e))
 
   -- a loan is a held segment at its address, and a held segment is a loan
   loan-held : (a k : ℕ) → Lent (e .loans) a k → region.heldAt m r a ≡ k
@@ -114,7 +108,7 @@ module _ (m : List ℕ) (e : RegionEntry) (is : RegionIs m e) where
       go : (b : Bool) → startsPage r a ≡ b → Lent (e .loans) a (region.heldAt m r a)
       go false f = absurd (omega (arith, let z : region.heldAt m r a ≡ 0 = rw f in z))
       go true f =
-          let g : region.heldAt m r a ≡ kind r .held (pageIn e a) (segments m r) = rw f in
+          let g : region.heldAt m r a ≡ kind r .held (pageIn e a) (firstPageOf r) (segments m r) = rw f in
           holds-loan e loans a (region.heldAt m r a) (record { at = page-start a f; lent = rw g (law e .lent drawing (pageIn e a) (rw g at h)) })
 
   held-at : (a : ℕ) → region.heldAt m r a ≡ pagesAt a (e .loans)
@@ -130,7 +124,7 @@ module _ (m : List ℕ) (e : RegionEntry) (is : RegionIs m e) where
   unfolding inPages
   any-held = go (e .loans) drawing
     where
-      go : (l : List Loan) → Drawing (reading e) (pagesIn e) (byPage e l) (segments m r) → region.anyHeld m r ≡ lendsAny l
+      go : (l : List Loan) → Drawing (reading e) (spanIn e) (byPage e l) (segments m r) → region.anyHeld m r ≡ lendsAny l
       go [] d = law e .any-none d
       go (loan a k ∷ l) d = law e .any-some d
 
@@ -139,7 +133,7 @@ module _ (m : List ℕ) (e : RegionEntry) (is : RegionIs m e) where
   gets : (size : ℕ) → 0 < size → Gives m e size (region.placed m r (pagesOver e size)) (region.taken m r (pagesOver e size))
   gets size z = go (law e .got drawing (pagesFor size (unit e)) (pages-some size (unit e) (loans .some-unit) z))
     where
-      go : {q : Place} {s : List Segment} → Gets (reading e) (pagesIn e) (pageLoans e) (pagesOver e size) q s → Gives m e size q (withSegments m r s)
+      go : {q : Place} {s : List Segment} → Gets (reading e) (spanIn e) (pageLoans e) (pagesOver e size) q s → Gives m e size q (withSegments m r s)
       go (given p d c) = gave p c (step _ _ _ (entered-at e loans p (pagesOver e size)) d)
       go (nothing d h) = none h
 
@@ -158,7 +152,7 @@ module _ (m : List ℕ) (e : RegionEntry) (is : RegionIs m e) where
             step _ _ _ (amended-at e loans a (pagesOver e size) (h .at)) (law e .changed drawing (pageIn e a) k (pagesFor size (unit e)) (h .lent) l);
         any = any-held;
         frees = law e .free-runs drawing;
-        helds = law e .held-pages drawing ∙ sym (ap loanPages (is .placed) ∙ address-pages (firstIn e) (unit e) (pageLoans e));
+        helds = law e .held-pages drawing ∙ sym (ap loanPages (is .placed) ∙ address-pages (unit e) (pageLoans e));
       }
 
   -- the check for 9, by the loans; an address that it lets pass is that of a loan
@@ -175,7 +169,7 @@ unfolding inPages atPages
 opens m e fresh named started upto page-some page-most some-page =
     let r = regionFor e in
     let ws = draw (free+ (pagesIn e) []) in
-    let d = law e .new (pagesIn e) in
+    let d = law e .new (spanIn e) in
     let some-unit : 0 < unit e = omega (arith, unit-least e page-some) in
     record {
       is = record {

@@ -4,6 +4,7 @@ use mathlib.Core.Bool.{cond}
 use mathlib.Core.List.{List, [], _∷_}
 use mathlib.Core.Logic.{inl, inr, _↔_}
 use Prim.Native.Nat.{ℕ, _≤_, _<_}
+use native.Mathlib.Nat.{mul-div-left}
 use Rattle.arith.specs.Round.{pagesFor}
 use Rattle.arith.proofs.Laws.Round.{pages-some}
 use Rattle.manager.specs.Paged.{kindOf}
@@ -11,13 +12,13 @@ use Rattle.manager.specs.declared.Place.{Place}
 use Rattle.manager.specs.declared.Place.the-variants.{At, Nowhere}
 use Rattle.trace.specs.Loans.{Loan, loan, Lent, enter, amend, inPages}
 use Rattle.trace.specs.Reading.{NoPlace}
-use Rattle.trace.specs.Receipts.{RegionEntry, unit, reading, pagesOver, Servable, pagesIn, firstIn, addressIn, pageIn, byPage, pageLoans, withLoans}
+use Rattle.trace.specs.Receipts.{RegionEntry, unit, reading, pagesOver, Servable, spanIn, addressIn, pageIn, byPage, pageLoans, withLoans}
 use Rattle.trace.specs.Replies.{pagesAt, placeIn, mostIn}
 use Rattle.trace.specs.Claims.{Full, Takes}
 use Rattle.trace.proofs.Invariant.{atAddresses, RegionIs}
 use Rattle.trace.proofs.Frame.{region-unit}
 use Rattle.trace.proofs.Loans.Tests.{by-eqb}
-use Rattle.trace.proofs.Loans.Addresses.{page-of, pages-back, lent-address, address-lent, enter-address, amend-address}
+use Rattle.trace.proofs.Loans.Addresses.{pages-back, lent-address, address-lent, enter-address, amend-address}
 use Rattle.trace.proofs.Loans.Lawful as lawful
 use Rattle.trace.proofs.Loans.Lawful.{Lawful, Found, found, nowhere, drawn-is, place-found}
 use Rattle.trace.proofs.Loans.Pages.{lawful-of}
@@ -53,7 +54,7 @@ found-lent a l n = go (pagesAt a l) (finds a l) n
 pub record Regular (e : RegionEntry) : Type 0 where
   pub some-unit : 0 < unit e
   pub placed : e .loans ≡ atAddresses e (pageLoans e)
-  pub fits : reading e .Fits (pagesIn e) (pageLoans e)
+  pub fits : reading e .Fits (spanIn e) (pageLoans e)
 
 pub regular : (m : List ℕ) (e : RegionEntry) → RegionIs m e → Regular e
 regular m e is = record { some-unit = region-unit m e is; placed = is .placed; fits = is .fits }
@@ -69,41 +70,37 @@ pub data Places (e : RegionEntry) (size : ℕ) : Place → Type 0 where
   full : Full e (e .loans) size → Places e size Nowhere
 
 module _ (e : RegionEntry) (g : Regular e) where
-  -- a page's address, and back
-  pub page-address : (p : ℕ) → pageIn e (addressIn e p) ≡ p
-  page-address p = page-of (firstIn e) (unit e) (g .some-unit) p
-
   -- A LOAN AT AN ADDRESS IS ONE AT ITS PAGE
   pub loan-holds : (a k : ℕ) → Lent (e .loans) a k → Holds e a k
   loan-holds a k l =
-      let x = address-lent (firstIn e) (unit e) (pageLoans e) a k (rw (g .placed) at l) in
-      let p : x .0 ≡ pageIn e a = sym (page-address (x .0)) ∙ ap (pageIn e) (sym (x .1)) in
+      let x = address-lent (unit e) (pageLoans e) a k (rw (g .placed) at l) in
+      let p : x .0 ≡ pageIn e a = sym (mul-div-left (x .0) (g .some-unit)) ∙ ap (pageIn e) (sym (x .1)) in
       record { at = x .1 ∙ ap (addressIn e) p; lent = subst (λ (q : ℕ). Lent (pageLoans e) q k) p (x .2) }
 
   pub holds-loan : (a k : ℕ) → Holds e a k → Lent (e .loans) a k
   holds-loan a k h =
-      rw (g .placed) (subst (λ (b : ℕ). Lent (atAddresses e (pageLoans e)) b k) (sym (h .at)) (lent-address (firstIn e) (unit e) (pageLoans e) (pageIn e a) k (h .lent)))
+      rw (g .placed) (subst (λ (b : ℕ). Lent (atAddresses e (pageLoans e)) b k) (sym (h .at)) (lent-address (unit e) (pageLoans e) (pageIn e a) k (h .lent)))
 
   -- a loan entered or amended at the address of a page
   pub entered-at : (p k : ℕ) → enter (addressIn e p) k (e .loans) ≡ atAddresses e (enter p k (pageLoans e))
-  entered-at p k = ap (enter (addressIn e p) k) (g .placed) ∙ enter-address (firstIn e) (unit e) (g .some-unit) p k (pageLoans e)
+  entered-at p k = ap (enter (addressIn e p) k) (g .placed) ∙ enter-address (unit e) (g .some-unit) p k (pageLoans e)
 
   pub amended-at : (a k : ℕ) → a ≡ addressIn e (pageIn e a) → amend a k (e .loans) ≡ atAddresses e (amend (pageIn e a) k (pageLoans e))
   amended-at a k h =
       ap (λ (b : ℕ). amend b k (e .loans)) h ∙ ap (amend (addressIn e (pageIn e a)) k) (g .placed)
-      ∙ amend-address (firstIn e) (unit e) (g .some-unit) (pageIn e a) k (pageLoans e)
+      ∙ amend-address (unit e) (g .some-unit) (pageIn e a) k (pageLoans e)
 
   -- other loans, at addresses of pages
   module _ (k l : List Loan) (at : k ≡ atAddresses e l) where
     pub back-to-pages : byPage e k ≡ l
-    back-to-pages = ap (byPage e) at ∙ pages-back (firstIn e) (unit e) (g .some-unit) l
+    back-to-pages = ap (byPage e) at ∙ pages-back (unit e) (g .some-unit) l
 
-    pub regular-with : reading e .Fits (pagesIn e) l → Regular (withLoans k e)
+    pub regular-with : reading e .Fits (spanIn e) l → Regular (withLoans k e)
     regular-with o =
         record {
           some-unit = g .some-unit;
           placed = at ∙ ap (atAddresses e) (sym back-to-pages);
-          fits = subst (reading e .Fits (pagesIn e)) (sym back-to-pages) o;
+          fits = subst (reading e .Fits (spanIn e)) (sym back-to-pages) o;
         }
 
   -- WHAT THE LAWS OF ITS KIND SAY. A loan has a page, and there is one at an address at most
@@ -125,7 +122,7 @@ module _ (e : RegionEntry) (g : Regular e) where
   pub places : (size : ℕ) → 0 < size → Places e size (placeIn e (e .loans) size)
   places size z = go (place-found _ _ (law e) (g .fits) (pagesFor size (unit e)) (pages-some size (unit e) (g .some-unit) z))
     where
-      go : {q : Place} → Found (reading e) (pagesIn e) (pageLoans e) (pagesOver e size) q → Places e size q
+      go : {q : Place} → Found (reading e) (spanIn e) (pageLoans e) (pagesOver e size) q → Places e size q
       go (found p c o) = takes p c (regular-with _ _ (entered-at p (pagesOver e size)) o)
       go (nowhere h) = full h
 
@@ -133,12 +130,12 @@ module _ (e : RegionEntry) (g : Regular e) where
   pub full-lends : (size : ℕ) → 0 < size → Servable e size → Full e (e .loans) size → ¬ (e .loans ≡ [])
   unfolding inPages
   full-lends size z h f n =
-      let s = law e .new-serves (pagesIn e) (pagesFor size (unit e)) (pages-some size (unit e) (g .some-unit) z) h in
-      subst (λ (l : List Loan). NoPlace (reading e) (pagesIn e) (byPage e l) (pagesOver e size)) n f (s .0) (s .1)
+      let s = law e .new-serves (spanIn e) (pagesFor size (unit e)) (pages-some size (unit e) (g .some-unit) z) h in
+      subst (λ (l : List Loan). NoPlace (reading e) (spanIn e) (byPage e l) (pagesOver e size)) n f (s .0) (s .1)
 
   -- what a loan can have
   pub room-lent : (a k size : ℕ) → Lent (e .loans) a k
-      → (pagesOver e size ≤ mostIn e a) ↔ reading e .Room (pagesIn e) (pageLoans e) (pageIn e a) k (pagesOver e size)
+      → (pagesOver e size ≤ mostIn e a) ↔ reading e .Room (spanIn e) (pageLoans e) (pageIn e a) k (pagesOver e size)
   room-lent a k size x = law e .room (g .fits) (pageIn e a) k (pagesFor size (unit e)) (loan-holds a k x .lent)
 
   -- a return

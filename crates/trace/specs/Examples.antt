@@ -7,12 +7,10 @@ use Prim.Native.Nat.{ℕ, _+_}
 use lib.Dec.{eqb}
 use Rattle.manager.specs.Status.{numberOf}
 use Rattle.manager.specs.Record.{mostWords}
-use Rattle.manager.specs.Lists as lists
 use Rattle.manager.specs.Map.{draw}
 use Rattle.manager.specs.Examples.{Step, step, Row, layout, calls, words, same, told}
 use Rattle.manager.specs.declared.Order.the-variants.{Fifo}
 use Rattle.trace.specs.Loans.{behind}
-use Rattle.trace.specs.Pages.{drawn}
 use Rattle.trace.specs.Receipts.{Receipts, RegionEntry, Reply, blank, pagesIn, spanIn, addressIn, pageLoans, note, reading}
 use Rattle.trace.specs.Replies.{byReceipts}
 

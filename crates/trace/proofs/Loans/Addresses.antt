@@ -1,12 +1,12 @@
 -- Loans at addresses and loans by their pages: where each loan is at the address of a page, the two lists say the same. Entering and
 -- amending a loan at the address of page p is entering and amending it at page p, since addresses of pages are in the order of the pages.
 -- Assumes nothing.
-use mathlib.Core.Path.{_≡_, refl, sym, ap, _∙_}
+use mathlib.Core.Path.{_≡_, refl, sym, ap}
 use mathlib.Core.Bool.{cond}
 use mathlib.Core.List.{List, [], _∷_}
 use mathlib.Core.Logic.{inl, inr}
-use Prim.Native.Nat.{ℕ, zero, suc, _+_, _-_, _*_, _/_, _≤_, _<_}
-use native.Mathlib.Nat.{mul-div-left, mul-le-mul-right}
+use Prim.Native.Nat.{ℕ, zero, suc, _*_, _<_}
+use native.Mathlib.Nat.{mul-div-left, mul-le-mul-right, mul-lt-mul-of-pos-right, eq-of-mul-eq-mul-right}
 use native.Mathlib.Omega.{arith}
 use lib.Dec.{eqb, leb}
 use borrow.Author.Tests.{eq-eqb, ne-eqb, le-leb, lt-leb}
@@ -14,81 +14,77 @@ use Rattle.trace.specs.Loans.{Loan, loan, loan+, enter, amend, Lent, inP
 use Rattle.trace.proofs.Loans.Tests.{by-leb, by-eqb}
 
 -- loans by their pages, each at its page's address
-unfoldable pub atPages : ℕ → ℕ → List Loan → List Loan
-atPages first page [] = []
-atPages first page (loan p k ∷ l) = loan (first + p * page) k ∷ atPages first page l
+unfoldable pub atPages : ℕ → List Loan → List Loan
+atPages page [] = []
+atPages page (loan p k ∷ l) = loan (p * page) k ∷ atPages page l
 
-module _ (first page : ℕ) where
+module _ (page : ℕ) where
   -- a loan by its page is one at that page's address, and back
-  pub lent-address : (l : List Loan) (p k : ℕ) → Lent l p k → Lent (atPages first page l) (first + p * page) k
+  pub lent-address : (l : List Loan) (p k : ℕ) → Lent l p k → Lent (atPages page l) (p * page) k
   unfolding Lent atPages
   lent-address [] p k x = x
-  lent-address (loan q j ∷ l) p k (inl x) = inl (ap (λ (i : ℕ). first + i * page) (x .0), x .1)
+  lent-address (loan q j ∷ l) p k (inl x) = inl (ap (λ (i : ℕ). i * page) (x .0), x .1)
   lent-address (loan q j ∷ l) p k (inr x) = inr (lent-address l p k x)
 
-  pub address-lent : (l : List Loan) (a k : ℕ) → Lent (atPages first page l) a k → (p : ℕ) × (a ≡ first + p * page) × Lent l p k
+  pub address-lent : (l : List Loan) (a k : ℕ) → Lent (atPages page l) a k → (p : ℕ) × (a ≡ p * page) × Lent l p k
   unfolding Lent atPages
   address-lent [] a k x = absurd x
   address-lent (loan q j ∷ l) a k (inl x) = (q, sym (x .0), inl (refl, x .1))
   address-lent (loan q j ∷ l) a k (inr x) = let y = address-lent l a k x in (y .0, y .1, inr (y .2))
 
   -- they have the same pages, and there is none of the one where there is none of the other
-  pub address-pages : (l : List Loan) → loanPages (atPages first page l) ≡ loanPages l
+  pub address-pages : (l : List Loan) → loanPages (atPages page l) ≡ loanPages l
   unfolding loanPages atPages
   address-pages [] = refl
   address-pages (loan q j ∷ l) = ap (λ (s : List ℕ). j ∷ s) (address-pages l)
 
-  pub address-none : (l : List Loan) → atPages first page l ≡ [] → l ≡ []
+  pub address-none : (l : List Loan) → atPages page l ≡ [] → l ≡ []
   unfolding atPages
   address-none [] e = refl
   address-none (loan q j ∷ l) e = let z : _≡_ {A = ℕ} 0 1 = cc in absurd (omega arith)
 
   -- where there is a page size
   module _ (h : 0 < page) where
-    pub page-of : (p : ℕ) → (first + p * page - first) / page ≡ p
-    page-of p = let f : first + p * page - first ≡ p * page = omega arith in rw f (mul-div-left p h)
-
     -- BACK TO PAGES
-    pub pages-back : (l : List Loan) → inPages first page (atPages first page l) ≡ l
+    pub pages-back : (l : List Loan) → inPages page (atPages page l) ≡ l
     unfolding inPages atPages
     pages-back [] = refl
-    pages-back (loan p k ∷ l) = rw (page-of p, pages-back l)
+    pages-back (loan p k ∷ l) = rw (mul-div-left p h, pages-back l)
 
     -- addresses are in the order of their pages
-    address-le : (p q : ℕ) → leb (first + p * page) (first + q * page) ≡ leb p q
+    address-le : (p q : ℕ) → leb (p * page) (q * page) ≡ leb p q
     address-le p q =
-        by-leb p q (λ b. leb (first + p * page) (first + q * page) ≡ b)
-        (λ l. le-leb (first + p * page) (first + q * page) (omega (arith, mul-le-mul-right page l)))
-        (λ l. let m : suc q * page ≤ p * page = mul-le-mul-right page (omega arith) in
-        lt-leb (first + p * page) (first + q * page) (omega arith))
+        by-leb p q (λ b. leb (p * page) (q * page) ≡ b)
+        (λ l. le-leb (p * page) (q * page) (mul-le-mul-right page l))
+        (λ l. lt-leb (p * page) (q * page) (mul-lt-mul-of-pos-right l h))
 
-    pub address-eq : (p q : ℕ) → eqb (first + p * page) (first + q * page) ≡ eqb p q
+    address-eq : (p q : ℕ) → eqb (p * page) (q * page) ≡ eqb p q
     address-eq p q =
-        by-eqb p q (λ b. eqb (first + p * page) (first + q * page) ≡ b)
-        (λ e. eq-eqb (first + p * page) (first + q * page) (ap (λ (i : ℕ). first + i * page) e))
-        (λ n. ne-eqb (first + p * page) (first + q * page) (λ e. n (sym (page-of p) ∙ ap (λ (a : ℕ). (a - first) / page) e ∙ page-of q)))
+        by-eqb p q (λ b. eqb (p * page) (q * page) ≡ b)
+        (λ e. eq-eqb (p * page) (q * page) (ap (λ (i : ℕ). i * page) e))
+        (λ n. ne-eqb (p * page) (q * page) (λ e. n (eq-of-mul-eq-mul-right page h p q e)))
 
     -- A LOAN ENTERED
-    pub enter-address : (p k : ℕ) (l : List Loan) → enter (first + p * page) k (atPages first page l) ≡ atPages first page (enter p k l)
+    pub enter-address : (p k : ℕ) (l : List Loan) → enter (p * page) k (atPages page l) ≡ atPages page (enter p k l)
     unfolding enter atPages
     enter-address p k [] = refl
     enter-address p k (loan q j ∷ l) =
         rw (address-le p q)
-        (by-leb p q (λ b. cond b (loan (first + p * page) k ∷ atPages first page (loan q j ∷ l)) (loan (first + q * page) j ∷ enter (first + p * page) k (atPages first page l))
-        ≡ atPages first page (cond b (loan p k ∷ loan q j ∷ l) (loan q j ∷ enter p k l)))
-        (λ x. refl) (λ x. ap (λ (s : List Loan). loan (first + q * page) j ∷ s) (enter-address p k l)))
+        (by-leb p q (λ b. cond b (loan (p * page) k ∷ atPages page (loan q j ∷ l)) (loan (q * page) j ∷ enter (p * page) k (atPages page l))
+        ≡ atPages page (cond b (loan p k ∷ loan q j ∷ l) (loan q j ∷ enter p k l)))
+        (λ x. refl) (λ x. ap (λ (s : List Loan). loan (q * page) j ∷ s) (enter-address p k l)))
 
     -- A LOAN AMENDED
-    amend-here : (q k : ℕ) (l : List Loan) → loan+ (first + q * page) k (atPages first page l) ≡ atPages first page (loan+ q k l)
+    amend-here : (q k : ℕ) (l : List Loan) → loan+ (q * page) k (atPages page l) ≡ atPages page (loan+ q k l)
     unfolding atPages
     amend-here q zero l = refl
     amend-here q (suc k) l = refl
 
-    pub amend-address : (p k : ℕ) (l : List Loan) → amend (first + p * page) k (atPages first page l) ≡ atPages first page (amend p k l)
+    pub amend-address : (p k : ℕ) (l : List Loan) → amend (p * page) k (atPages page l) ≡ atPages page (amend p k l)
     unfolding amend atPages
     amend-address p k [] = refl
     amend-address p k (loan q j ∷ l) =
         rw (address-eq q p)
-        (by-eqb q p (λ b. cond b (loan+ (first + q * page) k (atPages first page l)) (loan (first + q * page) j ∷ amend (first + p * page) k (atPages first page l))
-        ≡ atPages first page (cond b (loan+ q k l) (loan q j ∷ amend p k l)))
-        (λ x. amend-here q k l) (λ x. ap (λ (s : List Loan). loan (first + q * page) j ∷ s) (amend-address p k l)))
+        (by-eqb q p (λ b. cond b (loan+ (q * page) k (atPages page l)) (loan (q * page) j ∷ amend (p * page) k (atPages page l))
+        ≡ atPages page (cond b (loan+ q k l) (loan q j ∷ amend p k l)))
+        (λ x. amend-here q k l) (λ x. ap (λ (s : List Loan). loan (q * page) j ∷ s) (amend-address p k l)))

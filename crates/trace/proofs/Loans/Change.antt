@@ -12,7 +12,7 @@ use borrow.Author.Tests.{eq-eqb, ne-eqb}
 use Rattle.manager.specs.Map.{held}
 use Rattle.manager.specs.Paged.{free+, held+, lead, rest, heldFrom, reachFrom, changeFrom}
 use Rattle.manager.proofs.Laws.Paged.{free-join}
-use Rattle.trace.specs.Loans.{Loan, loan, loan+, amend, Lent, Held}
+use Rattle.trace.specs.Loans.{Loan, loan, loan+, amend, Lent, Held, Span, behind}
 use Rattle.trace.specs.Pages.{drawn, Ordered, Room, upTo, mostPagesAt}
 use Rattle.trace.proofs.Loans.Tests.{by-leb, by-eqb}
 use Rattle.trace.proofs.Loans.Drawn.{onward, drawn-next, lead-onward, rest-onward, ordered-next, ordered-end, ordered-from, held-after, next-held, lent-after}
@@ -94,38 +94,43 @@ held-some n at (loan a m ∷ l) p o x =
 
 -- ---- the most that a loan can have
 
-room-here : (n at a m : ℕ) (l : List Loan) → Ordered n at (loan a m ∷ l) → (k : ℕ) → (k ≤ mostAt n a m l) ↔ Room n (loan a m ∷ l) a m k
+room-here : (r : Span) (at a m : ℕ) (l : List Loan) → Ordered (behind r) at (loan a m ∷ l) → (k : ℕ)
+    → (k ≤ mostAt (behind r) a m l) ↔ Room r (loan a m ∷ l) a m k
 unfolding Ordered Held
-room-here n at a m l o k =
+room-here r at a m l o k =
+    let n = behind r in
     let le : a + m ≤ upTo n l = ordered-next n (a + m) l (o .2) in
     let end : upTo n l ≤ n = ordered-end n (a + m) l (o .2) in (
       λ h. record {
         upto = omega arith;
         unheld = λ q b u x. elim x [ inl y ↦ omega arith | inr y ↦ omega (arith, held-after n (a + m) l q (o .2) y) ];
       },
-      λ r. by-leb k (mostAt n a m l) (λ (t : Bool). k ≤ mostAt n a m l) (λ h. h)
-          (λ h. absurd (r .unheld (upTo n l) le (omega arith) (inr (next-held n (a + m) l (o .2) (omega (arith, r .upto)))))),
+      λ i. by-leb k (mostAt n a m l) (λ (t : Bool). k ≤ mostAt n a m l) (λ h. h)
+          (λ h. absurd (i .unheld (upTo n l) le (omega arith) (inr (next-held n (a + m) l (o .2) (omega (arith, i .upto)))))),
     )
 
-room-behind : (n at a m : ℕ) (l : List Loan) → Ordered n at (loan a m ∷ l) → (p j k : ℕ) → Lent l p j → Room n l p j k ↔ Room n (loan a m ∷ l) p j k
+room-behind : (r : Span) (at a m : ℕ) (l : List Loan) → Ordered (behind r) at (loan a m ∷ l) → (p j k : ℕ) → Lent l p j
+    → Room r l p j k ↔ Room r (loan a m ∷ l) p j k
 unfolding Ordered Held
-room-behind n at a m l o p j k i =
+room-behind r at a m l o p j k x =
+    let n = behind r in
     let le : a + m ≤ upTo n l = ordered-next n (a + m) l (o .2) in
-    let from : upTo n l ≤ p = lent-after n (a + m) l p j (o .2) i in (
-      λ r. record { upto = r .upto; unheld = λ q b u x. elim x [ inl y ↦ omega arith | inr y ↦ r .unheld q b u y ] },
-      λ r. record { upto = r .upto; unheld = λ q b u x. r .unheld q b u (inr x) },
+    let from : upTo n l ≤ p = lent-after n (a + m) l p j (o .2) x in (
+      λ i. record { upto = i .upto; unheld = λ q b u x. elim x [ inl y ↦ omega arith | inr y ↦ i .unheld q b u y ] },
+      λ i. record { upto = i .upto; unheld = λ q b u x. i .unheld q b u (inr x) },
     )
 
 -- IT CAN HAVE k PAGES WHERE THERE IS ROOM FOR THEM BY THE LOANS
-pub reach-is : (n at : ℕ) (l : List Loan) (p m k : ℕ) → Ordered n at l → Lent l p m → (k ≤ reachFrom p at (drawn n at l)) ↔ Room n l p m k
+pub reach-is : (r : Span) (at : ℕ) (l : List Loan) (p m k : ℕ) → Ordered (behind r) at l → Lent l p m
+    → (k ≤ reachFrom p at (drawn (behind r) at l)) ↔ Room r l p m k
 unfolding Ordered Lent
-reach-is n at [] p m k o x = absurd x
-reach-is n at (loan a j ∷ l) p m k o (inl x) =
-    rw (reach-first n p at a j l o, eq-eqb a p (x .0), ← (x .0), ← (x .1)) (room-here n at a j l o k)
-reach-is n at (loan a j ∷ l) p m k o (inr x) =
-    let ih = reach-is n (a + j) l p m k (o .2) x in
-    let b = room-behind n at a j l o p m k x in
-    rw (reach-first n p at a j l o, ne-eqb a p (lent-behind n p at a j l o m x)) (λ h. b .0 (ih .0 h), λ r. ih .1 (b .1 r))
+reach-is r at [] p m k o x = absurd x
+reach-is r at (loan a j ∷ l) p m k o (inl x) =
+    rw (reach-first (behind r) p at a j l o, eq-eqb a p (x .0), ← (x .0), ← (x .1)) (room-here r at a j l o k)
+reach-is r at (loan a j ∷ l) p m k o (inr x) =
+    let ih = reach-is r (a + j) l p m k (o .2) x in
+    let b = room-behind r at a j l o p m k x in
+    rw (reach-first (behind r) p at a j l o, ne-eqb a p (lent-behind (behind r) p at a j l o m x)) (λ h. b .0 (ih .0 h), λ i. ih .1 (b .1 i))
 
 -- and that is the most by the loans
 pub most-from : (n p at : ℕ) (l : List Loan) → Ordered n at l → reachFrom p at (drawn n at l) ≡ mostPagesAt n p l

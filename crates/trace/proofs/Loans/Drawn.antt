@@ -86,6 +86,9 @@ lent-some n at [] p k o h = absurd h
 lent-some n at (loan a m ∷ l) p k o (inl h) = omega arith
 lent-some n at (loan a m ∷ l) p k o (inr h) = lent-some n (a + m) l p k (o .2) h
 
+pub lent-from : (n at : ℕ) (l : List Loan) (p k : ℕ) → Ordered n at l → Lent l p k → at ≤ p
+lent-from n at l p k o x = omega (arith, ordered-next n at l o, lent-after n at l p k o x)
+
 pub lent-within : (n at : ℕ) (l : List Loan) (p k : ℕ) → Ordered n at l → Lent l p k → p + k ≤ n
 unfolding Ordered Lent
 lent-within n at [] p k o h = absurd h

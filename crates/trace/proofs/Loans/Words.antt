@@ -38,16 +38,16 @@ sound n at l o = well-drawn (drawn n at l) (well n at l o)
 pub reads : (n at : ℕ) (l : List Loan) → Ordered n at l → decode (draw (drawn n at l)) ≡ drawn n at l
 reads n at l o = reread (drawn n at l) (well-sized true (drawn n at l) (well n at l o))
 
-pub size : (n : ℕ) (l : List Loan) → Ordered n 0 l → length (draw (drawn n 0 l)) ≡ n
-size n l o = omega (arith, length-draw (drawn n 0 l), total-drawn n 0 l o)
+pub size : (c at : ℕ) (l : List Loan) → Ordered (at + c) at l → length (draw (drawn (at + c) at l)) ≡ c
+size c at l o = omega (arith, length-draw (drawn (at + c) at l), total-drawn (at + c) at l o)
 
 -- the map of no loans
-pub drawn-new : (n : ℕ) → drawn n 0 [] ≡ free+ n []
-drawn-new n = let e : n - 0 ≡ n = omega arith in rw (drawn-next n 0 [], e)
+pub drawn-new : (c at : ℕ) → drawn (at + c) at [] ≡ free+ c []
+drawn-new c at = let e : at + c - at ≡ c = omega arith in rw (drawn-next (at + c) at [], e)
 
-pub ordered-new : (n : ℕ) → Ordered n 0 []
+pub ordered-new : (c at : ℕ) → Ordered (at + c) at []
 unfolding Ordered
-ordered-new n = omega arith
+ordered-new c at = omega arith
 
 -- ---- the counts
 
@@ -98,8 +98,8 @@ counted-from n at [] o = rw (drawn-next n at []) (omega (arith, free-sum (n - at
 counted-from n at (loan a k ∷ l) o =
     rw (drawn-next n at (loan a k ∷ l)) (omega (arith, free-sum (a - at) (held k ∷ drawn n (a + k) l), counted-from n (a + k) l (o .2)))
 
-pub counted : (n : ℕ) (l : List Loan) → Ordered n 0 l → sum (loanPages l) + freePages (drawn n 0 l) ≡ n
-counted n l o = omega (arith, counted-from n 0 l o)
+pub counted : (c at : ℕ) (l : List Loan) → Ordered (at + c) at l → sum (loanPages l) + freePages (drawn (at + c) at l) ≡ c
+counted c at l o = omega (arith, counted-from (at + c) at l o)
 
 -- SOMETHING IS HELD WHERE THERE IS A LOAN
 pub any-none : (n at : ℕ) → any isHeldSegment (drawn n at []) ≡ false
@@ -147,5 +147,5 @@ loans-of n at before (held k ∷ s) w e =
     }
 
 -- EVERY SOUND MAP IS DRAWN FROM LOANS
-pub sound-loans : (ws : List ℕ) → soundMap apart ws ≡ true → Loans (length ws) 0 (decode ws) (loansOf 0 (decode ws))
-sound-loans ws e = loans-of (length ws) 0 true (decode ws) (well-decoded ws e) (omega (arith, total-decoded ws (sound-tiled apart ws e)))
+pub sound-loans : (n at : ℕ) (ws : List ℕ) → soundMap apart ws ≡ true → at + length ws ≡ n → Loans n at (decode ws) (loansOf at (decode ws))
+sound-loans n at ws e h = loans-of n at true (decode ws) (well-decoded ws e) (omega (arith, total-decoded ws (sound-tiled apart ws e)))

@@ -11,7 +11,6 @@ use lib.ListN.{length}
 use lib.Dec.{eqb}
 use borrow.Author.Tests.{eq-eqb, ne-eqb}
 use Rattle.manager.proofs.Laws.Appended.{by-case}
-use Rattle.manager.proofs.Laws.Distinct.{on-in}
 use Rattle.manager.proofs.Laws.Distinct as distinct
 use Rattle.manager.specs.Lists.{In, Distinct}
 use Rattle.trace.specs.Loans.{Loan}

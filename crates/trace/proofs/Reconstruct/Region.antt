@@ -11,16 +11,15 @@ use lib.Dec.{eqb, leb}
 use borrow.Author.Tests.{eqb-true, eqb-false, leb-true}
 use Rattle.manager.proofs.Laws.Lists.{and-first, and-second}
 use Rattle.manager.specs.Map.{soundMap, draw}
-use Rattle.manager.specs.Paged.{Kind}
 use Rattle.manager.proofs.Laws.Map.{redraw, sound-tiled}
 use Rattle.manager.specs.Record.{noRegion}
-use Rattle.manager.specs.Region.{dead, kind, pagesOf, baseOf, mapWords, segments}
+use Rattle.manager.specs.Region.{dead, kind, pagesOf, firstPageOf, mapWords, segments}
 use Rattle.manager.specs.Sound.{inside, soundPage, isFifo, emptyRegion, liveRegion, soundRegion}
 use Rattle.manager.specs.declared.Region.{Region}
 use Rattle.manager.specs.declared.Order.{Order}
 use Rattle.manager.specs.declared.Order.the-variants.{Fifo, Priority}
 use Rattle.trace.specs.Loans.{Loan}
-use Rattle.trace.specs.Receipts.{RegionEntry, unit, pagesIn, firstIn, byPage, pageLoans, reading}
+use Rattle.trace.specs.Receipts.{RegionEntry, unit, spanIn, byPage, pageLoans, reading}
 use Rattle.trace.proofs.Invariant.{regionFor, atAddresses, RegionIs, RegionSlot, empty, live}
 use Rattle.trace.proofs.Frame.{map-fits, map-length, inside-parts}
 use Rattle.trace.proofs.Loans.Addresses.{atPages, pages-back}
@@ -56,7 +55,7 @@ region-parts m r e =
 
 -- the entry of a region, and of a slot
 abbrev pub entryOf : List ℕ → Region → RegionEntry
-entryOf m r = record { name = r .name; start = r .start; bytes = r .length; page = r .page; order = r .order; loans = atPages (baseOf r) (r .page) (loansOf 0 (segments m r)) }
+entryOf m r = record { name = r .name; start = r .start; bytes = r .length; page = r .page; order = r .order; loans = atPages (r .page) (loansOf (firstPageOf r) (segments m r)) }
 
 abbrev pub slotEntry : List ℕ → Region → Option RegionEntry
 slotEntry m r = cond (dead r) none (some (entryOf m r))
@@ -91,14 +90,13 @@ region-back m r h =
 
 -- a live region, of an entry whose loans are its held segments
 pub is-region : (m : List ℕ) (e : RegionEntry) → ¬ (e .name ≡ 0) → RegionParts m (regionFor e) → 1 ≤ e .page → e .page ≤ 4096
-    → e .loans ≡ atAddresses e (loansOf 0 (segments m (regionFor e))) → RegionIs m e
+    → e .loans ≡ atAddresses e (loansOf (firstPageOf (regionFor e)) (segments m (regionFor e))) → RegionIs m e
 is-region m e n q l h s =
     let ws = mapWords m (regionFor e) in
     let f = map-fits (e .start) (e .bytes) (unit e) (length m) (omega (arith, q .least)) (q .some-page) (inside-parts m (e .start) (e .bytes) (q .inside) .upto) in
-    let z : length ws ≡ pagesIn e = map-length m (regionFor e) f in
-    let x = law e .loans ws (q .map) in
-    let l′ = loansOf 0 (segments m (regionFor e)) in
-    let s′ : pageLoans e ≡ l′ = ap (byPage e) s ∙ pages-back (firstIn e) (unit e) (omega (arith, q .least)) l′ in
+    let x = law e .loans (spanIn e) ws (q .map) (map-length m (regionFor e) f) in
+    let l′ = loansOf (firstPageOf (regionFor e)) (segments m (regionFor e)) in
+    let s′ : pageLoans e ≡ l′ = ap (byPage e) s ∙ pages-back (unit e) (omega (arith, q .least)) l′ in
     record {
       named = n;
       inside = q .inside;
@@ -106,11 +104,10 @@ is-region m e n q l h s =
       page-most = h;
       some-page = q .some-page;
       placed = s ∙ ap (atAddresses e) (sym s′);
-      fits = subst (reading e .Fits (pagesIn e)) (sym s′) (subst (λ (k : ℕ). reading e .Fits k l′) z (x .fits));
+      fits = subst (reading e .Fits (spanIn e)) (sym s′) (x .fits);
       map =
           sym (redraw ws (sound-tiled (kind (regionFor e) .proper) ws (q .map))) ∙ ap draw (x .is)
-          ∙ ap (λ (k : ℕ). draw (reading e .drawn k l′)) z
-          ∙ ap (λ (j : List Loan). draw (reading e .drawn (pagesIn e) j)) (sym s′);
+          ∙ ap (λ (j : List Loan). draw (reading e .drawn (spanIn e) j)) (sym s′);
     }
 
 -- A SOUND SLOT IS THE PICTURE OF ITS ENTRY
@@ -126,4 +123,4 @@ region-read m r e = go (dead r) refl
         let q = region-parts m r g in
         let b = region-back m r (q .whole) in
         subst (λ (x : Region). RegionSlot m x (some (entryOf m r))) (sym b)
-        (live (entryOf m r) (is-region m (entryOf m r) (eqb-false (r .name) 0 f) (subst (RegionParts m) b q) (omega (arith, q .least)) (q .most) (ap (λ (x : Region). atPages (baseOf x) (x .page) (loansOf 0 (segments m x))) b)))
+        (live (entryOf m r) (is-region m (entryOf m r) (eqb-false (r .name) 0 f) (subst (RegionParts m) b q) (omega (arith, q .least)) (q .most) (ap (λ (x : Region). atPages (x .page) (loansOf (firstPageOf x) (segments m x))) b)))

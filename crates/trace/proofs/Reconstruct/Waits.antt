@@ -16,7 +16,7 @@ use Rattle.manager.proofs.Laws.Lists.{and-first, and-second}
 use Rattle.manager.specs.Map.{Segment, free, held, isHeldSegment}
 use Rattle.manager.specs.Record.{slots, tasks, noWaiter, regionOf}
 use Rattle.manager.specs.Paged.{kindOf}
-use Rattle.manager.specs.Region.{baseOf, dead, pagesOf, pagesAsked, servable, anyHeld, segments}
+use Rattle.manager.specs.Region.{firstPageOf, dead, pagesOf, pagesAsked, servable, anyHeld, segments}
 use Rattle.manager.specs.Queue.{goesBefore}
 use Rattle.manager.specs.Sound.{unused, soundWaiter, soundPlace, otherTask, inOrder, soundRegion}
 use Rattle.manager.proofs.Laws.Sound.{live-of}
@@ -169,7 +169,7 @@ module _ (m : List ℕ) (d : Manager) (t : Receipts) (entries : (id : ℕ) → t
       record {
         entry = entryOf m r;
         found = entries (w .region) ∙ rw (p .alive);
-        lending = λ n. some-loan 0 (segments m r) (p .lending) (address-none (baseOf r) (r .page) (loansOf 0 (segments m r)) n);
+        lending = λ n. some-loan (firstPageOf r) (segments m r) (p .lending) (address-none (r .page) (loansOf (firstPageOf r) (segments m r)) n);
         id-some = omega (arith, region-slot d nr np (w .region) (eqb-false (r .name) 0 (p .alive)) .is);
         task-some = let y = eqb-false (w .task) 0 f in omega arith;
         task-most = p .task-most;

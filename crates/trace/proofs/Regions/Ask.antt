@@ -14,7 +14,7 @@ use Rattle.manager.specs.declared.Call.{Call}
 use Rattle.manager.specs.declared.Call.the-variants.{IdentRegion, SegmentSize, RegionInformation}
 use Rattle.manager.specs.declared.Status.the-variants.{Successful}
 use Rattle.trace.specs.Loans.{loanPages, most, sum}
-use Rattle.trace.specs.Receipts.{Receipts, RegionEntry, unit, pagesIn, pageLoans, entered, note, allNoticed, reading}
+use Rattle.trace.specs.Receipts.{Receipts, RegionEntry, unit, spanIn, pageLoans, entered, note, allNoticed, reading}
 use Rattle.trace.specs.Replies.{informationIn}
 use Rattle.trace.proofs.Invariant.{regionFor, RegionIs, Inv}
 use Rattle.trace.proofs.Regions.Checks.{Kept, kept-words, kept-checked}
@@ -63,7 +63,7 @@ pub information-is : (m : List ℕ) (e : RegionEntry) → RegionIs m e
     → informationOf (unit e) (frees m (regionFor e)) (helds m (regionFor e)) ≡ informationIn e
 information-is m e is =
     let s = shows m e is in
-    let free = reading e .runs (pagesIn e) (pageLoans e) in
+    let free = reading e .runs (spanIn e) (pageLoans e) in
     let held = loanPages (e .loans) in
     ap (informationOf (unit e) (frees m (regionFor e))) (s .helds) ∙ ap (λ (l : List ℕ). informationOf (unit e) l held) (s .frees)
     ∙ rw (most-is free, sum-is free, most-is held, sum-is held)

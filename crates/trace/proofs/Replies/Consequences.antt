@@ -6,7 +6,7 @@ use mathlib.Core.Bool.{Bool}
 use mathlib.Core.List.{List, [], _∷_}
 use mathlib.Core.Logic.{_⊎_, inl, inr, _↔_}
 use mathlib.Core.Option.{some}
-use Prim.Native.Nat.{ℕ, _+_, _*_, _≤_, _<_}
+use Prim.Native.Nat.{ℕ, _+_, _*_, _<_}
 use native.Mathlib.Omega.{arith}
 use lib.ListN.{length}
 use lib.Dec.{leb}
@@ -18,7 +18,7 @@ use Rattle.manager.specs.declared.Wait.the-variants.{No}
 use Rattle.manager.specs.declared.Status.the-variants.{Successful, Unsatisfied}
 use Rattle.manager.specs.Lists.{In}
 use Rattle.trace.specs.Loans.{Lent, amend}
-use Rattle.trace.specs.Receipts.{Receipts, RegionEntry, PartitionEntry, Wait, Reply, unit, pagesIn, addressIn, pageIn, pageLoans, buffersIn, pagesOver, Servable, reading}
+use Rattle.trace.specs.Receipts.{Receipts, RegionEntry, PartitionEntry, Wait, Reply, unit, pagesIn, spanIn, addressIn, pageIn, pageLoans, buffersIn, pagesOver, Servable, reading}
 use Rattle.trace.specs.Queue.{queueOf}
 use Rattle.trace.specs.Replies.{no, yes, tells, informs, resizes, decided, grantsIn, informationIn, front, byReceipts, placeIn, mostIn}
 use Rattle.trace.specs.Claims.{Grants, Full, Takes}
@@ -82,12 +82,12 @@ module _ (n : ℕ) (t : Receipts) (id : ℕ) (e : RegionEntry) (q : t .regions i
     resize-is size z = rw (ne-eqb size 0 (λ (y : size ≡ 0). omega arith), q, pages-lent e g a k x, ne-eqb k 0 some-pages)
 
     pub resize-by : (size : ℕ) → 0 < size → (byReceipts n t (ResizeSegment id a size) .value ≡ k * unit e)
-        × ((byReceipts n t (ResizeSegment id a size) .status ≡ Unsatisfied) ↔ (¬ reading e .Room (pagesIn e) (pageLoans e) (pageIn e a) k (pagesOver e size)))
+        × ((byReceipts n t (ResizeSegment id a size) .status ≡ Unsatisfied) ↔ (¬ reading e .Room (spanIn e) (pageLoans e) (pageIn e a) k (pagesOver e size)))
     resize-by size z =
         rw (resize-is size z)
         (by-leb (pagesOver e size) (mostIn e a)
         (λ (b : Bool). (resizes b (k * unit e) .value ≡ k * unit e)
-        × ((resizes b (k * unit e) .status ≡ Unsatisfied) ↔ (¬ reading e .Room (pagesIn e) (pageLoans e) (pageIn e a) k (pagesOver e size))))
+        × ((resizes b (k * unit e) .status ≡ Unsatisfied) ↔ (¬ reading e .Room (spanIn e) (pageLoans e) (pageIn e a) k (pagesOver e size))))
         (λ h. (
           refl,
           (
