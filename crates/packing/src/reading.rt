@@ -18,7 +18,7 @@ pub(crate) fn choices(words: &[u32]) -> bool
     ensures { λ r. ⌜ r ≡ choices slots (now (words .entry)) 0 ⌝ }
 {
     let mut k: usize = 0;
-    while k < 8 {
+    while k < Manager::SLOTS {
         let at = 5 * k;
         k = k + 1;
         if 1 < words[at + 4] {
@@ -73,14 +73,14 @@ fn waiter(words: &[u32], at: usize) -> Waiter
     }
 }
 
-pub(crate) fn regions(words: &[u32]) -> [Region; 8]
+pub(crate) fn regions(words: &[u32]) -> [Region; Manager::SLOTS]
     requires { ⌜ length (now words) ≡ recordWords ⌝ }
     ensures { λ r. ⌜ r ≡ allAt regionAt 5 slots (now (words .entry)) 0 ⌝ }
 {
     let d = Manager::new();
     let mut all = d.regions;
     let mut k: usize = 0;
-    while k < 8 {
+    while k < Manager::SLOTS {
         let x = region(words, 5 * k);
         all[k] = x;
         k = k + 1;
@@ -88,14 +88,14 @@ pub(crate) fn regions(words: &[u32]) -> [Region; 8]
     all
 }
 
-pub(crate) fn partitions(words: &[u32]) -> [Partition; 8]
+pub(crate) fn partitions(words: &[u32]) -> [Partition; Manager::SLOTS]
     requires { ⌜ length (now words) ≡ recordWords ⌝ }
     ensures { λ r. ⌜ r ≡ allAt partitionAt 7 slots (now (words .entry)) partitionsAt ⌝ }
 {
     let d = Manager::new();
     let mut all = d.partitions;
     let mut k: usize = 0;
-    while k < 8 {
+    while k < Manager::SLOTS {
         let x = partition(words, PARTITIONS_AT + 7 * k);
         all[k] = x;
         k = k + 1;

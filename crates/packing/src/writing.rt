@@ -61,12 +61,12 @@ fn waiter(words: &mut [u32], at: usize, w: Waiter)
     words[at + 4] = w.ticks;
 }
 
-pub(crate) fn regions(words: &mut [u32], all: [Region; 8])
+pub(crate) fn regions(words: &mut [u32], all: [Region; Manager::SLOTS])
     requires { ⌜ length (now words) ≡ recordWords ⌝ }
     ensures { λ _. ⌜ now (words .exit) ≡ sets (now (words .entry)) 0 (allWords regionWords all) ⌝ }
 {
     let mut k: usize = 0;
-    while k < 8 {
+    while k < Manager::SLOTS {
         let x = all[k];
         let at = 5 * k;
         region(words, at, x);
@@ -74,12 +74,12 @@ pub(crate) fn regions(words: &mut [u32], all: [Region; 8])
     }
 }
 
-pub(crate) fn partitions(words: &mut [u32], all: [Partition; 8])
+pub(crate) fn partitions(words: &mut [u32], all: [Partition; Manager::SLOTS])
     requires { ⌜ length (now words) ≡ recordWords ⌝ }
     ensures { λ _. ⌜ now (words .exit) ≡ sets (now (words .entry)) partitionsAt (allWords partitionWords all) ⌝ }
 {
     let mut k: usize = 0;
-    while k < 8 {
+    while k < Manager::SLOTS {
         let x = all[k];
         let at = PARTITIONS_AT + 7 * k;
         partition(words, at, x);

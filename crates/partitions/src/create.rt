@@ -9,6 +9,7 @@ ghost use mathlib.Core.Path.{_≡_};
 ghost use mathlib.Core.Bool.{true, cond};
 ghost use Prim.Native.Nat.{_+_, _≤_, _<_};
 ghost use lib.Dec.{eqb};
+ghost use Rattle.manager.specs.Record.{slots};
 ghost use Rattle.manager.specs.Result.{Performs};
 ghost use Rattle.manager.specs.Sound.{sound};
 ghost use Rattle.manager.specs.Partition.{buffers, linkAll};
@@ -90,7 +91,7 @@ fn make(
     length: u32,
     size: u32,
 ) -> Answer
-    requires { ⌜ (slot < 8) × (0 < size) × (size ≤ length) × (start + length < 4294967296) ⌝ }
+    requires { ⌜ (slot < slots) × (0 < size) × (size ≤ length) × (start + length < 4294967296) ⌝ }
     ensures { λ r. ⌜ Performs (makes (now (mem .entry)) d slot (newPartition name start length size)) (now (mem .exit)) r ⌝ }
 {
     let p = new_partition(name, start, length, size);

@@ -127,7 +127,7 @@ fn sound_partition(mem: &[u32], p: Partition) -> bool
 }
 
 // Whether every region slot is sound.
-pub(crate) fn sound_regions(mem: &[u32], regions: [Region; 8]) -> bool
+pub(crate) fn sound_regions(mem: &[u32], regions: [Region; Manager::SLOTS]) -> bool
     ensures { λ b. ⌜ b ≡ every (soundRegion (now (mem .entry))) regions ⌝ }
 {
     let mut i: usize = 0;
@@ -142,7 +142,7 @@ pub(crate) fn sound_regions(mem: &[u32], regions: [Region; 8]) -> bool
 }
 
 // Whether every partition slot is sound.
-pub(crate) fn sound_partitions(mem: &[u32], partitions: [Partition; 8]) -> bool
+pub(crate) fn sound_partitions(mem: &[u32], partitions: [Partition; Manager::SLOTS]) -> bool
     ensures { λ b. ⌜ b ≡ every (soundPartition (now (mem .entry))) partitions ⌝ }
 {
     let mut i: usize = 0;

@@ -11,7 +11,7 @@ abbrev Inv-loop : tie.InvT-loop
 Inv-loop words all₀ k₀ all k = Taking partitionAt noPartition 7 slots partitionsAt words all k
 
 abbrev μ-loop : tie.MeasureT-loop
-μ-loop words all₀ k₀ all k = 8 - k
+μ-loop words all₀ k₀ all k = slots - k
 
 pub partitions-spec : {M : Type 1} → statement M
 partitions-spec =

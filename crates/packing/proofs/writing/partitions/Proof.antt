@@ -2,15 +2,16 @@
 use Prim.Native.Nat.{_-_}
 use Rattle.packing.specs.Packing.{partitionWords, partitionsAt}
 use Rattle.packing.proofs.Laws.{packing, Putting}
+use Rattle.manager.specs.Record.{slots}
 use borrow.Author.Needs.{needs}
 use Rattle.packing.proofs.writing.partitions.Statement.{statement}
 use Rattle.packing.proofs.writing.partitions.Tie as tie
 
 abbrev Inv-loop : tie.InvT-loop
-Inv-loop words₀ all k₀ words k = Putting partitionWords 7 8 partitionsAt all words₀ words k
+Inv-loop words₀ all k₀ words k = Putting partitionWords 7 slots partitionsAt all words₀ words k
 
 abbrev μ-loop : tie.MeasureT-loop
-μ-loop words₀ all k₀ words k = 8 - k
+μ-loop words₀ all k₀ words k = slots - k
 
 pub partitions-spec : {M : Type 1} → statement M
 partitions-spec =

@@ -2,15 +2,16 @@
 use Prim.Native.Nat.{_-_}
 use Rattle.packing.specs.Packing.{regionWords}
 use Rattle.packing.proofs.Laws.{packing, Putting}
+use Rattle.manager.specs.Record.{slots}
 use borrow.Author.Needs.{needs}
 use Rattle.packing.proofs.writing.regions.Statement.{statement}
 use Rattle.packing.proofs.writing.regions.Tie as tie
 
 abbrev Inv-loop : tie.InvT-loop
-Inv-loop words₀ all k₀ words k = Putting regionWords 5 8 0 all words₀ words k
+Inv-loop words₀ all k₀ words k = Putting regionWords 5 slots 0 all words₀ words k
 
 abbrev μ-loop : tie.MeasureT-loop
-μ-loop words₀ all k₀ words k = 8 - k
+μ-loop words₀ all k₀ words k = slots - k
 
 pub regions-spec : {M : Type 1} → statement M
 regions-spec =

@@ -4,15 +4,16 @@ use Rattle.soundness.proofs.Tests.{each}
 use Rattle.manager.specs.Lists.{every}
 use Rattle.manager.proofs.Laws.Lists.{Passing}
 use Rattle.manager.specs.Sound.{soundRegion}
+use Rattle.manager.specs.Record.{slots}
 use borrow.Author.Needs.{needs}
 use Rattle.soundness.proofs.slots.sound_regions.Statement.{statement}
 use Rattle.soundness.proofs.slots.sound_regions.Tie as tie
 
 abbrev Inv-loop : tie.InvT-loop
-Inv-loop mem regions i₀ i = Passing (soundRegion mem) regions 8 (every (soundRegion mem) regions) i
+Inv-loop mem regions i₀ i = Passing (soundRegion mem) regions slots (every (soundRegion mem) regions) i
 
 abbrev μ-loop : tie.MeasureT-loop
-μ-loop mem regions i₀ i = 8 - i
+μ-loop mem regions i₀ i = slots - i
 
 pub sound-regions-spec : {M : Type 1} → statement M
 sound-regions-spec =
