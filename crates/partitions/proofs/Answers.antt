@@ -254,11 +254,11 @@ module _ (m : List ℕ) (d : Manager) (name start bytes size : ℕ) (s : sound m
             create-overlaps e = rw (s, ne-eqb _ _ h1, ne-eqb _ _ h2, eq-eqb _ _ h3, ← pq, h4, sizes-one, ← bq, h5, ← mq, e)
 
             module _ (h6 : meets ≡ false) (slot : ℕ) (sq : slot ≡ partitionNamed d 0) where
-              pub create-full : 8 ≤ slot → createPartition m d name start bytes size ≡ refused m d TooMany
+              pub create-full : slots ≤ slot → createPartition m d name start bytes size ≡ refused m d TooMany
               unfolding createPartition checked
               create-full e = rw (s, ne-eqb _ _ h1, ne-eqb _ _ h2, eq-eqb _ _ h3, ← pq, h4, sizes-one, ← bq, h5, ← mq, h6, ← sq, le-leb _ _ e)
 
-              pub create-makes : slot < 8 → createPartition m d name start bytes size ≡ makes m d slot (newPartition name start bytes size)
+              pub create-makes : slot < slots → createPartition m d name start bytes size ≡ makes m d slot (newPartition name start bytes size)
               unfolding createPartition checked makes
               create-makes e = rw (s, ne-eqb _ _ h1, ne-eqb _ _ h2, eq-eqb _ _ h3, ← pq, h4, sizes-one, ← bq, h5, ← mq, h6, ← sq, lt-leb _ _ e)
 
