@@ -27,20 +27,20 @@ use Rattle.manager.specs.declared.Region.{Region}
 use Rattle.manager.specs.declared.Waiter.{Waiter}
 use Rattle.manager.specs.declared.Place.{Place}
 use Rattle.manager.specs.declared.Place.the-variants.{At, Nowhere}
-use Rattle.effects.specs.Effects.{Span, MapWord, Only}
+use Rattle.effects.specs.Effects.{OneOf, MapWord, Only}
 use Rattle.effects.proofs.Answers.{unchanged}
 
 pub only-then : {W : ℕ → Type 0} {m m′ m″ : List ℕ} → Only W m m′ → Only W m′ m″ → Only W m m″
 only-then p q = record { size = q .size ∙ p .size; same = λ j h. q .same j h ∙ p .same j h }
 
 -- A RUN OF WORDS STORED
-stored-same : (m : List ℕ) (b : ℕ) (ws : List ℕ) (j : ℕ) → ¬ Span b (length ws) j → getD (sets m b ws) j 0 ≡ getD m j 0
+stored-same : (m : List ℕ) (b : ℕ) (ws : List ℕ) (j : ℕ) → ¬ OneOf b (length ws) j → getD (sets m b ws) j 0 ≡ getD m j 0
 stored-same m b [] j h = refl
 stored-same m b (w ∷ ws) j h =
     stored-same (set m b w) (suc b) ws j (λ x. h (omega arith, omega arith))
     ∙ getD-set-other m b j w 0 (λ e. h (omega arith, omega arith))
 
-pub stored : (m : List ℕ) (b : ℕ) (ws : List ℕ) → Only (Span b (length ws)) m (sets m b ws)
+pub stored : (m : List ℕ) (b : ℕ) (ws : List ℕ) → Only (OneOf b (length ws)) m (sets m b ws)
 stored m b ws = record { size = length-sets m b ws; same = stored-same m b ws }
 
 -- A MAP DRAWN with as many pages as the region has

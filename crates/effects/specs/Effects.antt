@@ -73,11 +73,11 @@ abbrev pub refusedValue : List ℕ → Manager → Call → Status → ℕ
 refusedValue m d c s = cond (eqb (numberOf s) 13) (oldLength m d c) 0
 
 -- WORDS: word j is one of the n words from b on; a word of a region's map; word 0 or 1 of a buffer on a partition's chain
-abbrev pub Span : ℕ → ℕ → ℕ → Type 0
-Span b n j = (b ≤ j) × (j < b + n)
+abbrev pub OneOf : ℕ → ℕ → ℕ → Type 0
+OneOf b n j = (b ≤ j) × (j < b + n)
 
 abbrev pub MapWord : Region → ℕ → Type 0
-MapWord r j = Span (mapAt r) (pagesOf r) j
+MapWord r j = OneOf (mapAt r) (pagesOf r) j
 
 abbrev pub LinkWord : List ℕ → Partition → ℕ → Type 0
 LinkWord m p j = (a : ℕ) × (isFree m p a ≡ true) × ((j ≡ a / 4) ⊎ (j ≡ a / 4 + 1))
@@ -131,7 +131,7 @@ pub record WriteEffects (m : List ℕ) (d : Manager) (id address first : ℕ) (w
   pub refusal : refusing (s .status) ≡ true → s ≡ refused m d (s .status)
   -- it changes no field of the record, whatever it answers
   pub keeps : s .manager ≡ d
-  pub only : Only (Span (address / 4 + first) (length words)) m (s .memory)
+  pub only : Only (OneOf (address / 4 + first) (length words)) m (s .memory)
   -- and these are words of the segment that is held at the address
   pub inside : s .status ≡ Successful → first + length words ≤ wordsIn m d id address
 
