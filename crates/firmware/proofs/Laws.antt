@@ -183,7 +183,7 @@ no-notices (suc n) = let e : 3 * suc n ≡ suc (suc (suc (3 * n))) = omega arith
 pub unused-zero : (l : List Notice) → allWords noticeWords (pad tasks noNotice l) ≡ allWords noticeWords l ++ replicate (3 * (tasks - length l)) 0
 unused-zero l = notices-append l (replicate (tasks - length l) noNotice) ∙ rw (no-notices (tasks - length l))
 
--- and there are 55 words in all
+-- and there are as many words as the header says
 pub answer-length : (a : Answer) → length (a .notices) ≡ tasks → length (answerWords a) ≡ answerSize
 unfolding answerWords
-answer-length a h = let l : length (allWords noticeWords (a .notices)) ≡ 48 = all-length noticeWords 3 tasks three-words (a .notices) h in omega arith
+answer-length a h = let l : length (allWords noticeWords (a .notices)) ≡ 3 * tasks = all-length noticeWords 3 tasks three-words (a .notices) h in omega arith

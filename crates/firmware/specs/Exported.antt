@@ -1,14 +1,14 @@
 -- What each exported function leaves, for every input. The caller keeps the manager record as words (`state`) and lends the memory and the
 -- words of the answer. Words that say no record, an answer that is too short and a choice that is none are answered 25, with nothing
 -- changed; else the call is performed. Assumes nothing.
-use Prim.Native.Nat.{ℕ}
+use Prim.Native.Nat.{ℕ, _+_, _*_}
 use mathlib.Core.Path.{_≡_}
 use mathlib.Core.Bool.{Bool, cond, _&&_}
 use mathlib.Core.List.{List, [], _∷_}
 use lib.Dec.{eqb, leb}
 use lib.ListN.{length}
 use lib.Seq.{sets}
-use Rattle.manager.specs.Record.{fresh}
+use Rattle.manager.specs.Record.{tasks, fresh}
 use Rattle.manager.specs.Result.{Result, answerOf, refused}
 use Rattle.manager.specs.Status.{numberOf}
 use Rattle.manager.specs.declared.Answer.{Answer}
@@ -21,12 +21,12 @@ use Rattle.packing.specs.Packing.{allWords, pack, unpack, wellFormed}
 pub use Rattle.manager.specs.Perform.{perform}
 pub use Rattle.manager.specs.Access.{readSegment, writeSegment}
 
--- an answer has 55 words: its value, the six values of its information, and 16 notices of three words
-abbrev pub answerSize : ℕ
-answerSize = 55
-
+-- the words of an answer: its value, the six values of its information, and a notice of three words for each task
 abbrev pub noticesAt : ℕ
 noticesAt = 7
+
+abbrev pub answerSize : ℕ
+answerSize = noticesAt + 3 * tasks
 
 unfoldable pub noticeWords : Notice → List ℕ
 noticeWords n = n .task ∷ numberOf (n .status) ∷ n .address ∷ []

@@ -1,11 +1,12 @@
 // A call over the words that the caller keeps.
 use manager::Call;
+use manager::Manager;
 use manager::Wait;
 ghost use mathlib.Core.Path.{_≡_};
 ghost use Rattle.firmware.specs.Exported.{Leaves, called, waitAt};
 
 // The words of an answer.
-pub const ANSWER_WORDS: usize = 55;
+pub const ANSWER_WORDS: usize = 7 + 3 * Manager::TASKS;
 
 // What is answered where the record's words, the answer's length or a choice are wrong.
 pub const INTERNAL_ERROR: u32 = 25;

@@ -8,7 +8,7 @@ use native.Mathlib.Nat.{add-zero}
 use native.Mathlib.Omega.{arith}
 use borrow.Author.Tests.{eq-eqb, ne-eqb, eqb-true}
 use lib.Dec.{eqb}
-use lib.ListN.{length, getD, drop, drop-of-length-le}
+use lib.ListN.{length, getD}
 use Rattle.manager.specs.Lists.{any}
 use Rattle.manager.proofs.Laws.Lists.{Seeking, some-next, some-here, some-end}
 use Rattle.manager.proofs.Laws.Map.{decode-skip}
@@ -23,10 +23,6 @@ decode-held w ws h = rw (ne-eqb w 0 (λ e. omega arith), eq-eqb (w % 2) 1 h)
 pub decode-free : (w : ℕ) (ws : List ℕ) → (w % 2 ≡ 1 → ⊥) → (w ≡ 0 → ⊥) → decode (w ∷ ws) ≡ free (w / 2) ∷ decode ws
 unfolding decode
 decode-free w ws h k = rw (ne-eqb w 0 k, ne-eqb (w % 2) 1 h)
-
-pub decode-end : (ws : List ℕ) (i : ℕ) → length ws ≤ i → decode (drop i ws) ≡ []
-unfolding decode
-decode-end ws i h = ap decode (drop-of-length-le ws h)
 
 -- a segment is held where a word is odd
 pub held-words : (ws : List ℕ) → any isHeldSegment (decode ws) ≡ any isHeld ws

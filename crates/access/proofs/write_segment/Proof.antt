@@ -65,8 +65,22 @@ add-end : tie.Need-add-end
 add-end c = search needs
 
 -- the segment lies in the memory
-ends : (w : lts.After-words-of
-    (is-sound-reads.Asked, is-sound-reads.Learnt, reply-reads.Asked, reply-reads.Learnt, region-of-reads.Asked, region-of-reads.Learnt, layout-of-reads.Asked, layout-of-reads.Learnt, held-word-at-reads.Asked, held-word-at-reads.Learnt, words-of-reads.Asked, words-of-reads.Learnt, copy-reads.Asked, copy-reads.Learnt)
+ends : (w : lts.After-words-of (
+  is-sound-reads.Asked,
+  is-sound-reads.Learnt,
+  reply-reads.Asked,
+  reply-reads.Learnt,
+  region-of-reads.Asked,
+  region-of-reads.Learnt,
+  layout-of-reads.Asked,
+  layout-of-reads.Learnt,
+  held-word-at-reads.Asked,
+  held-word-at-reads.Learnt,
+  words-of-reads.Asked,
+  words-of-reads.Learnt,
+  copy-reads.Asked,
+  copy-reads.Learnt,
+)
     reads.Pre reads.Post)
     → w .before .before .before .before .before .before .before .before .before .before .before .before .before .args .address / 4 + w .words-of .result
     ≤ length (now (w .before .before .before .before .before .before .before .before .before .before .before .before .before .args .mem))

@@ -58,12 +58,6 @@ free-front (suc m) (held n ∷ s) w o = refl
 
 -- ---- the free segment that a map starts with
 
-pub lead-rest : (s : List Segment) → Well true s → free+ (lead s) (rest s) ≡ s
-unfolding lead rest free+
-lead-rest [] w = refl
-lead-rest (free n ∷ s) w = free-front n s (w .2) (w .0)
-lead-rest (held n ∷ s) w = refl
-
 pub total-lead : (s : List Segment) → total s ≡ lead s + total (rest s)
 unfolding lead rest total
 total-lead [] = refl
