@@ -1,7 +1,7 @@
 -- Get, exit by exit: the tests that led there, in their order, give the definition's result; then the pages are taken, or the answer is 13,
 -- or the task waits. Assumes nothing.
 use Prim.Native.Nat.{ℕ, _≤_, _<_}
-use mathlib.Core.Path.{_≡_, sym, _∙_}
+use mathlib.Core.Path.{_≡_, _∙_}
 use mathlib.Core.Bool.{Bool, true, false}
 use mathlib.Core.List.{List, []}
 use native.Mathlib.Omega.{arith}

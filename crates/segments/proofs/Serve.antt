@@ -1,26 +1,24 @@
 -- Serving a queue: what is left to serve from here on gives what serving from the start gives, with the region live and every waiter
 -- asking for something on the way. Assumes nothing.
-use Prim.Native.Nat.{ℕ, zero, suc, _+_, _-_, _*_, _≤_, _<_}
-use mathlib.Core.Path.{_≡_, refl, ap, sym, _∙_}
-use mathlib.Core.Bool.{Bool, true, false, cond, not, _&&_, _||_}
-use mathlib.Core.List.{List, [], _∷_, _++_}
+use Prim.Native.Nat.{ℕ, suc, _+_, _-_, _≤_, _<_}
+use mathlib.Core.Path.{_≡_, refl, sym, _∙_}
+use mathlib.Core.Bool.{Bool, true, false, cond, not, _||_}
+use mathlib.Core.List.{List, [], _∷_}
 use native.Mathlib.Omega.{arith}
 use lib.ListN.{length, getD, set, replicate}
 use lib.Dec.{eqb, leb, ltb}
-use borrow.Author.Tests.{lt-ltb, le-ltb, leb-true, le-leb, eq-eqb, ne-eqb, eqb-true, eqb-false, not-true}
-use Rattle.arith.specs.Round.{pagesFor}
+use borrow.Author.Tests.{lt-ltb, le-ltb, leb-true, not-true}
 use Rattle.arith.proofs.Laws.Round.{pages-some}
-use Rattle.manager.specs.Record.{tasks, noWaiter, noNotice, regionOf, withQueue}
-use Rattle.manager.specs.Result.{pad}
-use Rattle.manager.specs.Lists.{every, indexOf}
+use Rattle.manager.specs.Record.{tasks, noWaiter, noNotice, regionOf}
+use Rattle.manager.specs.Lists.{indexOf}
 use Rattle.manager.proofs.Laws.Lists.{and-first, and-second, every-at}
 use Rattle.manager.specs.Region.{anyHeld, addressOf, pagesAsked, placed, taken}
 use Rattle.manager.specs.Queue.{firstOf, waitsFor, dequeue}
 use Rattle.manager.proofs.Laws.Queue.{dequeue-every, sound-every}
 use Rattle.manager.proofs.Laws.Appended.{every-imp, by-case}
 use Rattle.manager.specs.Paged.{onPlace}
-use Rattle.manager.specs.Serve.{Served, quiet, granted, telling, serveUpTo, serve}
-use Rattle.manager.specs.Sound.{sound, soundPlace, soundWaiter, unused, soundQueue}
+use Rattle.manager.specs.Serve.{quiet, granted, telling, serveUpTo, serve}
+use Rattle.manager.specs.Sound.{sound, soundPlace, soundWaiter}
 use Rattle.manager.specs.Sound.{Sited}
 use Rattle.manager.proofs.Laws.Sound.{sound-queue}
 use Rattle.manager.specs.declared.Manager.{Manager}
@@ -34,7 +32,6 @@ use Rattle.queue.proofs.Fill.{Filling, fill-start, fill-put, fill-end}
 use Rattle.segments.specs.Lending.{Takes}
 use Rattle.segments.proofs.Lend.{taken-address, none-taken}
 use Rattle.segments.specs.Serving.{asks, Asking, onTurn, pagesFirst, turnOf, Turns, Serves}
-use Rattle.segments.specs.declared.serving.Granted.{Granted}
 use Rattle.segments.specs.declared.serving.Turn.{Turn}
 use Rattle.segments.specs.declared.serving.Turn.the-variants.{Stop, Serve}
 
