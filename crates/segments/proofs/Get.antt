@@ -1,15 +1,16 @@
 -- Get, exit by exit: the tests that led there, in their order, give the definition's result; then the pages are taken, or the answer is 13,
 -- or the task waits. Assumes nothing.
 use Prim.Native.Nat.{ℕ, _≤_, _<_}
-use mathlib.Core.Path.{_≡_, sym, _∙_}
+use mathlib.Core.Path.{_≡_, _∙_}
 use mathlib.Core.Bool.{Bool, true, false}
 use mathlib.Core.List.{List, []}
 use native.Mathlib.Omega.{arith}
 use borrow.Author.Tests.{eq-eqb, ne-eqb, lt-leb, le-leb, not-true, not-false}
+use Rattle.arith.specs.declared.Layout.{Layout}
 use Rattle.manager.specs.Record.{regionOf}
 use Rattle.manager.specs.Result.{Result, Performs, checked, answerOf, replied, refused, done}
 use Rattle.manager.proofs.Laws.Result.{performs-by, performs-replied}
-use Rattle.manager.specs.Region.{pagesOf, addressOf, pagesAsked, placed, taken}
+use Rattle.manager.specs.Region.{layoutOf, pagesOf, addressOf, pagesAsked, placed, taken}
 use Rattle.manager.specs.Queue.{enqueue}
 use Rattle.manager.specs.Paged.{onPlace}
 use Rattle.manager.specs.Regions.{waitChecks, unplaced, getSegment}
@@ -29,7 +30,7 @@ use Rattle.segments.specs.Verdicts.{verdictOf, onVerdict}
 use Rattle.segments.specs.declared.checks.Verdict.{Verdict}
 use Rattle.segments.specs.declared.checks.Verdict.the-variants.{Good, Bad}
 use Rattle.segments.proofs.Address.{live, some-asked}
-use Rattle.segments.proofs.Serve.{placed-address, none-taken}
+use Rattle.segments.proofs.Lend.{taken-address, none-taken}
 use Rattle.segments.proofs.Verdicts.{checked-all}
 
 -- what is done once the checks have passed
@@ -37,15 +38,12 @@ abbrev Placed : List ℕ → Manager → Region → ℕ → Wait → Waiter → 
 Placed m d r k wait w = onPlace (placed m r k) (λ p. done (taken m r k) d (addressOf r p)) (unplaced m d wait w)
 
 module _ (m : List ℕ) (d : Manager) (r : Region) (k : ℕ) (s : Sited m r) (wait : Wait) (w : Waiter) (out : List ℕ) (p : Place) (t : Takes r k m out p) where
-  pub place-address : (j : ℕ) → p ≡ At j → addressOf r j ≤ 65536
-  place-address j e = placed-address m r s k j (sym (t .place) ∙ e)
-
   module _ (a : Answer) where
     pub place-yes : (j : ℕ) → p ≡ At j → (v : ℕ) → v ≡ addressOf r j → a ≡ answerOf (replied [] d Successful v) → Performs (Placed m d r k wait w) out a
     place-yes j e v ev f = performs-replied out a _ d Successful v f (rw (← (t .memory), ← (t .place), e, ev))
 
     unmoved : p ≡ Nowhere → out ≡ m
-    unmoved e = t .memory ∙ none-taken m r s k (sym (t .place) ∙ e)
+    unmoved = none-taken m r s k out p t
 
     pub place-no : p ≡ Nowhere → wait ≡ No → a ≡ answerOf (replied [] d Unsatisfied 0) → Performs (Placed m d r k wait w) out a
     place-no e n f = performs-replied out a _ d Unsatisfied 0 f (rw (← (t .place), e, n, unmoved e))
@@ -53,7 +51,7 @@ module _ (m : List ℕ) (d : Manager) (r : Region) (k : ℕ) (s : Sited m r) (wa
     pub place-waits : p ≡ Nowhere → wait ≡ Yes → (e′ : Manager) → e′ ≡ enqueue d w → a ≡ answerOf (replied [] e′ Waiting 0) → Performs (Placed m d r k wait w) out a
     place-waits e y e′ x f = performs-replied out a _ e′ Waiting 0 f (rw (← (t .place), e, y, x, unmoved e))
 
-pub ruleset placing = (place-address, place-yes, place-no, place-waits)
+pub ruleset placing = (taken-address, place-yes, place-no, place-waits)
 
 -- the checks ahead of it
 module _ (m : List ℕ) (d : Manager) (id size : ℕ) (wait : Wait) (task priority ticks : ℕ) (b : Bool) (eb : b ≡ sound m d) where
@@ -77,16 +75,19 @@ module _ (m : List ℕ) (d : Manager) (id size : ℕ) (wait : Wait) (task priori
       unfolding getSegment checked
       get-dead e = rw (← eb, s, ne-eqb _ _ z, ← er, eq-eqb _ _ e)
 
-      module _ (l : r .name ≡ 0 → ⊥) (k : ℕ) (ek : k ≡ pagesAsked r size) (n : ℕ) (en : n ≡ pagesOf r) where
-        pub get-large : n < k → Gets ≡ refused m d InvalidSize
-        unfolding getSegment checked
-        get-large h = rw (← eb, s, ne-eqb _ _ z, ← er, ne-eqb _ _ l, ← ek, ← en, lt-leb k n h)
+      module _ (named : r .name ≡ 0 → ⊥) (l : Layout) (el : l ≡ layoutOf r) (k : ℕ) (ek : k ≡ pagesAsked r size) where
+        pages-are : l .pages ≡ pagesOf r
+        pages-are = rw el
 
-        module _ (h : k ≤ n) (v : Verdict) (ev : v ≡ verdictOf (waitChecks d wait task priority)) where
+        pub get-large : l .pages < k → Gets ≡ refused m d InvalidSize
+        unfolding getSegment checked
+        get-large h = rw (← eb, s, ne-eqb _ _ z, ← er, ne-eqb _ _ named, ← ek, lt-leb k (pagesOf r) (omega (arith, pages-are)))
+
+        module _ (h : k ≤ l .pages) (v : Verdict) (ev : v ≡ verdictOf (waitChecks d wait task priority)) where
           get-is : Gets ≡ onVerdict v (refused m d) (Placed m d r k wait waiter)
           unfolding getSegment checked
           get-is =
-              rw (← eb, s, ne-eqb _ _ z, ← er, ne-eqb _ _ l, ← ek, le-leb k (pagesOf r) (omega arith), ev)
+              rw (← eb, s, ne-eqb _ _ z, ← er, ne-eqb _ _ named, ← ek, le-leb k (pagesOf r) (omega (arith, pages-are)), ev)
               (checked-all (waitChecks d wait task priority) (refused m d) (Placed m d r k wait waiter))
 
           pub get-refused : (st : Status) → v ≡ Bad st → Gets ≡ refused m d st

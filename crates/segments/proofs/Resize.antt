@@ -1,41 +1,40 @@
 -- Resize, exit by exit: the tests that led there, in their order, give the definition's result; then the segment has so many pages, where it
 -- can have them. Assumes nothing.
 use Prim.Native.Nat.{ℕ, _*_, _≤_, _<_}
-use mathlib.Core.Path.{_≡_, sym, _∙_}
+use mathlib.Core.Path.{_≡_}
 use mathlib.Core.Bool.{Bool, true, false, cond}
 use mathlib.Core.List.{List, []}
 use native.Mathlib.Omega.{arith}
 use lib.Dec.{leb}
 use borrow.Author.Tests.{eq-eqb, ne-eqb, le-leb, lt-leb, not-true, not-false}
+use Rattle.arith.specs.declared.Layout.{Layout}
 use Rattle.manager.specs.Record.{regionOf}
 use Rattle.manager.specs.Result.{Result, Performs, checked, answerOf, replied, refused, done}
 use Rattle.manager.proofs.Laws.Result.{performs-by, performs-replied}
-use Rattle.manager.specs.Paged.{reachFrom, changeFrom}
-use Rattle.manager.specs.Region.{pageAt, segments, withSegments, heldAt, pagesAsked}
+use Rattle.manager.specs.Region.{layoutOf, heldAt, roomAt, changed, pagesAsked}
 use Rattle.manager.specs.Regions.{resizeSegment}
 use Rattle.manager.specs.Sound.{sound}
 use Rattle.manager.specs.declared.Manager.{Manager}
 use Rattle.manager.specs.declared.Region.{Region}
 use Rattle.manager.specs.declared.Answer.{Answer}
 use Rattle.manager.specs.declared.Status.the-variants.{Successful, InvalidId, InvalidSize, InvalidAddress, Unsatisfied, InternalError}
-use Rattle.segments.specs.Lending.{Draws}
+use Rattle.segments.specs.Lending.{Changes}
 use Rattle.map.specs.Word.{heldWordAt}
-use Rattle.map.proofs.Word.{held-told}
-use Rattle.segments.proofs.Address.{live, some-asked, held-some, length-fits}
+use Rattle.segments.proofs.Address.{live, some-asked, held-is, held-some, length-fits}
 
 -- what is done once the checks have passed
 abbrev Fitted : List ℕ → Manager → Region → ℕ → ℕ → ℕ → Result
-Fitted m d r p k old = cond (leb k (reachFrom p 0 (segments m r))) (done (withSegments m r (changeFrom p k 0 (segments m r))) d old) (replied m d Unsatisfied old)
+Fitted m d r address k old = cond (leb k (roomAt m r address)) (done (changed m r address k) d old) (replied m d Unsatisfied old)
 
-module _ (m : List ℕ) (d : Manager) (r : Region) (p k old : ℕ) (g : ℕ) (eg : g ≡ reachFrom p 0 (segments m r)) where
-  pub fitted-no : (a : Answer) → g < k → a ≡ answerOf (replied [] d Unsatisfied old) → Performs (Fitted m d r p k old) m a
+module _ (m : List ℕ) (d : Manager) (r : Region) (address k old : ℕ) (g : ℕ) (eg : g ≡ roomAt m r address) where
+  pub fitted-no : (a : Answer) → g < k → a ≡ answerOf (replied [] d Unsatisfied old) → Performs (Fitted m d r address k old) m a
   fitted-no a h f = performs-replied m a _ d Unsatisfied old f (rw (← eg, lt-leb _ _ h))
 
-  pub fitted-yes : (a : Answer) → k ≤ g → (out : List ℕ) → Draws r m out (changeFrom p k 0 (segments m r)) → a ≡ answerOf (replied [] d Successful old)
-      → Performs (Fitted m d r p k old) out a
+  pub fitted-yes : (a : Answer) → k ≤ g → (out : List ℕ) → Changes r address k m out → a ≡ answerOf (replied [] d Successful old)
+      → Performs (Fitted m d r address k old) out a
   fitted-yes a h out x f = performs-replied out a _ d Successful old f (rw (← eg, le-leb _ _ h, x .memory))
 
-  pub fitted-room : k ≤ g → k ≤ reachFrom p 0 (segments m r)
+  pub fitted-room : k ≤ g → k ≤ roomAt m r address
   fitted-room h = omega arith
 
 pub ruleset fitting = (fitted-no, fitted-yes, fitted-room)
@@ -59,16 +58,16 @@ module _ (m : List ℕ) (d : Manager) (id address size : ℕ) (b : Bool) (eb : b
       unfolding resizeSegment checked
       resize-dead e = rw (← eb, s, ne-eqb _ _ y, ← er, eq-eqb _ _ e)
 
-      module _ (l : r .name ≡ 0 → ⊥) (n : ℕ) (wn : n ≡ heldWordAt m r address) where
+      module _ (named : r .name ≡ 0 → ⊥) (l : Layout) (el : l ≡ layoutOf r) (n : ℕ) (wn : n ≡ heldWordAt m l (r .page) address) where
         en : n ≡ heldAt m r address
-        en = held-told m d id (sym eb ∙ s) r er l address n wn
+        en = held-is m d b eb s id r er named l el address n wn
 
         pub resize-none : n ≡ 0 → Resizes ≡ refused m d InvalidAddress
         unfolding resizeSegment checked
-        resize-none e = rw (← eb, s, ne-eqb _ _ y, ← er, ne-eqb _ _ l, ← en, eq-eqb _ _ e)
+        resize-none e = rw (← eb, s, ne-eqb _ _ y, ← er, ne-eqb _ _ named, ← en, eq-eqb _ _ e)
 
-        pub resize-fitted : (n ≡ 0 → ⊥) → (k : ℕ) → k ≡ pagesAsked r size → (p : ℕ) → p ≡ pageAt r address → Resizes ≡ Fitted m d r p k (n * r .page)
+        pub resize-fitted : (n ≡ 0 → ⊥) → (k : ℕ) → k ≡ pagesAsked r size → Resizes ≡ Fitted m d r address k (n * r .page)
         unfolding resizeSegment checked
-        resize-fitted z k ek p ep = rw (← eb, s, ne-eqb _ _ y, ← er, ne-eqb _ _ l, ← en, ne-eqb _ _ z, ← ek, ← ep)
+        resize-fitted z k ek = rw (← eb, s, ne-eqb _ _ y, ← er, ne-eqb _ _ named, ← en, ne-eqb _ _ z, ← ek)
 
 pub ruleset resizing = (performs-replied, performs-by, live, some-asked, held-some, length-fits, resize-unsound, resize-zero, resize-dead, resize-none, resize-fitted, not-true, not-false)

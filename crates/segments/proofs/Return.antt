@@ -1,43 +1,39 @@
 -- Return, exit by exit: the tests that led there, in their order, give the definition's result; then the pages are free, and the queue is
 -- served in the memory that they are free in. Assumes nothing.
 use Prim.Native.Nat.{ℕ}
-use mathlib.Core.Path.{_≡_, sym, _∙_}
+use mathlib.Core.Path.{_≡_}
 use mathlib.Core.Bool.{Bool, true, false}
 use mathlib.Core.List.{List}
 use borrow.Author.Tests.{eq-eqb, ne-eqb, not-true, not-false}
+use Rattle.arith.specs.declared.Layout.{Layout}
 use Rattle.manager.specs.Record.{noInformation, regionOf}
 use Rattle.manager.specs.Result.{Result, Performs, checked, refused}
 use Rattle.manager.proofs.Laws.Result.{performs-by, performs-replied}
-use Rattle.manager.specs.Paged.{changeFrom}
-use Rattle.manager.specs.Region.{pageAt, segments, withSegments, heldAt}
+use Rattle.manager.specs.Region.{layoutOf, heldAt, changed}
 use Rattle.manager.specs.Serve.{serve, fromServed}
 use Rattle.manager.specs.Regions.{returnSegment}
-use Rattle.manager.specs.Sound.{sound, Sited}
+use Rattle.manager.specs.Sound.{sound}
 use Rattle.manager.specs.declared.Manager.{Manager}
 use Rattle.manager.specs.declared.Region.{Region}
 use Rattle.manager.specs.declared.Information.{Information}
 use Rattle.manager.specs.declared.Status.the-variants.{Successful, InvalidId, InvalidAddress, InternalError}
-use Rattle.segments.specs.Lending.{Draws}
+use Rattle.segments.specs.Lending.{Changes}
 use Rattle.segments.specs.Serving.{Serves}
 use Rattle.segments.specs.declared.serving.Granted.{Granted}
 use Rattle.map.specs.Word.{heldWordAt}
-use Rattle.map.proofs.Word.{held-told}
-use Rattle.segments.proofs.Address.{live, held-some}
+use Rattle.segments.proofs.Address.{live, held-is, held-some}
 use Rattle.segments.proofs.Serve.{sound-asking}
 
 -- what is done once the checks have passed
 abbrev Freed : List ℕ → Manager → ℕ → Region → ℕ → Result
-Freed m d id r p = fromServed (serve (withSegments m r (changeFrom p 0 0 (segments m r))) d id)
+Freed m d id r address = fromServed (serve (changed m r address 0) d id)
 
-module _ (m : List ℕ) (d : Manager) (id : ℕ) (r : Region) (er : r ≡ regionOf d id) (p : ℕ) (out : List ℕ) (x : Draws r m out (changeFrom p 0 0 (segments m r))) where
-  pub freed-sited : Sited out (regionOf d id)
-  freed-sited = rw (← er) (x .sited)
-
+module _ (m : List ℕ) (d : Manager) (id : ℕ) (r : Region) (address : ℕ) (out : List ℕ) (x : Changes r address 0 m out) where
   pub freed-served : (last : List ℕ) (g : Granted) → Serves (serve out d id) last g → (i : Information) → i ≡ noInformation
-      → Performs (Freed m d id r p) last (record { status = Successful; value = 0; information = i; notices = g .notices; manager = g .manager })
+      → Performs (Freed m d id r address) last (record { status = Successful; value = 0; information = i; notices = g .notices; manager = g .manager })
   freed-served last g v i ei = rw (← (x .memory)) (record { memory = v .memory; answer = rw (ei, v .manager, v .notices) })
 
-pub ruleset freeing = (freed-sited, freed-served)
+pub ruleset freeing = (freed-served)
 
 -- the checks ahead of it
 module _ (m : List ℕ) (d : Manager) (id address : ℕ) (b : Bool) (eb : b ≡ sound m d) where
@@ -53,16 +49,16 @@ module _ (m : List ℕ) (d : Manager) (id address : ℕ) (b : Bool) (eb : b ≡ 
     unfolding returnSegment checked
     return-dead e = rw (← eb, s, ← er, eq-eqb _ _ e)
 
-    module _ (l : r .name ≡ 0 → ⊥) (n : ℕ) (wn : n ≡ heldWordAt m r address) where
+    module _ (named : r .name ≡ 0 → ⊥) (l : Layout) (el : l ≡ layoutOf r) (n : ℕ) (wn : n ≡ heldWordAt m l (r .page) address) where
       en : n ≡ heldAt m r address
-      en = held-told m d id (sym eb ∙ s) r er l address n wn
+      en = held-is m d b eb s id r er named l el address n wn
 
       pub return-none : n ≡ 0 → Returns ≡ refused m d InvalidAddress
       unfolding returnSegment checked
-      return-none e = rw (← eb, s, ← er, ne-eqb _ _ l, ← en, eq-eqb _ _ e)
+      return-none e = rw (← eb, s, ← er, ne-eqb _ _ named, ← en, eq-eqb _ _ e)
 
-      pub return-freed : (n ≡ 0 → ⊥) → (p : ℕ) → p ≡ pageAt r address → Returns ≡ Freed m d id r p
+      pub return-freed : (n ≡ 0 → ⊥) → Returns ≡ Freed m d id r address
       unfolding returnSegment checked
-      return-freed z p ep = rw (← eb, s, ← er, ne-eqb _ _ l, ← en, ne-eqb _ _ z, ← ep)
+      return-freed z = rw (← eb, s, ← er, ne-eqb _ _ named, ← en, ne-eqb _ _ z)
 
 pub ruleset returning = (performs-replied, performs-by, live, held-some, sound-asking, return-unsound, return-dead, return-none, return-freed, not-true, not-false)

@@ -1,32 +1,26 @@
 -- Serving a queue: what is left to serve from here on gives what serving from the start gives, with the region live and every waiter
 -- asking for something on the way. Assumes nothing.
-use Prim.Native.Nat.{ℕ, zero, suc, _+_, _-_, _*_, _≤_, _<_}
-use mathlib.Core.Path.{_≡_, refl, ap, sym, _∙_}
-use mathlib.Core.Bool.{Bool, true, false, cond, not, _&&_, _||_}
-use mathlib.Core.List.{List, [], _∷_, _++_}
+use Prim.Native.Nat.{ℕ, suc, _+_, _-_, _≤_, _<_}
+use mathlib.Core.Path.{_≡_, refl, sym, _∙_}
+use mathlib.Core.Bool.{Bool, true, false, cond, not, _||_}
+use mathlib.Core.List.{List, [], _∷_}
 use native.Mathlib.Omega.{arith}
 use lib.ListN.{length, getD, set, replicate}
 use lib.Dec.{eqb, leb, ltb}
-use borrow.Author.Tests.{lt-ltb, le-ltb, leb-true, le-leb, eq-eqb, ne-eqb, eqb-true, eqb-false, not-true}
-use Rattle.arith.specs.Round.{pagesFor}
+use borrow.Author.Tests.{lt-ltb, le-ltb, leb-true, not-true}
 use Rattle.arith.proofs.Laws.Round.{pages-some}
-use Rattle.manager.specs.Record.{tasks, noWaiter, noNotice, regionOf, withQueue}
-use Rattle.manager.specs.Result.{pad}
-use Rattle.manager.specs.Lists.{every, indexOf}
+use Rattle.manager.specs.Record.{tasks, noWaiter, noNotice, regionOf}
+use Rattle.manager.specs.Lists.{indexOf}
 use Rattle.manager.proofs.Laws.Lists.{and-first, and-second, every-at}
-use Rattle.manager.specs.Map.{Segment, free, held, total}
-use Rattle.manager.proofs.Laws.Map.{total-append, total-cons}
-use Rattle.manager.specs.Paged.{placeFrom}
-use Rattle.manager.proofs.Laws.Paged.{Hit, hit, take-none}
-use Rattle.manager.specs.Region.{pagesOf, anyHeld, segments, withSegments, addressOf, pagesAsked, placed, taken}
+use Rattle.manager.specs.Region.{anyHeld, addressOf, pagesAsked, placed, taken}
 use Rattle.manager.specs.Queue.{firstOf, waitsFor, dequeue}
 use Rattle.manager.proofs.Laws.Queue.{dequeue-every, sound-every}
 use Rattle.manager.proofs.Laws.Appended.{every-imp, by-case}
 use Rattle.manager.specs.Paged.{onPlace}
-use Rattle.manager.specs.Serve.{Served, quiet, granted, telling, serveUpTo, serve}
-use Rattle.manager.specs.Sound.{sound, soundPlace, soundWaiter, unused, soundQueue}
-use Rattle.manager.specs.Sound.{Laid, Sited}
-use Rattle.manager.proofs.Laws.Sound.{sound-queue, address-in, total-segments, same-segments}
+use Rattle.manager.specs.Serve.{quiet, granted, telling, serveUpTo, serve}
+use Rattle.manager.specs.Sound.{sound, soundPlace, soundWaiter}
+use Rattle.manager.specs.Sound.{Sited}
+use Rattle.manager.proofs.Laws.Sound.{sound-queue}
 use Rattle.manager.specs.declared.Manager.{Manager}
 use Rattle.manager.specs.declared.Region.{Region}
 use Rattle.manager.specs.declared.Waiter.{Waiter}
@@ -36,26 +30,10 @@ use Rattle.manager.specs.declared.Place.the-variants.{At, Nowhere}
 use Rattle.objects.proofs.Laws.{unmapped}
 use Rattle.queue.proofs.Fill.{Filling, fill-start, fill-put, fill-end}
 use Rattle.segments.specs.Lending.{Takes}
+use Rattle.segments.proofs.Lend.{taken-address, none-taken}
 use Rattle.segments.specs.Serving.{asks, Asking, onTurn, pagesFirst, turnOf, Turns, Serves}
-use Rattle.segments.specs.declared.serving.Granted.{Granted}
 use Rattle.segments.specs.declared.serving.Turn.{Turn}
 use Rattle.segments.specs.declared.serving.Turn.the-variants.{Stop, Serve}
-
--- ---- what is found, and where it lies
-
-module _ (m : List ℕ) (r : Region) (s : Sited m r) (k : ℕ) where
-  pub placed-in : (i : ℕ) → placed m r k ≡ At i → i + k ≤ pagesOf r
-  placed-in i e =
-      let h = hit k 0 (segments m r) i e in
-      let t : total (segments m r) ≡ total (h .pre) + (h .pages + total (h .post)) = ap total (h .is) ∙ total-append (h .pre) (free (h .pages) ∷ h .post) ∙ ap (λ (n : ℕ). total (h .pre) + n) (total-cons (free (h .pages)) (h .post)) in
-      omega (arith, total-segments m r s, h .room, h .page)
-
-  pub placed-address : (i : ℕ) → placed m r k ≡ At i → addressOf r i ≤ 65536
-  placed-address i e = omega (arith, address-in m r (s .laid) i k (placed-in i e))
-
-  -- nothing is taken where nothing is found
-  pub none-taken : placed m r k ≡ Nowhere → taken m r k ≡ m
-  none-taken e = ap (withSegments m r) (take-none k (segments m r) e) ∙ same-segments m r s
 
 -- ---- the first waiter asks for a page
 
@@ -108,17 +86,14 @@ same-region d i id = refl
 
 -- ---- one turn
 
-module _ (m : List ℕ) (d : Manager) (id : ℕ) (s : Sited m (regionOf d id)) (r : Region) (er : r ≡ regionOf d id) (i : ℕ) (q : i ≡ firstOf id (d .waiters)) where
+module _ (m : List ℕ) (d : Manager) (id : ℕ) (r : Region) (s : Sited m r) (er : r ≡ regionOf d id) (i : ℕ) (q : i ≡ firstOf id (d .waiters)) where
   -- nobody waits
-  pub turn-none : tasks ≤ i → Turns m d id m Stop
+  pub turn-none : tasks ≤ i → Turns m d id r m Stop
   unfolding turnOf
   turn-none h = record { turn = rw (← q, le-ltb i tasks h); memory = refl; sited = s }
 
-  pub turn-live : Sited m r
-  turn-live = rw er s
-
   pub turn-asks : Asking d → i < tasks → length (d .waiters) ≡ tasks → (k : ℕ) → k ≡ pagesAsked r (getD (d .waiters) i noWaiter .size) → 1 ≤ k
-  turn-asks a h l k e = asked-some m r d id i k turn-live a q (omega arith) e
+  turn-asks a h l k e = asked-some m r d id i k s a q (omega arith) e
 
   module _ (h : i < tasks) (k : ℕ) (ek : k ≡ pagesAsked r (getD (d .waiters) i noWaiter .size)) (out : List ℕ) (p : Place) (t : Takes r k m out p) where
     pages-first : k ≡ pagesFirst d id
@@ -128,28 +103,25 @@ module _ (m : List ℕ) (d : Manager) (id : ℕ) (s : Sited m (regionOf d id)) (
     placed-is = t .place ∙ rw (er, pages-first)
 
     -- the first finds no room
-    pub turn-no : p ≡ Nowhere → Turns m d id out Stop
+    pub turn-no : p ≡ Nowhere → Turns m d id r out Stop
     unfolding turnOf
     turn-no e =
         record {
           turn = rw (← placed-is, e, ← q, lt-ltb i tasks h);
-          memory = t .memory ∙ none-taken m r turn-live k (sym (t .place) ∙ e);
-          sited = rw (← er) (t .sited);
+          memory = none-taken m r s k out p t e;
+          sited = t .sited;
         }
 
-    pub turn-address : (j : ℕ) → p ≡ At j → addressOf r j ≤ 65536
-    turn-address j e = placed-address m r turn-live k j (sym (t .place) ∙ e)
-
-    pub turn-yes : (j : ℕ) → p ≡ At j → (a : ℕ) → a ≡ addressOf r j → Turns m d id out (Serve i (granted (getD (d .waiters) i noWaiter) a))
+    pub turn-yes : (j : ℕ) → p ≡ At j → (a : ℕ) → a ≡ addressOf r j → Turns m d id r out (Serve i (granted (getD (d .waiters) i noWaiter) a))
     unfolding turnOf
     turn-yes j e a ea =
         record {
           turn = rw (← placed-is, e, ← q, lt-ltb i tasks h, ea, er);
           memory = t .memory ∙ rw (er, pages-first);
-          sited = rw (← er) (t .sited);
+          sited = t .sited;
         }
 
-pub ruleset turning = (unmapped, turn-none, turn-live, turn-asks, turn-no, turn-address, turn-yes)
+pub ruleset turning = (unmapped, turn-none, turn-asks, turn-no, taken-address, turn-yes)
 
 -- ---- one turn of the definition, by what it comes to
 
@@ -169,21 +141,22 @@ module _ (f : ℕ) (m : List ℕ) (d : Manager) (id : ℕ) where
 -- ---- the loop
 
 -- what is left to serve from here gives what serving from the start gives
-pub record Serving (m₀ : List ℕ) (id : ℕ) (d₀ : Manager) (m : List ℕ) (d : Manager) (ns : List Notice) (n : ℕ) : Type 0 where
+pub record Serving (m₀ : List ℕ) (id : ℕ) (r : Region) (d₀ : Manager) (m : List ℕ) (d : Manager) (ns : List Notice) (n : ℕ) : Type 0 where
   pub within : n ≤ tasks
   pub size : length m ≡ length m₀
-  pub sited : Sited m (regionOf d id)
+  pub sited : Sited m r
+  pub region : r ≡ regionOf d id
   pub asking : Asking d
   pub memory : serveUpTo (tasks - n) m d id .memory ≡ serve m₀ d₀ id .memory
   pub manager : serveUpTo (tasks - n) m d id .manager ≡ serve m₀ d₀ id .manager
   pub told : Filling noNotice tasks ns n (serveUpTo (tasks - n) m d id .notices) (serve m₀ d₀ id .notices)
 
-pub serve-start : (m : List ℕ) (id : ℕ) (d : Manager) (ns : List Notice) → Sited m (regionOf d id) → Asking d → ns ≡ replicate tasks noNotice → Serving m id d m d ns 0
+pub serve-start : (m : List ℕ) (id : ℕ) (r : Region) (d : Manager) (ns : List Notice) → Sited m r → r ≡ regionOf d id → Asking d → ns ≡ replicate tasks noNotice → Serving m id r d m d ns 0
 unfolding serve
-serve-start m id d ns s a f =
-    record { within = omega arith; size = refl; sited = s; asking = a; memory = refl; manager = refl; told = rw f (fill-start noNotice tasks (serveUpTo tasks m d id .notices)) }
+serve-start m id r d ns s er a f =
+    record { within = omega arith; size = refl; sited = s; region = er; asking = a; memory = refl; manager = refl; told = rw f (fill-start noNotice tasks (serveUpTo tasks m d id .notices)) }
 
-module _ (m₀ : List ℕ) (id : ℕ) (d₀ : Manager) (m : List ℕ) (d : Manager) (ns : List Notice) (n : ℕ) (v : Serving m₀ id d₀ m d ns n) where
+module _ (m₀ : List ℕ) (id : ℕ) (r : Region) (d₀ : Manager) (m : List ℕ) (d : Manager) (ns : List Notice) (n : ℕ) (v : Serving m₀ id r d₀ m d ns n) where
   abbrev Done : List ℕ → Type 0
   Done out = Serves (serve m₀ d₀ id) out (record { manager = d; notices = ns })
 
@@ -198,14 +171,14 @@ module _ (m₀ : List ℕ) (id : ℕ) (d₀ : Manager) (m : List ℕ) (d : Manag
   unfolding serveUpTo
   serve-full h = let z : tasks - n ≡ 0 = omega arith in serve-finish m refl (rw z)
 
-  module _ (lt : n < tasks) (out : List ℕ) (t : Turn) (u : Turns m d id out t) where
+  module _ (lt : n < tasks) (out : List ℕ) (t : Turn) (u : Turns m d id r out t) where
     pub serve-stop : t ≡ Stop → Done out
     serve-stop e =
         let z : tasks - n ≡ suc (tasks - (n + 1)) = omega arith in
         serve-finish out (u .memory ∙ rw e) (rw z (up-turn (tasks - (n + 1)) m d id ∙ rw (← (u .turn), e)))
 
     pub serve-more : (i : ℕ) (notice : Notice) → t ≡ Serve i notice → length out ≡ length m → (d′ : Manager) → d′ ≡ dequeue d i
-        → Serving m₀ id d₀ out d′ (set ns n notice) (n + 1)
+        → Serving m₀ id r d₀ out d′ (set ns n notice) (n + 1)
     serve-more i notice e len d′ x =
         let z : tasks - n ≡ suc (tasks - (n + 1)) = omega arith in
         let o : out ≡ taken m (regionOf d id) (pagesFirst d id) = u .memory ∙ rw e in
@@ -213,7 +186,8 @@ module _ (m₀ : List ℕ) (id : ℕ) (d₀ : Manager) (m : List ℕ) (d : Manag
         record {
           within = omega arith;
           size = len ∙ v .size;
-          sited = rw (x, same-region d i id) (u .sited);
+          sited = u .sited;
+          region = v .region ∙ rw (x, same-region d i id);
           asking = rw x (asking-less d i (v .asking));
           memory = rw y at (v .memory);
           manager = rw y at (v .manager);

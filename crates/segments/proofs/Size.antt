@@ -1,21 +1,21 @@
 -- Size, exit by exit: the tests that led there, in their order, give the definition's result. Assumes nothing.
 use Prim.Native.Nat.{ℕ, _*_}
-use mathlib.Core.Path.{_≡_, sym, _∙_}
+use mathlib.Core.Path.{_≡_}
 use mathlib.Core.Bool.{Bool, true, false}
 use mathlib.Core.List.{List}
 use borrow.Author.Tests.{eq-eqb, ne-eqb, not-true, not-false}
+use Rattle.arith.specs.declared.Layout.{Layout}
 use Rattle.manager.specs.Record.{regionOf}
 use Rattle.manager.specs.Result.{Result, checked, refused, done}
 use Rattle.manager.proofs.Laws.Result.{performs-replied}
-use Rattle.manager.specs.Region.{heldAt}
+use Rattle.manager.specs.Region.{layoutOf, heldAt}
 use Rattle.manager.specs.Regions.{segmentSize}
 use Rattle.manager.specs.Sound.{sound}
 use Rattle.manager.specs.declared.Manager.{Manager}
 use Rattle.manager.specs.declared.Region.{Region}
 use Rattle.manager.specs.declared.Status.the-variants.{InvalidId, InvalidAddress, InternalError}
 use Rattle.map.specs.Word.{heldWordAt}
-use Rattle.map.proofs.Word.{held-told}
-use Rattle.segments.proofs.Address.{length-fits}
+use Rattle.segments.proofs.Address.{held-is, length-fits}
 
 module _ (m : List ℕ) (d : Manager) (id address : ℕ) (b : Bool) (eb : b ≡ sound m d) where
   abbrev Sizes : Result
@@ -30,16 +30,16 @@ module _ (m : List ℕ) (d : Manager) (id address : ℕ) (b : Bool) (eb : b ≡ 
     unfolding segmentSize checked
     size-dead e = rw (← eb, s, ← er, eq-eqb _ _ e)
 
-    module _ (l : r .name ≡ 0 → ⊥) (n : ℕ) (wn : n ≡ heldWordAt m r address) where
+    module _ (named : r .name ≡ 0 → ⊥) (l : Layout) (el : l ≡ layoutOf r) (n : ℕ) (wn : n ≡ heldWordAt m l (r .page) address) where
       en : n ≡ heldAt m r address
-      en = held-told m d id (sym eb ∙ s) r er l address n wn
+      en = held-is m d b eb s id r er named l el address n wn
 
       pub size-none : n ≡ 0 → Sizes ≡ refused m d InvalidAddress
       unfolding segmentSize checked
-      size-none e = rw (← eb, s, ← er, ne-eqb _ _ l, ← en, eq-eqb _ _ e)
+      size-none e = rw (← eb, s, ← er, ne-eqb _ _ named, ← en, eq-eqb _ _ e)
 
       pub size-held : (n ≡ 0 → ⊥) → Sizes ≡ done m d (n * r .page)
       unfolding segmentSize checked
-      size-held e = rw (← eb, s, ← er, ne-eqb _ _ l, ← en, ne-eqb _ _ e)
+      size-held e = rw (← eb, s, ← er, ne-eqb _ _ named, ← en, ne-eqb _ _ e)
 
 pub ruleset sizing = (performs-replied, length-fits, size-unsound, size-dead, size-none, size-held, not-true, not-false)

@@ -23,7 +23,7 @@ draw-free (suc m) s w = ap draw (free-front (suc m) s w (omega arith)) ∙ draw-
 pub record Took (k i : ℕ) (ws : List ℕ) : Type 0 where
   pub room : k ≤ getD ws i 0 / 2
   pub within : i + getD ws i 0 / 2 ≤ length ws
-  pub held : holding i (getD ws i 0 / 2) k ws ≡ draw (allocate paged k (decode ws))
+  pub held : holding i (getD ws i 0 / 2) k ws ≡ draw (allocate paged k 0 (decode ws))
 
 pub took : (k i : ℕ) (ws : List ℕ) → soundMap apart ws ≡ true → 1 ≤ k → placeFrom k 0 (decode ws) ≡ At i → Took k i ws
 took k i ws ok o e =
@@ -35,8 +35,8 @@ took k i ws ok o e =
     let l : length p ≡ i = omega (arith, length-draw (h .pre), h .page) in
     let x : ws ≡ p ++ (wordsOf n 0 ++ t) = sym (redraw ws (sound-tiled apart ws ok)) ∙ ap draw (h .is) ∙ draw-append (h .pre) (free n ∷ h .post) ∙ ap (λ (u : List ℕ). p ++ u) (draw-cons (free n) (h .post)) in
     let v : getD ws i 0 / 2 ≡ n = omega (arith, word-at p t ws n 0 i x l (omega (arith, h .room))) in
-    let y : draw (allocate paged k (decode ws)) ≡ p ++ (wordsOf k 1 ++ (wordsOf (n - k) 0 ++ t)) =
-    ap draw (fit-is k (decode ws) ∙ h .gives)
+    let y : draw (allocate paged k 0 (decode ws)) ≡ p ++ (wordsOf k 1 ++ (wordsOf (n - k) 0 ++ t)) =
+    ap draw (fit-is k 0 (decode ws) ∙ h .gives)
     ∙ draw-append (h .pre) (held k ∷ free+ (n - k) (h .post))
     ∙ ap (λ (u : List ℕ). p ++ u) (draw-cons (held k) (free+ (n - k) (h .post)) ∙ ap (λ (u : List ℕ). wordsOf k 1 ++ u) (draw-free (n - k) (h .post) w)) in
     record {

@@ -14,6 +14,7 @@ use Rattle.manager.specs.Paged.{onPlace}
 use Rattle.manager.specs.Serve.{granted, Served}
 use Rattle.manager.specs.Sound.{Sited}
 use Rattle.manager.specs.declared.Manager.{Manager}
+use Rattle.manager.specs.declared.Region.{Region}
 use Rattle.manager.specs.declared.Waiter.{Waiter}
 use Rattle.manager.specs.declared.Notice.{Notice}
 use Rattle.segments.specs.declared.serving.Turn.{Turn}
@@ -43,10 +44,10 @@ turnOf m d id =
     (onPlace (placed m (regionOf d id) (pagesFirst d id)) (λ p. Serve i (granted (getD (d .waiters) i noWaiter) (addressOf (regionOf d id) p))) Stop)
     Stop
 
-pub record Turns (m : List ℕ) (d : Manager) (id : ℕ) (out : List ℕ) (t : Turn) : Type 0 where
+pub record Turns (m : List ℕ) (d : Manager) (id : ℕ) (r : Region) (out : List ℕ) (t : Turn) : Type 0 where
   pub turn : t ≡ turnOf m d id
   pub memory : out ≡ onTurn t (λ i n. taken m (regionOf d id) (pagesFirst d id)) m
-  pub sited : Sited out (regionOf d id)
+  pub sited : Sited out r
 
 -- the memory, the record and the notices are those of the definition
 pub record Serves (s : Served) (m : List ℕ) (g : Granted) : Type 0 where

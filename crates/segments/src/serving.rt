@@ -37,7 +37,7 @@ pub(crate) enum Turn {
 // The first waiter of the region is tried.
 fn try_first(mem: &mut [u32], d: Manager, id: u32, r: Region, l: Layout) -> Turn
     requires { ⌜ (Sited (now mem) r) × (r ≡ regionOf d id) × (l ≡ layoutOf r) × (Asking d) ⌝ }
-    ensures { λ t. ⌜ Turns (now (mem .entry)) d id (now (mem .exit)) t ⌝ }
+    ensures { λ t. ⌜ Turns (now (mem .entry)) d id r (now (mem .exit)) t ⌝ }
 {
     let i = queue::first_of(d, id);
     if Manager::TASKS <= i {

@@ -1,6 +1,6 @@
 -- `resize_pages` meets its contract: the map's part is lent, and what is put back is drawn in its place. Assumes nothing.
-use Rattle.segments.proofs.Lend.{drawing}
 use borrow.Author.Needs.{needs}
+use Rattle.segments.proofs.Lend.{drawing}
 use Rattle.segments.proofs.lending.resize_pages.Statement.{statement}
 use Rattle.segments.proofs.lending.resize_pages.Tie as tie
 
@@ -8,14 +8,13 @@ pub resize-pages-spec : {M : Type 1} → statement M
 resize-pages-spec =
     tie.close
     (tie.spec
+    (λ c. search needs)
+    (λ c. search (needs, drawing))
+    (λ c κs. search needs)
+    (λ c. search (needs, drawing))
+    (λ c. search needs)
+    (λ c. search needs)
+    (λ c. search (needs, drawing))
     (λ c κs. search (needs, drawing))
-    (λ c κs. search (needs, drawing))
-    (λ c. search (needs, drawing))
-    (λ c. search (needs, drawing))
-    (λ c. search (needs, drawing))
-    (λ c. search (needs, drawing))
-    (λ c. search (needs, drawing))
-    (λ c. search (needs, drawing))
-    (λ c κs. search (needs, drawing))
-    (λ c. search (needs, drawing))
+    (λ c. search needs)
     (λ c. search (needs, drawing)))

@@ -7,10 +7,10 @@ use Rattle.segments.proofs.serving.serve.Statement.{statement}
 use Rattle.segments.proofs.serving.serve.Tie as tie
 
 abbrev Inv-loop : tie.InvT-loop
-Inv-loop mem₀ id e₀ told₀ n₀ mem e told n = Serving mem₀ id e₀ mem e told n
+Inv-loop mem₀ id r l e₀ told₀ n₀ mem e told n = Serving mem₀ id r e₀ mem e told n
 
 abbrev μ-loop : tie.MeasureT-loop
-μ-loop mem₀ id e₀ told₀ n₀ mem e told n = tasks - n
+μ-loop mem₀ id r l e₀ told₀ n₀ mem e told n = tasks - n
 
 pub serve-spec : {M : Type 1} → statement M
 serve-spec =
