@@ -14,15 +14,6 @@ pub fn tick(mem: &[u32], d: Manager) -> Answer
     if !soundness::is_sound(mem, d) {
         return reply::reply(d, Status::InternalError, 0);
     }
-    let t = queue::after_tick(d);
-    let manager = t.manager;
-    let notices = t.notices;
-    let information = reply::no_information();
-    Answer {
-        status: Status::Successful,
-        value: 0,
-        information,
-        notices,
-        manager,
-    }
+    let n = queue::after_tick(d);
+    reply::with_notices(n, 0)
 }

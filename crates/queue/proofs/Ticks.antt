@@ -12,7 +12,7 @@ use Rattle.manager.specs.Record.{tasks, noWaiter, noNotice, withQueue}
 use Rattle.manager.proofs.Laws.Lists.{rest-cons}
 use Rattle.manager.specs.Queue.{staying, leaving, aged, expired, afterTick}
 use Rattle.objects.proofs.Laws.{unmapped}
-use Rattle.queue.specs.Tick.{Ticks}
+use Rattle.reply.specs.Notices.{Notices}
 use Rattle.queue.proofs.Fill.{Filling, fill-start, fill-put, fill-end}
 
 -- after i places of the queue ws: k stay, in b, and n leave, with the notices ns
@@ -51,12 +51,12 @@ module _ (ws b : List Waiter) (ns : List Notice) (k n i : ℕ) (t : Ticking ws b
         told = rw (rest-cons ws i noWaiter h', ne-eqb _ _ e) at (t .told);
       }
 
-pub tick-start : (ws : List Waiter) (u : Waiter) → length ws ≡ tasks → u ≡ noWaiter → Ticking ws (replicate tasks u) (replicate tasks noNotice) 0 0 0
-tick-start ws u h e =
-    record { within = omega arith; k-in = omega arith; n-in = omega arith; size = h; kept = rw e (fill-start _ _ _); told = fill-start _ _ _ }
+pub tick-start : (ws : List Waiter) (u : Waiter) (ns : List Notice) → length ws ≡ tasks → u ≡ noWaiter → ns ≡ replicate tasks noNotice → Ticking ws (replicate tasks u) ns 0 0 0
+tick-start ws u ns h e f =
+    record { within = omega arith; k-in = omega arith; n-in = omega arith; size = h; kept = rw e (fill-start _ _ _); told = rw f (fill-start _ _ _) }
 
 pub tick-end : (d : Manager) (b : List Waiter) (ns : List Notice) (k n i : ℕ) → Ticking (d .waiters) b ns k n i → tasks ≤ i
-    → Ticks d (record { manager = withQueue d b; notices = ns })
+    → Notices (afterTick d) (leaving (d .waiters)) (record { manager = withQueue d b; notices = ns })
 unfolding afterTick staying leaving
 tick-end d b ns k n i t h =
     let g : drop i (d .waiters) ≡ [] = drop-of-length-le (d .waiters) {i = i} (omega (arith, t .size)) in

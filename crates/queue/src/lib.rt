@@ -6,13 +6,14 @@ use manager::Order;
 use manager::Status;
 use manager::Waiter;
 use objects::region_of;
+use reply::Noticed;
 ghost use mathlib.Core.Path.{_≡_};
 ghost use mathlib.Core.List.{_++_};
 ghost use lib.ListN.{take, drop};
 ghost use Rattle.manager.specs.Lists.{indexOf};
-ghost use Rattle.manager.specs.Queue.{goesBefore, push, insert, removeAt, enqueue, dequeue, firstOf, waiting, aged, expired};
+ghost use Rattle.manager.specs.Queue.{goesBefore, push, insert, removeAt, enqueue, dequeue, firstOf, waiting, aged, expired, leaving, afterTick};
 ghost use Rattle.manager.specs.Record.{noWaiter};
-ghost use Rattle.queue.specs.Tick.{Ticks};
+ghost use Rattle.reply.specs.Notices.{Notices};
 
 // Whether a waiter w of a region of order o goes before x: x is an unused place, of a later region, or less urgent.
 pub fn goes_before(o: Order, w: Waiter, x: Waiter) -> bool
@@ -155,12 +156,6 @@ pub fn waiting(d: Manager, task: u32) -> bool
     false
 }
 
-// What a tick leaves: the record, and the notices of those whose time ran out, in the order of the queue.
-pub struct Ticked {
-    pub manager: Manager,
-    pub notices: [Notice; Manager::TASKS],
-}
-
 // A waiter with a tick less; without a limit it has none to lose.
 fn aged_by_one(w: Waiter) -> Waiter
     ensures { λ r. ⌜ r ≡ aged w ⌝ }
@@ -185,19 +180,14 @@ fn expired(w: Waiter) -> Notice
     }
 }
 
-// A tick passes: each waiter with ticks left loses one, and one that has none left then leaves with a notice.
-pub fn after_tick(d: Manager) -> Ticked
-    ensures { λ r. ⌜ Ticks d r ⌝ }
+// A tick passes: each waiter with ticks left loses one, and one that has none left then leaves with a notice, in the order of the queue.
+pub fn after_tick(d: Manager) -> Noticed
+    ensures { λ n. ⌜ Notices (afterTick d) (leaving (d .waiters)) n ⌝ }
 {
     let ws = d.waiters;
     let u = unused();
-    let none = Notice {
-        task: 0,
-        status: Status::Successful,
-        address: 0,
-    };
     let mut kept = [u; Manager::TASKS];
-    let mut told = [none; Manager::TASKS];
+    let mut told = reply::no_notices();
     let mut k: usize = 0;
     let mut n: usize = 0;
     let mut i: usize = 0;
@@ -216,7 +206,7 @@ pub fn after_tick(d: Manager) -> Ticked
     }
     let mut e = d;
     e.waiters = kept;
-    Ticked {
+    Noticed {
         manager: e,
         notices: told,
     }

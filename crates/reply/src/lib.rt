@@ -1,4 +1,4 @@
-// Answers without notices and information.
+// Answers without information: without notices, and with those that serving or a tick leaves.
 use manager::Answer;
 use manager::Information;
 use manager::Manager;
@@ -9,6 +9,13 @@ ghost use mathlib.Core.List.{[]};
 ghost use lib.ListN.{replicate};
 ghost use Rattle.manager.specs.Record.{tasks, noNotice, noInformation};
 ghost use Rattle.manager.specs.Result.{answerOf, replied};
+ghost use Rattle.reply.specs.Notices.{answerWith};
+
+// The manager record and the notices that serving or a tick leaves: unused places are zero.
+pub struct Noticed {
+    pub manager: Manager,
+    pub notices: [Notice; Manager::TASKS],
+}
 
 // No notices: unused places are zero.
 pub fn no_notices() -> [Notice; Manager::TASKS]
@@ -48,5 +55,21 @@ pub fn reply(d: Manager, status: Status, value: u32) -> Answer
         information,
         notices,
         manager: d,
+    }
+}
+
+// The successful answer with a record and its notices, and a value.
+pub fn with_notices(n: Noticed, value: u32) -> Answer
+    ensures { λ a. ⌜ a ≡ answerWith n value ⌝ }
+{
+    let information = no_information();
+    let notices = n.notices;
+    let manager = n.manager;
+    Answer {
+        status: Status::Successful,
+        value,
+        information,
+        notices,
+        manager,
     }
 }

@@ -6,7 +6,7 @@ use mathlib.Core.Bool.{Bool, true, false}
 use mathlib.Core.List.{List}
 use borrow.Author.Tests.{eq-eqb, ne-eqb, not-true, not-false}
 use Rattle.arith.specs.declared.Layout.{Layout}
-use Rattle.manager.specs.Record.{noInformation, regionOf}
+use Rattle.manager.specs.Record.{regionOf}
 use Rattle.manager.specs.Result.{Result, Performs, checked, refused}
 use Rattle.manager.proofs.Laws.Result.{performs-by, performs-replied}
 use Rattle.manager.specs.Region.{layoutOf, heldAt, changed}
@@ -15,11 +15,13 @@ use Rattle.manager.specs.Regions.{returnSegment}
 use Rattle.manager.specs.Sound.{sound}
 use Rattle.manager.specs.declared.Manager.{Manager}
 use Rattle.manager.specs.declared.Region.{Region}
-use Rattle.manager.specs.declared.Information.{Information}
-use Rattle.manager.specs.declared.Status.the-variants.{Successful, InvalidId, InvalidAddress, InternalError}
+use Rattle.manager.specs.declared.Answer.{Answer}
+use Rattle.manager.specs.declared.Status.the-variants.{InvalidId, InvalidAddress, InternalError}
 use Rattle.segments.specs.Lending.{Changes}
 use Rattle.segments.specs.Serving.{Serves}
-use Rattle.segments.specs.declared.serving.Granted.{Granted}
+use Rattle.reply.specs.Notices.{answerWith}
+use Rattle.reply.specs.declared.Noticed.{Noticed}
+use Rattle.reply.proofs.Laws.{performs-noticed}
 use Rattle.map.specs.Word.{heldWordAt}
 use Rattle.segments.proofs.Address.{live, held-is, held-some}
 use Rattle.segments.proofs.Serve.{sound-asking}
@@ -29,9 +31,8 @@ abbrev Freed : List ℕ → Manager → ℕ → Region → ℕ → Result
 Freed m d id r address = fromServed (serve (changed m r address 0) d id)
 
 module _ (m : List ℕ) (d : Manager) (id : ℕ) (r : Region) (address : ℕ) (out : List ℕ) (x : Changes r address 0 m out) where
-  pub freed-served : (last : List ℕ) (g : Granted) → Serves (serve out d id) last g → (i : Information) → i ≡ noInformation
-      → Performs (Freed m d id r address) last (record { status = Successful; value = 0; information = i; notices = g .notices; manager = g .manager })
-  freed-served last g v i ei = rw (← (x .memory)) (record { memory = v .memory; answer = rw (ei, v .manager, v .notices) })
+  pub freed-served : (last : List ℕ) (n : Noticed) → Serves (serve out d id) last n → (a : Answer) → a ≡ answerWith n 0 → Performs (Freed m d id r address) last a
+  freed-served last n v a e = rw (← (x .memory), ← (v .memory)) (performs-noticed last (serve out d id .manager) (serve out d id .notices) n (v .told) 0 a e)
 
 pub ruleset freeing = (freed-served)
 

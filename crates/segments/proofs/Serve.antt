@@ -165,7 +165,7 @@ module _ (m₀ : List ℕ) (id : ℕ) (r : Region) (d₀ : Manager) (m : List �
       let a : m ≡ serve m₀ d₀ id .memory = rw e at (v .memory) in
       let b : d ≡ serve m₀ d₀ id .manager = rw e at (v .manager) in
       let t : Filling noNotice tasks ns n [] (serve m₀ d₀ id .notices) = rw e at (v .told) in
-      record { memory = x ∙ a; manager = b; notices = fill-end noNotice tasks ns n (serve m₀ d₀ id .notices) t }
+      record { memory = x ∙ a; told = record { manager = b; notices = fill-end noNotice tasks ns n (serve m₀ d₀ id .notices) t } }
 
   pub serve-full : tasks ≤ n → Done m
   unfolding serveUpTo

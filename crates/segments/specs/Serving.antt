@@ -5,8 +5,7 @@ use mathlib.Core.Bool.{Bool, true, cond, _||_}
 use mathlib.Core.List.{List}
 use lib.Dec.{eqb, leb, ltb}
 use lib.ListN.{getD}
-use Rattle.manager.specs.Record.{tasks, noWaiter, noNotice, regionOf}
-use Rattle.manager.specs.Result.{pad}
+use Rattle.manager.specs.Record.{tasks, noWaiter, regionOf}
 use Rattle.manager.specs.Lists.{every}
 use Rattle.manager.specs.Region.{addressOf, pagesAsked, placed, taken}
 use Rattle.manager.specs.Queue.{firstOf}
@@ -17,9 +16,10 @@ use Rattle.manager.specs.declared.Manager.{Manager}
 use Rattle.manager.specs.declared.Region.{Region}
 use Rattle.manager.specs.declared.Waiter.{Waiter}
 use Rattle.manager.specs.declared.Notice.{Notice}
+use Rattle.reply.specs.Notices.{Notices}
+use Rattle.reply.specs.declared.Noticed.{Noticed}
 use Rattle.segments.specs.declared.serving.Turn.{Turn}
 use Rattle.segments.specs.declared.serving.Turn.the-variants.{Stop, Serve}
-use Rattle.segments.specs.declared.serving.Granted.{Granted}
 
 -- a waiter asks for something
 abbrev pub asks : Waiter → Bool
@@ -50,7 +50,6 @@ pub record Turns (m : List ℕ) (d : Manager) (id : ℕ) (r : Region) (out : Lis
   pub sited : Sited out r
 
 -- the memory, the record and the notices are those of the definition
-pub record Serves (s : Served) (m : List ℕ) (g : Granted) : Type 0 where
+pub record Serves (s : Served) (m : List ℕ) (n : Noticed) : Type 0 where
   pub memory : m ≡ s .memory
-  pub manager : g .manager ≡ s .manager
-  pub notices : g .notices ≡ pad tasks noNotice (s .notices)
+  pub told : Notices (s .manager) (s .notices) n

@@ -61,17 +61,8 @@ pub(crate) fn release_and_serve(
     ensures { λ a. ⌜ Performs (fromServed (serve (changed (now (mem .entry)) r address 0) d id)) (now (mem .exit)) a ⌝ }
 {
     lending::release_pages(mem, r, l, address);
-    let g = serving::serve(mem, d, id, r, l);
-    let manager = g.manager;
-    let notices = g.notices;
-    let information = reply::no_information();
-    Answer {
-        status: Status::Successful,
-        value: 0,
-        information,
-        notices,
-        manager,
-    }
+    let n = serving::serve(mem, d, id, r, l);
+    reply::with_notices(n, 0)
 }
 
 // The held segment at an address has k pages from now on, where it can have so many.

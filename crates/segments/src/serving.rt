@@ -6,6 +6,7 @@ use manager::Notice;
 use manager::Place;
 use manager::Region;
 use manager::Status;
+use reply::Noticed;
 ghost use mathlib.Core.Path.{_≡_};
 ghost use Prim.Native.Nat.{ℕ, _≤_};
 ghost use Rattle.manager.specs.Record.{regionOf};
@@ -13,12 +14,6 @@ ghost use Rattle.manager.specs.Region.{layoutOf, addressOf};
 ghost use Rattle.manager.specs.Serve.{serve};
 ghost use Rattle.manager.specs.Sound.{Sited};
 ghost use Rattle.segments.specs.Serving.{Asking, Serves, Turns};
-
-// The manager record and the notices after serving.
-pub(crate) struct Granted {
-    pub manager: Manager,
-    pub notices: [Notice; Manager::TASKS],
-}
 
 // The address of page p of the region.
 pub(crate) fn address_of(r: Region, p: usize) -> u32
@@ -59,9 +54,9 @@ fn try_first(mem: &mut [u32], d: Manager, id: u32, r: Region, l: Layout) -> Turn
 }
 
 // While the first waiter of the region finds room, it leaves the queue with its segment.
-pub(crate) fn serve(mem: &mut [u32], d: Manager, id: u32, r: Region, l: Layout) -> Granted
+pub(crate) fn serve(mem: &mut [u32], d: Manager, id: u32, r: Region, l: Layout) -> Noticed
     requires { ⌜ (Sited (now mem) r) × (r ≡ regionOf d id) × (l ≡ layoutOf r) × (Asking d) ⌝ }
-    ensures { λ g. ⌜ Serves (serve (now (mem .entry)) d id) (now (mem .exit)) g ⌝ }
+    ensures { λ n. ⌜ Serves (serve (now (mem .entry)) d id) (now (mem .exit)) n ⌝ }
 {
     let mut e = d;
     let mut told = reply::no_notices();
@@ -78,7 +73,7 @@ pub(crate) fn serve(mem: &mut [u32], d: Manager, id: u32, r: Region, l: Layout) 
             }
         }
     }
-    Granted {
+    Noticed {
         manager: e,
         notices: told,
     }

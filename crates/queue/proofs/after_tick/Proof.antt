@@ -19,6 +19,7 @@ after-tick-spec =
     Inv-loop
     μ-loop
     (λ c κs. search (needs, ticking))
+    (λ c κs. search (needs, ticking))
     (λ c. search (needs, ticking))
     (λ c. search (needs, ticking))
     (λ c. search (needs, ticking))
