@@ -144,4 +144,5 @@ kept-done c m t u m′ d n e v s =
     record {
       inv = subst (λ (r : Receipts). Inv m′ d r) (sym f) v;
       stays = subst (λ (r : Receipts). Stays t r m m′) (sym f) s;
+      undamaged = refl;
     }
