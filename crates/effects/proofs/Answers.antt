@@ -1,17 +1,16 @@
 -- ONE LAW FOR ALL DIRECTIVES: unsound records are answered 25, else one of the checks refuses, else the directive acts. The first two
 -- leave the memory and the record as they were, so that of a directive only its action is left to show. Assumes nothing.
 use mathlib.Core.Path.{_≡_, refl, sym, _∙_, subst}
-use mathlib.Core.Bool.{Bool, true, false, cond, not, _&&_, false≢true}
-use mathlib.Core.List.{List, [], _∷_}
+use mathlib.Core.Bool.{Bool, true, false, not, _&&_, false≢true}
+use mathlib.Core.List.{List}
 use mathlib.Core.Logic.{_↔_}
 use Prim.Native.Nat.{ℕ}
 use lib.Dec.{eqb}
 use borrow.Author.Tests.{eqb-true, eq-eqb, not-true}
 use Rattle.manager.specs.Lists.{every, any}
 use Rattle.manager.proofs.Laws.Lists.{and-first, and-second}
-use Rattle.manager.proofs.Laws.Appended.{by-case}
 use Rattle.manager.specs.Status.{numberOf}
-use Rattle.manager.specs.Result.{Result, Check, checked, replied, refused}
+use Rattle.manager.specs.Result.{Result, Check, replied, refused}
 use Rattle.manager.specs.Regions.{answered}
 use Rattle.manager.specs.Sound.{sound}
 use Rattle.manager.proofs.Laws.Result.{Passed, by-answer}
