@@ -20,9 +20,9 @@ use Rattle.manager.specs.Result.{check}
 use Rattle.manager.specs.declared.Notice.{Notice}
 use Rattle.manager.specs.declared.Status.the-variants.{InvalidAddress}
 use Rattle.trace.specs.Loans.{Loan, Lent, amend}
-use Rattle.trace.specs.Receipts.{Receipts, RegionEntry, giveBack, onRegion, withLoans, note, replyOf}
+use Rattle.trace.specs.Receipts.{Receipts, RegionEntry, giveBack, onRegion, withLoans, replyOf}
 use Rattle.trace.specs.Queue.{queueOf}
-use Rattle.trace.specs.Replies.{tells, byReceipts}
+use Rattle.trace.specs.Replies.{tells, byReceipts, note}
 use Rattle.trace.proofs.Invariant.{RegionIs, regionFor, Inv}
 use Rattle.trace.proofs.Frame.{only-trans}
 use Rattle.trace.proofs.Map.{Steps, shows, lent-held, none-at}

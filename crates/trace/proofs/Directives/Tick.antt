@@ -10,8 +10,8 @@ use Rattle.manager.specs.declared.Manager.{Manager}
 use Rattle.manager.specs.declared.Call.the-variants.{Tick}
 use Rattle.manager.specs.Result.{checked}
 use Rattle.manager.specs.declared.Notice.{Notice}
-use Rattle.trace.specs.Receipts.{Receipts, withWaits, allLater, allNoticed, note, replyOf}
-use Rattle.trace.specs.Replies.{tells, byReceipts}
+use Rattle.trace.specs.Receipts.{Receipts, withWaits, allLater, allNoticed, replyOf}
+use Rattle.trace.specs.Replies.{tells, byReceipts, note}
 use Rattle.trace.proofs.Invariant.{Inv, with-waits}
 use Rattle.trace.proofs.Regions.Checks.{Kept, kept-words, kept-checked, Right}
 use Rattle.trace.proofs.Regions.Picture.{any-queue}

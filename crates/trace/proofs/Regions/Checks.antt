@@ -21,8 +21,8 @@ use Rattle.manager.specs.declared.Call.{Call}
 use Rattle.manager.specs.declared.Information.{Information}
 use Rattle.manager.specs.declared.Status.{Status}
 use Rattle.manager.specs.declared.Status.the-variants.{Successful, InternalError}
-use Rattle.trace.specs.Receipts.{Receipts, RegionEntry, replyOf, note, allNoticed, isSuccess, isWaiting, entered, waited}
-use Rattle.trace.specs.Replies.{byReceipts}
+use Rattle.trace.specs.Receipts.{Receipts, RegionEntry, replyOf, allNoticed, isSuccess, isWaiting}
+use Rattle.trace.specs.Replies.{byReceipts, note, entered, waited}
 use Rattle.trace.proofs.Invariant.{Inv, OnlyMap}
 use Rattle.trace.proofs.Clients.{Stays, map-stays}
 

@@ -1,14 +1,14 @@
--- `script::call_of` meets its contract: each arm is a row of the table. Assumes nothing.
+-- `script::table::call_of` meets its contract: each arm is a row of the table. Assumes nothing.
 use native.Mathlib.Omega.{arith}
 use mathlib.Core.Path.{_≡_}
 use Rattle.script.proofs.Laws.{row-call}
 use borrow.Author.Needs.{needs}
-use Rattle.script.proofs.call_of.Statement.{statement}
-use Rattle.script.proofs.call_of.Tie as tie
-use Rattle.script.proofs.call_of.Reads as reads
-use Rattle.script.proofs.call_of.Lts as lts
-use Rattle.script.proofs.memory_call.Reads as memory-call-reads
-use Rattle.script.proofs.order_of.Reads as order-of-reads
+use Rattle.script.proofs.table.call_of.Statement.{statement}
+use Rattle.script.proofs.table.call_of.Tie as tie
+use Rattle.script.proofs.table.call_of.Reads as reads
+use Rattle.script.proofs.table.call_of.Lts as lts
+use Rattle.script.proofs.table.memory_call.Reads as memory-call-reads
+use Rattle.script.proofs.table.order_of.Reads as order-of-reads
 
 memory-call-requires : tie.Need-memory-call-requires
 memory-call-requires c κs = search needs

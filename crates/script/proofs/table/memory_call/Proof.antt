@@ -1,13 +1,13 @@
--- `script::memory_call` meets its contract: each arm is a row of the table. Assumes nothing.
+-- `script::table::memory_call` meets its contract: each arm is a row of the table. Assumes nothing.
 use native.Mathlib.Omega.{arith}
 use mathlib.Core.Path.{_≡_}
 use Rattle.script.proofs.Laws.{row-call}
 use borrow.Author.Needs.{needs}
-use Rattle.script.proofs.memory_call.Statement.{statement}
-use Rattle.script.proofs.memory_call.Tie as tie
-use Rattle.script.proofs.memory_call.Reads as reads
-use Rattle.script.proofs.memory_call.Lts as lts
-use Rattle.script.proofs.wait_of.Reads as wait-of-reads
+use Rattle.script.proofs.table.memory_call.Statement.{statement}
+use Rattle.script.proofs.table.memory_call.Tie as tie
+use Rattle.script.proofs.table.memory_call.Reads as reads
+use Rattle.script.proofs.table.memory_call.Lts as lts
+use Rattle.script.proofs.table.wait_of.Reads as wait-of-reads
 
 element-copy-out-t6 : tie.Need-element-copy-out-t6
 element-copy-out-t6 c = search needs
