@@ -160,31 +160,24 @@ fn memory_call(k: usize, v: &[u32; 8]) -> Call
     requires { ⌜ k < length calls ⌝ }
     ensures { λ r. ⌜ r ≡ getD calls k noRow .call (now (v .entry)) ⌝ }
 {
+    let id = v[0];
+    let address = v[1];
     match k {
-        7 => Call::GetBuffer { id: v[0] },
+        7 => Call::GetBuffer { id },
         8 => Call::GetSegment {
-            id: v[0],
+            id,
             size: v[1],
             wait: wait_of(v[2]),
             task: v[3],
             priority: v[4],
             ticks: v[5],
         },
-        9 => Call::ReturnSegment {
-            id: v[0],
-            address: v[1],
-        },
-        10 => Call::SegmentSize {
-            id: v[0],
-            address: v[1],
-        },
-        11 => Call::ReturnBuffer {
-            id: v[0],
-            address: v[1],
-        },
+        9 => Call::ReturnSegment { id, address },
+        10 => Call::SegmentSize { id, address },
+        11 => Call::ReturnBuffer { id, address },
         12 => Call::ResizeSegment {
-            id: v[0],
-            address: v[1],
+            id,
+            address,
             size: v[2],
         },
         _ => Call::Tick,
@@ -199,24 +192,28 @@ pub(crate) fn call_of(k: usize, v: &[u32; 8]) -> Call
     if 7 <= k {
         return memory_call(k, v);
     }
+    let id = v[0];
+    let name = v[0];
+    let start = v[1];
+    let length = v[2];
     match k {
         0 => Call::CreateRegion {
-            name: v[0],
-            start: v[1],
-            length: v[2],
+            name,
+            start,
+            length,
             page: v[3],
             order: order_of(v[4]),
         },
         1 => Call::CreatePartition {
-            name: v[0],
-            start: v[1],
-            length: v[2],
+            name,
+            start,
+            length,
             size: v[3],
         },
-        2 => Call::IdentRegion { name: v[0] },
-        3 => Call::IdentPartition { name: v[0] },
-        4 => Call::DeleteRegion { id: v[0] },
-        5 => Call::DeletePartition { id: v[0] },
-        _ => Call::RegionInformation { id: v[0] },
+        2 => Call::IdentRegion { name },
+        3 => Call::IdentPartition { name },
+        4 => Call::DeleteRegion { id },
+        5 => Call::DeletePartition { id },
+        _ => Call::RegionInformation { id },
     }
 }

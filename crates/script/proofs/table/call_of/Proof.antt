@@ -1,8 +1,8 @@
 -- `script::table::call_of` meets its contract: each arm is a row of the table, the last one by what the others leave. Assumes nothing.
-use native.Mathlib.Omega.{arith}
+use Prim.Native.Nat.{zero-le}
 use mathlib.Core.Path.{_≡_}
 use borrow.Author.Needs.{needs}
-use Rattle.script.proofs.Laws.{row-call}
+use Rattle.script.proofs.Laws.{row-call, last-arm}
 use Rattle.script.proofs.table.call_of.Statement.{statement}
 use Rattle.script.proofs.table.call_of.Tie as tie
 
@@ -17,6 +17,7 @@ call-of-spec =
     (λ c. search (needs, row-call))
     (λ c. search (needs, row-call))
     (λ c. search (needs, row-call))
+    (λ c. search (needs, row-call))
     (λ c κs. search (needs, row-call))
     (λ c. search (needs, row-call))
     (λ c. search (needs, row-call))
@@ -25,12 +26,5 @@ call-of-spec =
     (λ c. search (needs, row-call))
     (λ c. search (needs, row-call))
     (λ c. search (needs, row-call))
-    (λ c. search (needs, row-call))
-    (λ c. search (needs, row-call))
-    (λ c. search (needs, row-call))
-    (λ c. search (needs, row-call))
-    (λ c. search (needs, row-call))
-    (λ c. search (needs, row-call))
-    (λ c. search (needs, row-call))
-    (λ c. search (needs, row-call))
-    (λ c. let e : c .before .before .before .args .k ≡ 6 = omega arith in rw e))
+    (λ c. let branch = c .before .before .before .before .before in
+    let e : branch .before .args .k ≡ 6 = last-arm 6 0 _ zero-le (branch .if1 .left) (c .match .rest) in rw e))

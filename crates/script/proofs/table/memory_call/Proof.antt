@@ -1,8 +1,7 @@
 -- `script::table::memory_call` meets its contract: each arm is a row of the table, the last one by what the others leave. Assumes nothing.
-use native.Mathlib.Omega.{arith}
 use mathlib.Core.Path.{_≡_}
 use borrow.Author.Needs.{needs}
-use Rattle.script.proofs.Laws.{row-call}
+use Rattle.script.proofs.Laws.{row-call, last-arm}
 use Rattle.script.proofs.table.memory_call.Statement.{statement}
 use Rattle.script.proofs.table.memory_call.Tie as tie
 
@@ -25,12 +24,5 @@ memory-call-spec =
     (λ c. search (needs, row-call))
     (λ c. search (needs, row-call))
     (λ c. search (needs, row-call))
-    (λ c. search (needs, row-call))
-    (λ c. search (needs, row-call))
-    (λ c. search (needs, row-call))
-    (λ c. search (needs, row-call))
-    (λ c. search (needs, row-call))
-    (λ c. search (needs, row-call))
-    (λ c. search (needs, row-call))
-    (λ c. search (needs, row-call))
-    (λ c. let e : c .before .args .k ≡ 13 = omega arith in rw e))
+    (λ c. let start = c .before .before .before in
+    let e : start .args .k ≡ 13 = last-arm 6 7 _ (start .pre .0) (start .pre .1) (c .match .rest) in rw e))
