@@ -1,5 +1,5 @@
 /* What a firmware does with the library: a region with a task that waits and one whose time runs
- * out, a partition, and taking both down again. Every function of the header is called. */
+ * out, a partition, and taking both down again. */
 #include <stdio.h>
 
 #include "steepleclay.h"

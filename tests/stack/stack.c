@@ -1,8 +1,9 @@
 /* Measures the stack that a call needs. Each function is called on a stack of its own that is
  * filled with a pattern; what lies from the stack's top down to the deepest word that lost the
  * pattern was used, by the call and by the few words of this program that make it. The records are
- * fresh, full with 16 waiters whom one return serves, nearly full, and damaged. Prints the most
- * that each function used; fails where one needs more than SC_STACK_BYTES. */
+ * fresh, full with 16 waiters whom one return serves, nearly full, and damaged. The functions come
+ * from the header (calls.h, which `run` makes of it): a parameter is given the variable of its
+ * name. Prints the most that each function used; fails where one needs more than SC_STACK_BYTES. */
 #define _XOPEN_SOURCE 600
 #include <stdio.h>
 #include <string.h>
@@ -14,54 +15,45 @@
 #define PATTERN 0xa5c396e1u
 
 static uint32_t memory[SC_MEMORY_WORDS];
-static uint32_t words[4];
 static sc_manager desk = {{0}, {0}, memory, SC_MEMORY_WORDS};
 static uint32_t stack[STACK_WORDS];
 static ucontext_t here, there;
 
 static uint32_t held, buffer; /* the held segment of region 1, the held buffer of partition 1 */
 
+/* The arguments, each under the name that the header gives it. */
+static uint32_t name, id, address, size, wait;
+static const uint32_t start = 60004, length = 1020, page = 8, order = SC_PRIORITY;
+static const uint32_t task = 16, priority = 9, ticks = 9, first = 0;
+static uint32_t words[4];
+static const size_t words_count = 4;
+
+#define ARGUMENTS 3
+
+/* 0: a new object, and an object of which nothing is held; 1: a name that is there, a get that may
+ * wait, what is held of region 1; 2: what is held of partition 1. */
+static void choose(uint32_t arguments)
+{
+    name = arguments == 0 ? 9 : 8;
+    id = arguments == 0 ? 8 : 1;
+    address = arguments == 2 ? buffer : held;
+    size = arguments == 0 ? 12 : 9;
+    wait = arguments == 0 ? SC_NO_WAIT : SC_WAIT;
+}
+
 /* The calls. */
 
-static void region_create(void) { scm_region_create(&desk, 9, 60004, 1020, 8, SC_PRIORITY); }
-static void region_ident(void) { scm_region_ident(&desk, 8); }
-static void region_delete(void) { scm_region_delete(&desk, 8); }
-static void get_segment(void) { scm_region_get_segment(&desk, 8, 9, SC_NO_WAIT, 0, 0, 0); }
-static void get_waits(void) { scm_region_get_segment(&desk, 1, 9, SC_WAIT, 16, 9, 9); }
-static void return_segment(void) { scm_region_return_segment(&desk, 1, held); }
-static void segment_size(void) { scm_region_get_segment_size(&desk, 1, held); }
-static void resize_segment(void) { scm_region_resize_segment(&desk, 1, held, 9); }
-static void information(void) { scm_region_get_information(&desk, 1); }
-static void partition_create(void) { scm_partition_create(&desk, 9, 60004, 1020, 12); }
-static void partition_ident(void) { scm_partition_ident(&desk, 8); }
-static void partition_delete(void) { scm_partition_delete(&desk, 8); }
-static void get_buffer(void) { scm_partition_get_buffer(&desk, 1); }
-static void return_buffer(void) { scm_partition_return_buffer(&desk, 1, buffer); }
-static void tick(void) { scm_clock_tick(&desk); }
-static void segment_read(void) { scm_segment_read(&desk, words, 4, 1, held); }
-static void segment_write(void) { scm_segment_write(&desk, words, 4, 1, held, 0); }
+#define CALL(function, ...) static void call_##function(void) { function(__VA_ARGS__); }
+#include "calls.h"
+#undef CALL
 
 static const struct {
     const char *name;
     void (*make)(void);
 } calls[] = {
-    {"sc_region_create", region_create},
-    {"sc_region_ident", region_ident},
-    {"sc_region_delete", region_delete},
-    {"sc_region_get_segment", get_segment},
-    {"sc_region_get_segment", get_waits},
-    {"sc_region_return_segment", return_segment},
-    {"sc_region_get_segment_size", segment_size},
-    {"sc_region_resize_segment", resize_segment},
-    {"sc_region_get_information", information},
-    {"sc_partition_create", partition_create},
-    {"sc_partition_ident", partition_ident},
-    {"sc_partition_delete", partition_delete},
-    {"sc_partition_get_buffer", get_buffer},
-    {"sc_partition_return_buffer", return_buffer},
-    {"sc_clock_tick", tick},
-    {"sc_segment_read", segment_read},
-    {"sc_segment_write", segment_write},
+#define CALL(function, ...) {#function, call_##function},
+#include "calls.h"
+#undef CALL
 };
 
 /* Full tables, but for `room` slots of each kind: region 1 all held by one segment, a held buffer of
@@ -79,8 +71,8 @@ static void fill(uint32_t waiters, uint32_t room)
     held = desk.answer[SC_ANSWER_VALUE];
     scm_partition_get_buffer(&desk, 1);
     buffer = desk.answer[SC_ANSWER_VALUE];
-    for (uint32_t task = 1; task <= waiters; task++)
-        scm_region_get_segment(&desk, 1, 8, SC_WAIT, task, task, 1);
+    for (uint32_t i = 1; i <= waiters; i++)
+        scm_region_get_segment(&desk, 1, 8, SC_WAIT, i, i, 1);
 }
 
 /* The bytes of stack that a call uses, this program's own part included. */
@@ -101,18 +93,20 @@ static uint32_t used_by(void (*make)(void))
     return 4 * (STACK_WORDS - deepest);
 }
 
-/* The most that a call uses over the records. */
+/* The most that a call uses over the records and the arguments. */
 static uint32_t most_of(void (*make)(void))
 {
     uint32_t most = 0;
 
-    for (uint32_t kind = 0; kind < 5; kind++) {
+    for (uint32_t turn = 0; turn < 5 * ARGUMENTS; turn++) {
+        const uint32_t kind = turn % 5;
         uint32_t used;
         fill(kind == 1 ? 15 : 16, kind == 2); /* 1: a place for one waiter more; 2: empty slots */
         if (kind == 3)
             memory[1] = 0xffffffffu; /* region 1's map */
         if (kind == 4)
             memset(desk.record, 0, sizeof desk.record);
+        choose(turn / 5);
         used = used_by(make);
         most = used > most ? used : most;
     }

@@ -28,13 +28,9 @@ pub fn perform(mem: &mut [u32], d: Manager, call: Call) -> Answer
         } => segments::get_segment(mem, d, id, size, wait, task, priority, ticks),
         Call::ReturnSegment { id, address } => segments::return_segment(mem, d, id, address),
         Call::SegmentSize { id, address } => segments::segment_size(mem, d, id, address),
-        Call::ResizeSegment { id, address, size } => segments::resize_segment(
-            mem,
-            d,
-            id,
-            address,
-            size,
-        ),
+        Call::ResizeSegment { id, address, size } => {
+            segments::resize_segment(mem, d, id, address, size)
+        }
         Call::RegionInformation { id } => regions::region_information(mem, d, id),
         Call::CreatePartition {
             name,

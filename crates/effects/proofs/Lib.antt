@@ -1,6 +1,4 @@
 pub mod Answers
 pub mod Words
-pub mod Regions
-pub mod Partitions
 pub mod Access
 pub mod Theorem

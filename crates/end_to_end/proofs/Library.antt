@@ -16,9 +16,9 @@ use Rattle.manager.specs.Perform.{perform, defined}
 use Rattle.manager.proofs.Laws.Queue.{length-pad}
 use Rattle.manager.specs.declared.Manager.{Manager}
 use Rattle.manager.specs.declared.Call.{Call}
-use Rattle.trace.specs.Receipts.{Receipts, Reply, replyOf, note}
+use Rattle.trace.specs.Receipts.{Receipts, Reply, replyOf}
 use Rattle.trace.specs.Queue.{inLine}
-use Rattle.trace.specs.Replies.{byReceipts, writeByReceipts, readByReceipts}
+use Rattle.trace.specs.Replies.{byReceipts, writeByReceipts, readByReceipts, note}
 use Rattle.trace.specs.Claims.{Claims, waitersOf}
 use Rattle.trace.specs.Trace.{State, Ask, ClientsWrite, Runs, start, after}
 use Rattle.trace.specs.Trace as trace

@@ -12,8 +12,8 @@ use Rattle.manager.specs.Perform.{perform, defined}
 use Rattle.manager.specs.declared.Manager.{Manager}
 use Rattle.manager.specs.declared.Notice.{Notice}
 use Rattle.manager.specs.declared.Call.{Call}
-use Rattle.trace.specs.Receipts.{Receipts, Reply, replyOf, blank, note}
-use Rattle.trace.specs.Replies.{byReceipts}
+use Rattle.trace.specs.Receipts.{Receipts, Reply, replyOf, blank}
+use Rattle.trace.specs.Replies.{byReceipts, note}
 use Rattle.trace.specs.Trace.{State, Ask, call, after, Runs, end, ask, clients, start}
 use Rattle.trace.proofs.Start.{start-inv}
 use Rattle.trace.proofs.Theorem.{runs, theorem}

@@ -9,8 +9,8 @@ use Rattle.manager.specs.Record.{tasks, mostWords, noNotice}
 use Rattle.manager.specs.Result.{Result, pad}
 use Rattle.manager.specs.Status.{numberOf}
 use Rattle.manager.specs.declared.Call.{Call}
-use Rattle.trace.specs.Receipts.{Receipts, Reply, blank, note}
-use Rattle.trace.specs.Replies.{byReceipts, writeByReceipts, readByReceipts}
+use Rattle.trace.specs.Receipts.{Receipts, Reply, blank}
+use Rattle.trace.specs.Replies.{byReceipts, writeByReceipts, readByReceipts, note}
 use Rattle.trace.specs.Trace.{ClientsWrite}
 use Rattle.packing.specs.Packing.{recordWords, allWords}
 use Rattle.firmware.specs.Exported.{answerSize, noticeWords, called, segmentWords, segmentWritten}

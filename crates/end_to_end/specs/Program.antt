@@ -9,8 +9,8 @@ use lib.Dec.{ltb}
 use Rattle.manager.specs.Record.{mostWords}
 use Rattle.manager.specs.Status.{numberOf}
 use Rattle.manager.specs.declared.Call.{Call}
-use Rattle.trace.specs.Receipts.{Receipts, Reply, blank, note}
-use Rattle.trace.specs.Replies.{byReceipts}
+use Rattle.trace.specs.Receipts.{Receipts, Reply, blank}
+use Rattle.trace.specs.Replies.{byReceipts, note}
 use Rattle.script.specs.Table.{Row, rowOf}
 use Rattle.script.specs.Reading.{Script, readAll}
 use Rattle.run.specs.Output.{line, informationText, noticesText}

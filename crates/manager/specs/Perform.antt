@@ -1,4 +1,4 @@
--- A call of any directive; and the manager as three functions, so that the demands can be stated of any other. Assumes nothing.
+-- A call of any directive, and its parts; and the manager as three functions, so that the demands can be stated of any other. Assumes nothing.
 use Prim.Native.Nat.{ℕ}
 use mathlib.Core.List.{List}
 use Rattle.manager.specs.Access.{readSegment, writeSegment}
@@ -24,6 +24,32 @@ perform m d (DeletePartition id) = deletePartition m d id
 perform m d (GetBuffer id) = getBuffer m d id
 perform m d (ReturnBuffer id address) = returnBuffer m d id address
 perform m d Tick = tick m d
+
+-- A CALL IN PARTS, which tell it from others: its directive's number, the id that it names, and its size, address or name; 0 for what it
+-- has not
+pub record Asked : Type 0 where
+  pub directive : ℕ
+  pub id : ℕ
+  pub number : ℕ
+
+abbrev asks : ℕ → ℕ → ℕ → Asked
+asks directive id number = record { directive = directive; id = id; number = number }
+
+abbrev pub asked : Call → Asked
+asked (CreateRegion name start bytes page order) = asks 1 0 name
+asked (IdentRegion name) = asks 2 0 name
+asked (DeleteRegion id) = asks 3 id 0
+asked (GetSegment id size wait task priority ticks) = asks 4 id size
+asked (ReturnSegment id address) = asks 5 id address
+asked (SegmentSize id address) = asks 6 id address
+asked (ResizeSegment id address size) = asks 7 id size
+asked (RegionInformation id) = asks 8 id 0
+asked (CreatePartition name start bytes size) = asks 9 0 name
+asked (IdentPartition name) = asks 10 0 name
+asked (DeletePartition id) = asks 11 id 0
+asked (GetBuffer id) = asks 12 id 0
+asked (ReturnBuffer id address) = asks 13 id address
+asked Tick = asks 14 0 0
 
 -- WHAT ANSWERS: from a memory and a record, what a call leaves; what a read of a segment hands back; what a write leaves
 pub record Implementation : Type 0 where

@@ -18,7 +18,7 @@ use Rattle.manager.specs.Paged.{onPlace}
 use Rattle.manager.specs.Partition.{setBefore, link}
 use Rattle.manager.specs.Regions.{informed}
 use Rattle.manager.specs.Access.{readSegment, writeSegment}
-use Rattle.manager.specs.Perform.{Implementation, perform}
+use Rattle.manager.specs.Perform.{Implementation, perform, asked}
 use Rattle.manager.specs.declared.Region.{Region}
 use Rattle.manager.specs.declared.Partition.{Partition}
 use Rattle.manager.specs.declared.Notice.{Notice}
@@ -30,7 +30,7 @@ use Rattle.trace.specs.Trace.{Ask, call, read, write}
 use Rattle.trace.specs.Claims.{Demand3}
 use Rattle.refuted.proofs.Refute.{differs}
 use Rattle.refuted.proofs.Calls.{create, get, wait, return, ident, delete, clock, divide, buffer, back, everything}
-use Rattle.refuted.proofs.Wrong.{region-create, region-ident, region-delete, segment-get, segment-return, segment-resize, region-information, buffer-get, buffer-return, clock-tick, asked, answering, but, valued, noticing, keeping, emptied}
+use Rattle.refuted.proofs.Wrong.{region-create, region-ident, region-delete, segment-get, segment-return, segment-resize, region-information, buffer-get, buffer-return, clock-tick, answering, but, valued, noticing, keeping, emptied}
 
 -- 1. EVERY CALL IS REFUSED WITH 13, creates included
 abbrev refusesAll : Implementation

@@ -15,7 +15,7 @@ use Rattle.manager.specs.Map.{largestOf, freeSizes}
 use Rattle.manager.specs.Region.{firstPageOf, addressOf, mapAt, pagesOf, segments}
 use Rattle.manager.proofs.Laws.Distinct.{On, on-nil, on-cases}
 use Rattle.manager.specs.Access.{readSegment, writeSegment}
-use Rattle.manager.specs.Perform.{Implementation, perform, defined}
+use Rattle.manager.specs.Perform.{Implementation, perform, defined, asked}
 use Rattle.manager.specs.declared.Manager.{Manager}
 use Rattle.manager.specs.declared.Call.the-variants.{IdentRegion, DeleteRegion, GetSegment, ResizeSegment, GetBuffer}
 use Rattle.manager.specs.declared.Wait.the-variants.{No, Yes}
@@ -24,7 +24,7 @@ use Rattle.trace.specs.Trace.{Ask, State, start, after}
 use Rattle.effects.specs.Effects.{refusing, Whole, Demand1}
 use Rattle.refuted.proofs.Refute.{words, writes-other, refuses-otherwise, answers-otherwise, passes-unsound}
 use Rattle.refuted.proofs.Calls.{create, get, wait, divide, everything}
-use Rattle.refuted.proofs.Wrong.{segment-get, segment-resize, region-delete, buffer-get, asked, answering, but, valued, leaving, keeping, emptied}
+use Rattle.refuted.proofs.Wrong.{segment-get, segment-resize, region-delete, buffer-get, answering, but, valued, leaving, keeping, emptied}
 
 -- the memory and the record that the right manager has after a list of calls, over 64 words of 9
 abbrev after-all : List Ask → State → State

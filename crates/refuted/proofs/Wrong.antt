@@ -8,66 +8,54 @@ use Rattle.manager.specs.Status.{numberOf}
 use Rattle.manager.specs.Record.{tasks, noWaiter, withQueue}
 use Rattle.manager.specs.Result.{Result}
 use Rattle.manager.specs.Access.{readSegment, writeSegment}
-use Rattle.manager.specs.Perform.{Implementation, perform}
+use Rattle.manager.specs.Perform.{Implementation, perform, asked}
 use Rattle.manager.specs.declared.Manager.{Manager}
 use Rattle.manager.specs.declared.Notice.{Notice}
 use Rattle.manager.specs.declared.Call.{Call}
-use Rattle.manager.specs.declared.Call.the-variants.{CreateRegion, IdentRegion, DeleteRegion, GetSegment, ReturnSegment, SegmentSize, ResizeSegment, RegionInformation, CreatePartition, IdentPartition, DeletePartition, GetBuffer, ReturnBuffer, Tick}
+use Rattle.manager.specs.declared.Call.the-variants.{CreateRegion, IdentRegion, DeleteRegion, GetSegment, ReturnSegment, ResizeSegment, RegionInformation, GetBuffer, ReturnBuffer, Tick}
+use Rattle.manager.specs.declared.Order.the-variants.{Fifo}
+use Rattle.manager.specs.declared.Wait.the-variants.{No}
 
--- the directives, and a number for each
-pub data Directive : Type 0 where
-  region-create region-ident region-delete segment-get segment-return segment-size segment-resize region-information partition-create partition-ident partition-delete buffer-get buffer-return clock-tick : Directive
+-- the directives that some manager has wrong, each by a call of it
+abbrev pub region-create : Call
+region-create = CreateRegion 0 0 0 0 Fifo
 
-abbrev pub numberFor : Directive → ℕ
-numberFor region-create = 1
-numberFor region-ident = 2
-numberFor region-delete = 3
-numberFor segment-get = 4
-numberFor segment-return = 5
-numberFor segment-size = 6
-numberFor segment-resize = 7
-numberFor region-information = 8
-numberFor partition-create = 9
-numberFor partition-ident = 10
-numberFor partition-delete = 11
-numberFor buffer-get = 12
-numberFor buffer-return = 13
-numberFor clock-tick = 14
+abbrev pub region-ident : Call
+region-ident = IdentRegion 0
 
--- a call by its directive, the id that it names, and its size, address or name; 0 for what it has not
-pub record Asked : Type 0 where
-  pub directive : Directive
-  pub id : ℕ
-  pub number : ℕ
+abbrev pub region-delete : Call
+region-delete = DeleteRegion 0
 
-abbrev parts : Directive → ℕ → ℕ → Asked
-parts x id n = record { directive = x; id = id; number = n }
+abbrev pub segment-get : Call
+segment-get = GetSegment 0 0 No 0 0 0
 
-abbrev pub asked : Call → Asked
-asked (CreateRegion name start bytes page order) = parts region-create 0 name
-asked (IdentRegion name) = parts region-ident 0 name
-asked (DeleteRegion id) = parts region-delete id 0
-asked (GetSegment id size wait task priority ticks) = parts segment-get id size
-asked (ReturnSegment id address) = parts segment-return id address
-asked (SegmentSize id address) = parts segment-size id address
-asked (ResizeSegment id address size) = parts segment-resize id size
-asked (RegionInformation id) = parts region-information id 0
-asked (CreatePartition name start bytes size) = parts partition-create 0 name
-asked (IdentPartition name) = parts partition-ident 0 name
-asked (DeletePartition id) = parts partition-delete id 0
-asked (GetBuffer id) = parts buffer-get id 0
-asked (ReturnBuffer id address) = parts buffer-return id address
-asked Tick = parts clock-tick 0 0
+abbrev pub segment-return : Call
+segment-return = ReturnSegment 0 0
+
+abbrev pub segment-resize : Call
+segment-resize = ResizeSegment 0 0 0
+
+abbrev pub region-information : Call
+region-information = RegionInformation 0
+
+abbrev pub buffer-get : Call
+buffer-get = GetBuffer 0
+
+abbrev pub buffer-return : Call
+buffer-return = ReturnBuffer 0 0
+
+abbrev pub clock-tick : Call
+clock-tick = Tick
 
 -- the right manager with other answers to calls, made from the memory, the record, the call and the right answer
 abbrev pub answering : (List ℕ → Manager → Call → Result → Result) → Implementation
 answering wrong = record { call = λ m d c. wrong m d c (perform m d c); read = readSegment; write = writeSegment }
 
 -- only to the calls of one directive that are answered with one status number
-abbrev pub but : Directive → ℕ → (List ℕ → Manager → Call → Result → Result) → Implementation
+abbrev pub but : Call → ℕ → (List ℕ → Manager → Call → Result → Result) → Implementation
 but x n wrong =
     answering λ m d c a.
-    cond (eqb (numberFor (asked c .directive)) (numberFor x) && eqb (numberOf (a .status)) n) (wrong m d c a) a
+    cond (eqb (asked c .directive) (asked x .directive) && eqb (numberOf (a .status)) n) (wrong m d c a) a
 
 -- an answer with another value, other notices, another memory, another record; an empty queue
 abbrev pub valued : Result → ℕ → Result

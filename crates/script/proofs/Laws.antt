@@ -242,3 +242,15 @@ pub ruleset callAnswers = (answers-end, answers-none, answers-wrong, answers-cal
 
 pub row-call : (k n : ℕ) (v : List ℕ) (c : Call) → k ≡ n → c ≡ getD calls n noRow .call v → c ≡ getD calls k noRow .call v
 row-call k n v c e h = rw e h
+
+-- what the last arm of a `match` knows: none of the n numbers from a on; so that only the one behind them is left
+abbrev NoneOf : ℕ → ℕ → ℕ → Type 0
+NoneOf zero a k = Unit {0}
+NoneOf (suc n) a k = NoneOf n a k × (k ≡ a + n → ⊥)
+
+past-arms : (n a k : ℕ) → a ≤ k → NoneOf n a k → a + n ≤ k
+past-arms zero a k l h = omega arith
+past-arms (suc n) a k l h = let u = past-arms n a k l (h .0) in omega (arith, h .1)
+
+pub last-arm : (n a k : ℕ) → a ≤ k → k < suc (a + n) → NoneOf n a k → k ≡ a + n
+last-arm n a k l u h = let v = past-arms n a k l h in omega arith

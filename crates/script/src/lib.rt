@@ -1,9 +1,7 @@
-// Reads the calls of a script by tables: only `call_of` and `memory_call` name a directive.
+// Reads the calls of a script by tables: nothing here names a directive.
 mod table;
 
 use manager::Call;
-use manager::Order;
-use manager::Wait;
 use text::Entry;
 use text::field;
 use text::starts_with;
@@ -12,7 +10,7 @@ ghost use mathlib.Core.List.{[]};
 ghost use Prim.Native.Nat.{_≤_, _<_};
 ghost use lib.ListN.{length, getD, getElem?, drop};
 ghost use Rattle.text.specs.Lines.{starts};
-ghost use Rattle.script.specs.Table.{keys, calls, noKey, noRow, orderOf, waitOf};
+ghost use Rattle.script.specs.Table.{keys, calls, noKey, noRow};
 ghost use Rattle.script.specs.Reading.{keyAt, findRow, numbersFrom, fieldsOf, readCall};
 
 // What reading at a place finds: a call, whether its answer has six values, and where the next line starts; where the first bad or missing
@@ -86,91 +84,6 @@ fn read_fields(src: &[u8], at: usize, k: usize, out: &mut [u32]) -> Fields
     Fields::All(p)
 }
 
-fn order_of(n: u32) -> Order
-    ensures { λ r. ⌜ r ≡ orderOf n ⌝ }
-{
-    match n {
-        0 => Order::Fifo,
-        _ => Order::Priority,
-    }
-}
-
-fn wait_of(n: u32) -> Wait
-    ensures { λ r. ⌜ r ≡ waitOf n ⌝ }
-{
-    match n {
-        0 => Wait::No,
-        _ => Wait::Yes,
-    }
-}
-
-// The calls with numbers from 7 on: those that get, return and resize memory, and the clock tick.
-fn memory_call(k: usize, v: &[u32; 8]) -> Call
-    requires { ⌜ 7 ≤ k ⌝ }
-    requires { ⌜ k < length calls ⌝ }
-    ensures { λ r. ⌜ r ≡ getD calls k noRow .call (now (v .entry)) ⌝ }
-{
-    match k {
-        7 => Call::GetBuffer { id: v[0] },
-        8 => Call::GetSegment {
-            id: v[0],
-            size: v[1],
-            wait: wait_of(v[2]),
-            task: v[3],
-            priority: v[4],
-            ticks: v[5],
-        },
-        9 => Call::ReturnSegment {
-            id: v[0],
-            address: v[1],
-        },
-        10 => Call::SegmentSize {
-            id: v[0],
-            address: v[1],
-        },
-        11 => Call::ReturnBuffer {
-            id: v[0],
-            address: v[1],
-        },
-        12 => Call::ResizeSegment {
-            id: v[0],
-            address: v[1],
-            size: v[2],
-        },
-        _ => Call::Tick,
-    }
-}
-
-// Call number k with the numbers v.
-fn call_of(k: usize, v: &[u32; 8]) -> Call
-    requires { ⌜ k < length calls ⌝ }
-    ensures { λ r. ⌜ r ≡ getD calls k noRow .call (now (v .entry)) ⌝ }
-{
-    if 7 <= k {
-        return memory_call(k, v);
-    }
-    match k {
-        0 => Call::CreateRegion {
-            name: v[0],
-            start: v[1],
-            length: v[2],
-            page: v[3],
-            order: order_of(v[4]),
-        },
-        1 => Call::CreatePartition {
-            name: v[0],
-            start: v[1],
-            length: v[2],
-            size: v[3],
-        },
-        2 => Call::IdentRegion { name: v[0] },
-        3 => Call::IdentPartition { name: v[0] },
-        4 => Call::DeleteRegion { id: v[0] },
-        5 => Call::DeletePartition { id: v[0] },
-        _ => Call::RegionInformation { id: v[0] },
-    }
-}
-
 // The call at `at`.
 pub fn read_call(src: &[u8], at: usize) -> ReadCall
     ensures { λ r. ⌜ r ≡ readCall (now (src .entry)) at ⌝ }
@@ -185,7 +98,7 @@ pub fn read_call(src: &[u8], at: usize) -> ReadCall
     let from = at + (table::LINE_FROM[k + 1] - table::LINE_FROM[k]);
     let mut v = [0u32; 8];
     match read_fields(src, from, k, &mut v) {
-        Fields::All(next) => ReadCall::One(call_of(k, &v), table::SIX_VALUES[k], next),
+        Fields::All(next) => ReadCall::One(table::call_of(k, &v), table::SIX_VALUES[k], next),
         Fields::Wrong(p) => ReadCall::BadAt(p),
     }
 }

@@ -1,5 +1,13 @@
 // The tables of scripts, rule 15.2. Each text is held with those of the others, one after another: text k is from place k of the
-// places to place k + 1. The numbers of a call's keys are held the same way.
+// places to place k + 1. The numbers of a call's keys are held the same way. A new call is written here alone: its line, its keys, whether
+// its answer has six values, and how it is made.
+use manager::Call;
+use manager::Order;
+use manager::Wait;
+ghost use mathlib.Core.Path.{_≡_};
+ghost use Prim.Native.Nat.{_≤_, _<_};
+ghost use lib.ListN.{length, getD};
+ghost use Rattle.script.specs.Table.{calls, noRow, orderOf, waitOf};
 
 // The keys, and the largest number of each.
 pub(crate) const KEY_TEXT: [u8; 70] =
@@ -127,3 +135,85 @@ pub(crate) const SEQUENCE_FROM: [usize; 15] = [
     30,
     30,
 ];
+
+fn order_of(n: u32) -> Order
+    ensures { λ r. ⌜ r ≡ orderOf n ⌝ }
+{
+    match n {
+        0 => Order::Fifo,
+        _ => Order::Priority,
+    }
+}
+
+fn wait_of(n: u32) -> Wait
+    ensures { λ r. ⌜ r ≡ waitOf n ⌝ }
+{
+    match n {
+        0 => Wait::No,
+        _ => Wait::Yes,
+    }
+}
+
+// The calls with numbers from 7 on: those that get, return and resize memory, and the clock tick.
+fn memory_call(k: usize, v: &[u32; 8]) -> Call
+    requires { ⌜ 7 ≤ k ⌝ }
+    requires { ⌜ k < length calls ⌝ }
+    ensures { λ r. ⌜ r ≡ getD calls k noRow .call (now (v .entry)) ⌝ }
+{
+    let id = v[0];
+    let address = v[1];
+    match k {
+        7 => Call::GetBuffer { id },
+        8 => Call::GetSegment {
+            id,
+            size: v[1],
+            wait: wait_of(v[2]),
+            task: v[3],
+            priority: v[4],
+            ticks: v[5],
+        },
+        9 => Call::ReturnSegment { id, address },
+        10 => Call::SegmentSize { id, address },
+        11 => Call::ReturnBuffer { id, address },
+        12 => Call::ResizeSegment {
+            id,
+            address,
+            size: v[2],
+        },
+        _ => Call::Tick,
+    }
+}
+
+// Call number k with the numbers v.
+pub(crate) fn call_of(k: usize, v: &[u32; 8]) -> Call
+    requires { ⌜ k < length calls ⌝ }
+    ensures { λ r. ⌜ r ≡ getD calls k noRow .call (now (v .entry)) ⌝ }
+{
+    if 7 <= k {
+        return memory_call(k, v);
+    }
+    let id = v[0];
+    let name = v[0];
+    let start = v[1];
+    let length = v[2];
+    match k {
+        0 => Call::CreateRegion {
+            name,
+            start,
+            length,
+            page: v[3],
+            order: order_of(v[4]),
+        },
+        1 => Call::CreatePartition {
+            name,
+            start,
+            length,
+            size: v[3],
+        },
+        2 => Call::IdentRegion { name },
+        3 => Call::IdentPartition { name },
+        4 => Call::DeleteRegion { id },
+        5 => Call::DeletePartition { id },
+        _ => Call::RegionInformation { id },
+    }
+}

@@ -10,5 +10,4 @@ pub mod Verdicts
 pub mod Address
 pub mod Get
 pub mod Return
-pub mod Size
 pub mod Resize

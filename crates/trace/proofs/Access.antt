@@ -1,7 +1,7 @@
 -- Writing a held segment: a write is refused and changes nothing, or it stores its words in the loan at its address, so that it is one of
 -- the writes that clients may make. Assumes nothing.
 use mathlib.Core.Path.{_≡_, refl, sym, subst}
-use mathlib.Core.Bool.{true, false, cond, not}
+use mathlib.Core.Bool.{true, false, cond}
 use mathlib.Core.List.{List}
 use mathlib.Core.Option.{Option, some}
 use Prim.Native.Nat.{ℕ, _+_, _*_, _/_, _≤_}
@@ -9,10 +9,9 @@ use native.Mathlib.Omega.{arith}
 use lib.ListN.{length}
 use lib.Seq.{sets}
 use lib.Dec.{eqb, ltb}
-use borrow.Author.Tests.{ltb-false, not-true}
+use borrow.Author.Tests.{ltb-false}
 use Rattle.manager.specs.Record.{regionOf}
 use Rattle.manager.specs.Lists.{every}
-use Rattle.manager.proofs.Laws.Lists.{and-first}
 use Rattle.manager.proofs.Laws.Result.{Passed}
 use Rattle.manager.specs.Result.{Result, refused}
 use Rattle.manager.specs.Region.{dead, heldAt}
@@ -22,14 +21,14 @@ use Rattle.manager.specs.declared.Manager.{Manager}
 use Rattle.manager.specs.declared.Region.{Region}
 use Rattle.manager.specs.declared.Status.{Status}
 use Rattle.trace.specs.Loans.{Lent}
-use Rattle.trace.specs.Receipts.{Receipts, RegionEntry, isSuccess, isWaiting, unit, pageIn}
+use Rattle.trace.specs.Receipts.{Receipts, RegionEntry, isSuccess, unit, pageIn}
 use Rattle.trace.specs.Trace.{Object, region, Loaned, segment, ClientsWrite}
 use Rattle.trace.proofs.Invariant.{Inside, Only, regionFor, RegionIs, RegionSlot, Inv, empty, live}
 use Rattle.trace.proofs.Frame.{only-sets}
 use Rattle.trace.proofs.Clients.{segment-in, clients-keep}
 use Rattle.trace.proofs.Segments.{regular, loan-holds}
 use Rattle.trace.proofs.Map.{lent-held}
-use Rattle.trace.proofs.Regions.Checks.{refusing, by-sound}
+use Rattle.trace.proofs.Regions.Checks.{damaged, refusing, refusal, by-sound}
 
 -- a change of nothing, and a change of one loan's words, are writes that clients may make
 pub clients-none : (t : Receipts) (m : List ℕ) → ClientsWrite t m m
@@ -48,13 +47,15 @@ pub record Writes (m : List ℕ) (d : Manager) (t : Receipts) (at : ℕ) (words 
   pub clients : ClientsWrite t m (s .memory)
   pub manager : s .manager ≡ d
   pub memory : s .memory ≡ storedBy m at words (s .status)
+  pub undamaged : damaged (s .status) ≡ false
 
 writes-refused : (m : List ℕ) (d : Manager) (t : Receipts) (at : ℕ) (words : List ℕ) (s : Status) → refusing s ≡ true → Writes m d t at words (refused m d s)
 writes-refused m d t at words s r =
     record {
       clients = clients-none t m;
       manager = refl;
-      memory = rw (not-true (isSuccess s) (and-first (not (isSuccess s)) (not (isWaiting s)) r));
+      memory = rw (refusal s r .no-success);
+      undamaged = refusal s r .undamaged;
     }
 
 -- words stored in a loan
@@ -86,6 +87,7 @@ module _ (m : List ℕ) (d : Manager) (t : Receipts) (v : Inv m d t) where
           clients = passed id a first words (regionOf d id) (t .regions id) refl (v .picture .regions id) (c .0) (c .1 .0) (c .1 .1 .0);
           manager = refl;
           memory = refl;
+          undamaged = refl;
         })
 
     pub write-keeps : (id a first : ℕ) (words : List ℕ)

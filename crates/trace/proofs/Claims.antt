@@ -38,7 +38,8 @@ use Rattle.trace.proofs.Queue.Order.{in-waits, queue-of, in-all-waits}
 use Rattle.trace.proofs.Queue.Waiters.{waiters-for}
 use Rattle.trace.proofs.Partitions.Slot.{buffers-in, unlent-once}
 use Rattle.trace.proofs.Replies.Consequences.{unsatisfied-by, lowest-by, information-by, size-by, resize-by, return-by, buffer-unsatisfied, buffer-front}
-use Rattle.trace.proofs.Replies.Undamaged.{not-damaged, reply-sound}
+use Rattle.trace.proofs.Regions.Checks.{not-damaged}
+use Rattle.trace.proofs.Directives.{performs}
 
 -- ---- a chain by word 0
 
@@ -67,7 +68,9 @@ module _ (i : Implementation) (s : State) (v : Inv (s .memory) (s .manager) (s .
 
   -- NO ANSWER IS 25
   pub sound-claim : (c : Call) → ¬ (answer i s c .status ≡ InternalError)
-  sound-claim c e = not-damaged _ (reply-sound (length (s .memory)) (s .receipts) c) (sym (status-by c) ∙ e)
+  sound-claim c e =
+      let p = performs (s .memory) (s .manager) (s .receipts) v c in
+      not-damaged _ (p .kept .undamaged) (ap (λ (r : Reply). r .status) (p .replies) ∙ sym (status-by c) ∙ e)
 
   -- A TICK
   pub tick-claim : answer i s Tick .notices ≡ dueIn (inLine (s .receipts))

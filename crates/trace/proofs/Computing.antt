@@ -1,9 +1,9 @@
 -- All that a worked example over the receipts computes with; an example unfolds this name. Assumes nothing.
 use Rattle.trace.specs.Loans.{enter, amend, inPages, loanPages, most, sum}
 use Rattle.trace.specs.Pages.{runs, drawn, mostPagesAt, lowestRun, readingOf}
-use Rattle.trace.specs.Receipts.{buffersFrom, strike, allLater, without, waitOf, allNoticed, note}
+use Rattle.trace.specs.Receipts.{buffersFrom, strike, allLater, without, waitOf, allNoticed}
 use Rattle.trace.specs.Queue.{insertBy, insertAll, waitsIn, standsBefore, dueIn}
-use Rattle.trace.specs.Replies.{decided, firstId, anyId, pagesAt, grantsIn, byReceipts}
+use Rattle.trace.specs.Replies.{decided, firstId, anyId, pagesAt, grantsIn, byReceipts, note}
 use Rattle.trace.specs.Trace.{after}
 
 unfoldable pub receipts : Unit {0}

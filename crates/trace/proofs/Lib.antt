@@ -15,6 +15,7 @@ pub mod Apart
 pub mod Queue
 pub mod Regions
 pub mod Partitions
+pub mod Directives
 pub mod Reconstruct
 pub mod Claims
 pub mod Theorem

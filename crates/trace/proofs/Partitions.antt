@@ -1,6 +1,2 @@
--- The partition directives on a state that is pictured by the receipts: what each answers, and that the picture is kept. Assumes nothing.
+-- What the partition directives share, on a state that is pictured by the receipts: a partition put into a slot. Assumes nothing.
 pub mod Slot
-pub mod Get
-pub mod Return
-pub mod Delete
-pub mod Create

@@ -25,12 +25,12 @@ use Rattle.trace.proofs.Queue.Places.{in-some, in-every}
 use Rattle.trace.proofs.Regions.Queue.{sound-inv}
 use Rattle.trace.proofs.Reconstruct as reconstruct
 use Rattle.trace.proofs.Reconstruct.Waits.{waiter-parts}
-use Rattle.trace.proofs.Theorem.{performs}
+use Rattle.trace.proofs.Directives.{performs}
 
 module _ (m : List ℕ) (d : Manager) (nr : length (d .regions) ≡ slots) (np : length (d .partitions) ≡ slots) (nw : length (d .waiters) ≡ tasks) (ok : sound m d ≡ true) where
   -- every directive
   pub sound-kept : (c : Call) → sound (perform m d c .memory) (perform m d c .manager) ≡ true
-  sound-kept c = sound-inv _ _ _ (performs m d _ (reconstruct.sound-inv m d nr np nw ok) c .inv)
+  sound-kept c = sound-inv _ _ _ (performs m d _ (reconstruct.sound-inv m d nr np nw ok) c .kept .inv)
 
   -- a write of a held segment
   pub sound-written : (id a first : ℕ) (words : List ℕ) → sound (writeSegment m d id a first words .memory) (writeSegment m d id a first words .manager) ≡ true

@@ -8,4 +8,3 @@ pub mod Enter
 pub mod Grant
 pub mod Ticks
 pub mod Sound
-pub mod Clock

@@ -1,62 +1,31 @@
 -- DEMAND 3. The invariant holds at a fresh start, each call and each client write keeps it, and it gives every claim: one induction over
 -- the list.
-use mathlib.Core.Path.{_≡_, refl, sym, ap, _∙_}
+use mathlib.Core.Path.{_≡_, refl, ap, _∙_}
 use mathlib.Core.List.{List}
 use Prim.Native.Nat.{ℕ, _+_, _/_}
-use lib.ListN.{getD}
+use lib.ListN.{length, getD}
 use Rattle.manager.specs.Access.{writeSegment}
 use Rattle.manager.specs.Perform.{perform, defined}
-use Rattle.manager.specs.declared.Manager.{Manager}
 use Rattle.manager.specs.declared.Call.{Call}
-use Rattle.manager.specs.declared.Call.the-variants.{CreateRegion, IdentRegion, DeleteRegion, GetSegment, ReturnSegment, SegmentSize, ResizeSegment, RegionInformation, CreatePartition, IdentPartition, DeletePartition, GetBuffer, ReturnBuffer, Tick}
-use Rattle.trace.specs.Receipts.{Receipts, Reply}
-use Rattle.trace.specs.Trace.{Ask, call, read, write, State, start, after, Owned, Runs, end, ask, clients}
+use Rattle.trace.specs.Receipts.{Reply, replyOf}
+use Rattle.trace.specs.Replies.{byReceipts}
+use Rattle.trace.specs.Trace.{Ask, call, read, write, State, after, Owned, Runs, end, ask, clients}
 use Rattle.trace.specs.Claims.{written, Claims, Demand3}
 use Rattle.trace.proofs.Invariant.{Inv}
 use Rattle.trace.proofs.Start.{start-inv}
 use Rattle.trace.proofs.Clients.{clients-keep}
 use Rattle.trace.proofs.Access.{storedBy, writes, write-keeps}
 use Rattle.trace.proofs.Apart.{apart}
-use Rattle.trace.proofs.Regions.Checks.{Kept}
 use Rattle.trace.proofs.Regions.Queue.{sound-inv}
-use Rattle.trace.proofs.Regions.Create.{keeps-create}
-use Rattle.trace.proofs.Regions.Delete.{keeps-delete}
-use Rattle.trace.proofs.Regions.Ask.{keeps-ident, keeps-size, keeps-information}
-use Rattle.trace.proofs.Regions.Get.{keeps-get}
-use Rattle.trace.proofs.Regions.Return.{keeps-return}
-use Rattle.trace.proofs.Regions.Resize.{keeps-resize}
-use Rattle.trace.proofs.Queue.Clock.{keeps-tick}
-use Rattle.trace.proofs.Replies.{replies}
 use Rattle.trace.proofs.Replies.Access.{replies-write, reads}
-use Rattle.trace.proofs.Replies.Undamaged.{not-damaged, write-sound}
-use Rattle.trace.proofs.Partitions.Create as partition-create
-use Rattle.trace.proofs.Partitions.Delete as partition-delete
-use Rattle.trace.proofs.Partitions.Get as partition-get
-use Rattle.trace.proofs.Partitions.Return as partition-return
+use Rattle.trace.proofs.Regions.Checks.{not-damaged}
+use Rattle.trace.proofs.Directives.{performs}
 use Rattle.trace.proofs.Claims.{sound-claim, tick-claim, region-claims, partition-claims}
-
--- a call of any directive
-pub performs : (m : List ℕ) (d : Manager) (t : Receipts) → Inv m d t → (c : Call) → Kept c m t (perform m d c)
-unfolding perform
-performs m d t v (CreateRegion name start bytes page order) = keeps-create m d t v name start bytes page order
-performs m d t v (IdentRegion name) = keeps-ident m d t v name
-performs m d t v (DeleteRegion id) = keeps-delete m d t v id
-performs m d t v (GetSegment id size wait task priority ticks) = keeps-get m d t v id size wait task priority ticks
-performs m d t v (ReturnSegment id a) = keeps-return m d t v id a
-performs m d t v (SegmentSize id a) = keeps-size m d t v id a
-performs m d t v (ResizeSegment id a size) = keeps-resize m d t v id a size
-performs m d t v (RegionInformation id) = keeps-information m d t v id
-performs m d t v (CreatePartition name start bytes size) = partition-create.keeps-create m d t v name start bytes size
-performs m d t v (IdentPartition name) = partition-delete.keeps-ident m d t v name
-performs m d t v (DeletePartition id) = partition-delete.keeps-delete m d t v id
-performs m d t v (GetBuffer id) = partition-get.keeps-get m d t v id
-performs m d t v (ReturnBuffer id a) = partition-return.keeps-return m d t v id a
-performs m d t v Tick = keeps-tick m d t v
 
 module _ (s : State) (v : Inv (s .memory) (s .manager) (s .receipts)) where
   kept : (a : Ask) → let u = after defined a s in Inv (u .memory) (u .manager) (u .receipts)
   unfolding after
-  kept (call c) = performs (s .memory) (s .manager) (s .receipts) v c .inv
+  kept (call c) = performs (s .memory) (s .manager) (s .receipts) v c .kept .inv
   kept (read id a) = v
   kept (write id a first words) = write-keeps (s .memory) (s .manager) (s .receipts) v (sound-inv _ _ _ v) id a first words
 
@@ -71,13 +40,14 @@ module _ (s : State) (v : Inv (s .memory) (s .manager) (s .receipts)) where
   stays : (a : Ask) (w : ℕ) → Owned (s .receipts) w → Owned (after defined a s .receipts) w
       → getD (after defined a s .memory) w 0 ≡ getD (written (s .receipts) a (s .memory)) w 0
   unfolding after
-  stays (call c) w o o′ = performs (s .memory) (s .manager) (s .receipts) v c .stays w o o′
+  stays (call c) w o o′ = performs (s .memory) (s .manager) (s .receipts) v c .kept .stays w o o′
   stays (read id a) w o o′ = refl
   stays (write id a first words) w o o′ = ap (λ (m : List ℕ). getD m w 0) (writes-by id a first words)
 
   pub claims : Claims defined s
   claims =
-      let answered = replies (s .memory) (s .manager) (s .receipts) v in
+      let answered : (c : Call) → replyOf (perform (s .memory) (s .manager) c) ≡ byReceipts (length (s .memory)) (s .receipts) c =
+      λ c. performs (s .memory) (s .manager) (s .receipts) v c .replies in
       let handed = reads (s .memory) (s .manager) (s .receipts) v in
       record {
         replies = answered;
@@ -89,8 +59,7 @@ module _ (s : State) (v : Inv (s .memory) (s .manager) (s .receipts)) where
         stays = stays;
         writes = writes-by;
         sound = sound-claim defined s v answered handed;
-        sound-write = λ id a first words e. not-damaged _ (write-sound (s .receipts) id a first words)
-            (sym (ap (λ (r : Reply). r .status) (replies-write (s .memory) (s .manager) (s .receipts) v id a first words)) ∙ e);
+        sound-write = λ id a first words. not-damaged _ (writes (s .memory) (s .manager) (s .receipts) v (sound-inv _ _ _ v) id a first words .undamaged);
         tick = tick-claim defined s v answered handed;
       }
 

@@ -11,8 +11,8 @@ use Rattle.manager.specs.Map.{draw}
 use Rattle.manager.specs.Examples.{Step, step, Row, layout, calls, words, same, told}
 use Rattle.manager.specs.declared.Order.the-variants.{Fifo}
 use Rattle.trace.specs.Loans.{behind}
-use Rattle.trace.specs.Receipts.{Receipts, RegionEntry, Reply, blank, pagesIn, spanIn, addressIn, pageLoans, note, reading}
-use Rattle.trace.specs.Replies.{byReceipts}
+use Rattle.trace.specs.Receipts.{Receipts, RegionEntry, Reply, blank, pagesIn, spanIn, addressIn, pageLoans, reading}
+use Rattle.trace.specs.Replies.{byReceipts, note}
 
 -- an answer: status, value, and the notices (task, status, address)
 abbrev right : Reply → ℕ → ℕ → List ℕ → Bool

@@ -1,7 +1,7 @@
--- Rules 14.1 and 14.2, the receipts: written from the arguments and answers of the calls, never from the record or the memory.
--- Assumes nothing.
+-- Rules 14.1 and 14.2, the receipts: written from the arguments and answers of the calls, never from the record or the memory. What each
+-- call enters is in `Replies`, beside what it is answered. Assumes nothing.
 use mathlib.Core.Bool.{Bool, cond}
-use mathlib.Core.List.{List, [], _∷_, _++_}
+use mathlib.Core.List.{List, [], _∷_}
 use mathlib.Core.Option.{Option, none, some}
 use Prim.Native.Nat.{ℕ, zero, suc, _+_, _*_, _/_, _≤_}
 use lib.Dec.{eqb, leb}
@@ -10,8 +10,6 @@ use Rattle.arith.specs.Layout.{layoutOf}
 use Rattle.arith.specs.declared.Layout.{Layout}
 use Rattle.manager.specs.Status.{numberOf}
 use Rattle.manager.specs.Result.{Result}
-use Rattle.manager.specs.declared.Call.{Call}
-use Rattle.manager.specs.declared.Call.the-variants.{CreateRegion, IdentRegion, DeleteRegion, GetSegment, ReturnSegment, SegmentSize, ResizeSegment, RegionInformation, CreatePartition, IdentPartition, DeletePartition, GetBuffer, ReturnBuffer, Tick}
 use Rattle.manager.specs.declared.Notice.{Notice}
 use Rattle.manager.specs.declared.Information.{Information}
 use Rattle.manager.specs.declared.Order.{Order}
@@ -158,7 +156,7 @@ isSuccess s = eqb (numberOf s) 0
 abbrev pub isWaiting : Status → Bool
 isWaiting s = eqb (numberOf s) 255
 
--- THE CALL'S OWN ENTRY, with status 0, and with 255 for a get. "Refusals and all other calls enter nothing"
+-- WAITS, and a tick later
 abbrev pub withWaits : List Wait → Receipts → Receipts
 withWaits w t = record { regions = t .regions; partitions = t .partitions; waits = w }
 
@@ -168,50 +166,6 @@ later w = record { task = w .task; id = w .id; size = w .size; priority = w .pri
 unfoldable pub allLater : List Wait → List Wait
 allLater [] = []
 allLater (w ∷ ws) = later w ∷ allLater ws
-
-abbrev pub entered : Call → ℕ → Receipts → Receipts
-entered (CreateRegion name start bytes page order) v t =
-    record {
-      regions = update v (some (record { name = name; start = start; bytes = bytes; page = page; order = order; loans = [] })) (t .regions);
-      partitions = t .partitions;
-      waits = t .waits;
-    }
-entered (DeleteRegion id) v t = record { regions = update id none (t .regions); partitions = t .partitions; waits = t .waits }
-entered (GetSegment id size wait task priority ticks) v t = onRegion id (lend v size) t
-entered (ReturnSegment id address) v t = onRegion id (giveBack address) t
-entered (ResizeSegment id address size) v t = onRegion id (refit address size) t
-entered (CreatePartition name start bytes size) v t =
-    record {
-      regions = t .regions;
-      partitions = update v (some (record { name = name; start = start; bytes = bytes; size = size; lent = []; unlent = buffersFrom (bytes / size) size start })) (t .partitions);
-      waits = t .waits;
-    }
-entered (DeletePartition id) v t = record { regions = t .regions; partitions = update id none (t .partitions); waits = t .waits }
-entered (GetBuffer id) v t = onPartition id (λ e. withBuffers (v ∷ e .lent) (strike v (e .unlent)) e) t
-entered (ReturnBuffer id address) v t = onPartition id (λ e. withBuffers (strike address (e .lent)) (e .unlent ++ (address ∷ [])) e) t
-entered Tick v t = withWaits (allLater (t .waits)) t
-entered (IdentRegion name) v t = t
-entered (SegmentSize id address) v t = t
-entered (RegionInformation id) v t = t
-entered (IdentPartition name) v t = t
-
--- "A get answered 255 enters a wait, behind the earlier ones"
-abbrev pub waited : Call → Receipts → Receipts
-waited (GetSegment id size wait task priority ticks) t =
-    withWaits (t .waits ++ (record { task = task; id = id; size = size; priority = priority; ticks = ticks; since = 0 } ∷ [])) t
-waited (CreateRegion name start bytes page order) t = t
-waited (IdentRegion name) t = t
-waited (DeleteRegion id) t = t
-waited (ReturnSegment id address) t = t
-waited (SegmentSize id address) t = t
-waited (ResizeSegment id address size) t = t
-waited (RegionInformation id) t = t
-waited (CreatePartition name start bytes size) t = t
-waited (IdentPartition name) t = t
-waited (DeletePartition id) t = t
-waited (GetBuffer id) t = t
-waited (ReturnBuffer id address) t = t
-waited Tick t = t
 
 -- "each notice, in order, strikes its task's wait; with status 0 it enters a loan of that size, rounded alike, at its address in that
 -- region"
@@ -235,9 +189,3 @@ noticed n t =
 unfoldable pub allNoticed : List Notice → Receipts → Receipts
 allNoticed [] t = t
 allNoticed (n ∷ ns) t = allNoticed ns (noticed n t)
-
--- WHAT A CALL AND ITS ANSWER ENTER
-unfoldable pub note : Call → Reply → Receipts → Receipts
-note c a t =
-    allNoticed (a .notices)
-    (cond (isSuccess (a .status)) (entered c (a .value) t) (cond (isWaiting (a .status)) (waited c t) t))

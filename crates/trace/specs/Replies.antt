@@ -1,7 +1,7 @@
--- Rule 14.3, rules 11 to 13 by the receipts: what every call is answered, from its arguments, the receipts and the memory's length. No word of the
--- memory and no field of the record is looked at. Assumes nothing.
+-- Rules 14.1 and 14.3, rules 11 to 13 by the receipts: what every call is answered, from its arguments, the receipts and the memory's length,
+-- and what it enters. No word of the memory and no field of the record is looked at. Assumes nothing.
 use mathlib.Core.Bool.{Bool, true, false, cond, not, _&&_, _||_}
-use mathlib.Core.List.{List, [], _∷_}
+use mathlib.Core.List.{List, [], _∷_, _++_}
 use mathlib.Core.Option.{Option, none, some}
 use Prim.Native.Nat.{ℕ, zero, suc, _+_, _*_, _/_, _%_}
 use lib.ListN.{length, take, drop}
@@ -22,7 +22,7 @@ use Rattle.manager.specs.declared.Wait.the-variants.{No, Yes}
 use Rattle.manager.specs.declared.Status.{Status}
 use Rattle.manager.specs.declared.Status.the-variants.{Successful, InvalidName, InvalidId, TooMany, InvalidSize, InvalidAddress, InvalidNumber, ResourceInUse, Unsatisfied, IncorrectState, InvalidPriority, Waiting}
 use Rattle.trace.specs.Loans.{Loan, loan, loanPages, most, sum, enter, amend}
-use Rattle.trace.specs.Receipts.{Receipts, RegionEntry, Wait, Reply, unit, reading, pagesOver, servableIn, spanIn, addressIn, pageIn, byPage, pageLoans}
+use Rattle.trace.specs.Receipts.{Receipts, RegionEntry, Wait, Reply, unit, reading, pagesOver, servableIn, spanIn, addressIn, pageIn, byPage, pageLoans, onRegion, onPartition, lend, giveBack, refit, update, withBuffers, strike, buffersFrom, withWaits, allLater, allNoticed, isSuccess, isWaiting}
 use Rattle.trace.specs.Queue.{queueOf, inLine, dueIn}
 
 -- INFORMATION BY THE RECEIPTS: count, largest and total bytes over the runs of unheld pages, then over the loans
@@ -261,3 +261,56 @@ lentWords (some e) a = pagesAt a (e .loans) * unit e / 4
 
 abbrev pub readByReceipts : List ℕ → Receipts → ℕ → ℕ → List ℕ
 readByReceipts m t id a = take (lentWords (t .regions id) a) (drop (a / 4) m)
+
+-- ---- WHAT EVERY CALL ENTERS
+
+-- with status 0, and with 255 for a get. "Refusals and all other calls enter nothing"
+abbrev pub entered : Call → ℕ → Receipts → Receipts
+entered (CreateRegion name start bytes page order) v t =
+    record {
+      regions = update v (some (record { name = name; start = start; bytes = bytes; page = page; order = order; loans = [] })) (t .regions);
+      partitions = t .partitions;
+      waits = t .waits;
+    }
+entered (DeleteRegion id) v t = record { regions = update id none (t .regions); partitions = t .partitions; waits = t .waits }
+entered (GetSegment id size wait task priority ticks) v t = onRegion id (lend v size) t
+entered (ReturnSegment id address) v t = onRegion id (giveBack address) t
+entered (ResizeSegment id address size) v t = onRegion id (refit address size) t
+entered (CreatePartition name start bytes size) v t =
+    record {
+      regions = t .regions;
+      partitions = update v (some (record { name = name; start = start; bytes = bytes; size = size; lent = []; unlent = buffersFrom (bytes / size) size start })) (t .partitions);
+      waits = t .waits;
+    }
+entered (DeletePartition id) v t = record { regions = t .regions; partitions = update id none (t .partitions); waits = t .waits }
+entered (GetBuffer id) v t = onPartition id (λ e. withBuffers (v ∷ e .lent) (strike v (e .unlent)) e) t
+entered (ReturnBuffer id address) v t = onPartition id (λ e. withBuffers (strike address (e .lent)) (e .unlent ++ (address ∷ [])) e) t
+entered Tick v t = withWaits (allLater (t .waits)) t
+entered (IdentRegion name) v t = t
+entered (SegmentSize id address) v t = t
+entered (RegionInformation id) v t = t
+entered (IdentPartition name) v t = t
+
+-- "A get answered 255 enters a wait, behind the earlier ones"
+abbrev pub waited : Call → Receipts → Receipts
+waited (GetSegment id size wait task priority ticks) t =
+    withWaits (t .waits ++ (record { task = task; id = id; size = size; priority = priority; ticks = ticks; since = 0 } ∷ [])) t
+waited (CreateRegion name start bytes page order) t = t
+waited (IdentRegion name) t = t
+waited (DeleteRegion id) t = t
+waited (ReturnSegment id address) t = t
+waited (SegmentSize id address) t = t
+waited (ResizeSegment id address size) t = t
+waited (RegionInformation id) t = t
+waited (CreatePartition name start bytes size) t = t
+waited (IdentPartition name) t = t
+waited (DeletePartition id) t = t
+waited (GetBuffer id) t = t
+waited (ReturnBuffer id address) t = t
+waited Tick t = t
+
+-- WHAT A CALL AND ITS ANSWER ENTER
+unfoldable pub note : Call → Reply → Receipts → Receipts
+note c a t =
+    allNoticed (a .notices)
+    (cond (isSuccess (a .status)) (entered c (a .value) t) (cond (isWaiting (a .status)) (waited c t) t))

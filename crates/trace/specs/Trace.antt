@@ -12,7 +12,8 @@ use Rattle.manager.specs.declared.Manager.{Manager}
 use Rattle.manager.specs.declared.Call.{Call}
 use Rattle.manager.specs.Lists.{In}
 use Rattle.trace.specs.Loans.{Lent}
-use Rattle.trace.specs.Receipts.{Receipts, RegionEntry, PartitionEntry, blank, unit, replyOf, note}
+use Rattle.trace.specs.Receipts.{Receipts, RegionEntry, PartitionEntry, blank, unit, replyOf}
+use Rattle.trace.specs.Replies.{note}
 
 -- one of a list of calls: a directive, or a read or write of a held segment
 pub data Ask : Type 0 where

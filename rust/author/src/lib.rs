@@ -72,34 +72,35 @@ pub struct Author<'a> {
 }
 
 impl Author<'_> {
-    /// A call of one directive.
+    /// A call of one directive, by its keys.
     pub fn call_of(&mut self, directive: Directive) -> Call {
-        use Directive::*;
-        let arguments = match directive {
-            CreateRegion => {
+        let of_partitions = directive.is_of_partitions();
+        let arguments = match directive.keys() {
+            [] => vec![],
+            ["name"] => vec![self.name()],
+            ["id"] if of_partitions => vec![self.partition_id()],
+            ["id"] => vec![self.region_id()],
+            ["id", "address"] if of_partitions => {
+                let id = self.busy_partition();
+                vec![id, self.buffer(id)]
+            }
+            ["id", "address"] => self.segment().to_vec(),
+            ["id", "address", "size"] => {
+                let [id, address] = self.segment();
+                vec![id, address, self.new_size(id, address)]
+            }
+            ["id", "address", "first"] => return self.write(),
+            ["id", "size", "wait", "task", "priority", "ticks"] => self.get(),
+            ["name", "start", "length", "page", "order"] => {
                 let (start, length) = self.area(1);
                 let page = self.unit(1, length);
                 vec![self.name(), start, length, page, self.choice(50)]
             }
-            CreatePartition => {
+            ["name", "start", "length", "size"] => {
                 let (start, length) = self.area(4);
                 vec![self.name(), start, length, self.unit(4, length)]
             }
-            IdentRegion | IdentPartition => vec![self.name()],
-            DeleteRegion | Information => vec![self.region_id()],
-            DeletePartition | GetBuffer => vec![self.partition_id()],
-            ReturnBuffer => {
-                let id = self.busy_partition();
-                vec![id, self.buffer(id)]
-            }
-            Get => self.get(),
-            Return | Size | Read => self.segment().to_vec(),
-            Resize => {
-                let [id, address] = self.segment();
-                vec![id, address, self.new_size(id, address)]
-            }
-            Write => return self.write(),
-            Tick => vec![],
+            keys => panic!("no arguments are made up for {keys:?}"),
         };
         directive.call(&arguments)
     }

@@ -2,10 +2,10 @@
 
 use crate::damage;
 use crate::script::Script;
-use crate::script::Step::*;
+use crate::script::Step::{self, *};
 use author::Random;
 use directives::Directive::*;
-use directives::MAX_SCRIPT;
+use directives::{MAX_SCRIPT, SCRIPT};
 
 #[derive(Clone, Copy, Debug, PartialEq, Eq, PartialOrd, Ord)]
 pub enum Kind {
@@ -177,29 +177,34 @@ fn short_script(random: &mut Random) -> Vec<u8> {
     script.into_text()
 }
 
+/// Every call of a script now and then, and some steps more often.
+fn every_and(more: &[(u32, Step)]) -> Vec<(u32, Step)> {
+    let every = SCRIPT.iter().map(|&directive| (1, One(directive)));
+    every.chain(more.iter().copied()).collect()
+}
+
 fn mixed(script: &mut Script) {
     script.style.odd = script.random.pick(&[0, 2, 6]);
     script.style.longest = script.random.pick(&[1_000, 4_000, 12_000]);
     script.repeat(1, 6, One(CreateRegion));
     script.repeat(0, 4, One(CreatePartition));
-    script.fill(&[
-        (30, One(Get)),
-        (24, One(Return)),
-        (6, One(Size)),
-        (10, One(Resize)),
-        (8, One(Information)),
-        (8, One(Tick)),
-        (6, One(GetBuffer)),
-        (6, One(ReturnBuffer)),
-        (3, One(CreateRegion)),
-        (2, One(CreatePartition)),
-        (2, One(IdentRegion)),
-        (2, One(IdentPartition)),
-        (2, One(DeleteRegion)),
-        (1, One(DeletePartition)),
+    script.fill(&every_and(&[
+        (29, One(Get)),
+        (23, One(Return)),
+        (5, One(Size)),
+        (9, One(Resize)),
+        (7, One(Information)),
+        (7, One(Tick)),
+        (5, One(GetBuffer)),
+        (5, One(ReturnBuffer)),
+        (2, One(CreateRegion)),
+        (1, One(CreatePartition)),
+        (1, One(IdentRegion)),
+        (1, One(IdentPartition)),
+        (1, One(DeleteRegion)),
         (2, ClearRegion),
         (1, ClearPartition),
-    ]);
+    ]));
 }
 
 /// Each argument is often wrong on its own, so that calls with more than one
@@ -218,22 +223,21 @@ fn refused(script: &mut Script) {
     script.repeat(1, 5, One(GetBuffer));
     script.style.odd = script.random.pick(&[20, 35, 50]);
     script.style.waits = 70;
-    script.fill(&[
-        (12, One(CreateRegion)),
-        (12, One(CreatePartition)),
-        (20, One(Get)),
-        (6, One(Return)),
-        (6, One(Size)),
-        (12, One(Resize)),
-        (3, One(Information)),
-        (2, One(IdentRegion)),
-        (2, One(IdentPartition)),
-        (4, One(DeleteRegion)),
-        (4, One(DeletePartition)),
-        (4, One(GetBuffer)),
-        (6, One(ReturnBuffer)),
-        (1, One(Tick)),
-    ]);
+    script.fill(&every_and(&[
+        (11, One(CreateRegion)),
+        (11, One(CreatePartition)),
+        (19, One(Get)),
+        (5, One(Return)),
+        (5, One(Size)),
+        (11, One(Resize)),
+        (2, One(Information)),
+        (1, One(IdentRegion)),
+        (1, One(IdentPartition)),
+        (3, One(DeleteRegion)),
+        (3, One(DeletePartition)),
+        (3, One(GetBuffer)),
+        (5, One(ReturnBuffer)),
+    ]));
 }
 
 fn waiting(script: &mut Script) {

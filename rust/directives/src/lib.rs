@@ -137,6 +137,11 @@ impl Directive {
         all.find(|directive| directive.name().as_bytes() == name)
     }
 
+    /// Whether it is about partitions.
+    pub fn is_of_partitions(self) -> bool {
+        self.function().starts_with("sc_partition_")
+    }
+
     /// Whether the library's function fills in an answer.
     pub fn has_answer(self) -> bool {
         SCRIPT.contains(&self)

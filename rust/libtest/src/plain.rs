@@ -2,11 +2,13 @@
 //!
 //! Each function first checks the whole record and memory, as the library
 //! does, and then works in place: on the slots of the record, the words of
-//! the maps and the link words of the chains. Nothing is allocated.
+//! the maps and the link words of the chains. Nothing is allocated. A directive
+//! that has no function here is the model's.
 
 use crate::call::{Buffers, Call, Library};
 use crate::sound::{self, layout, Layout};
 use crate::words::*;
+use model::Model;
 
 /// The ordinary implementation. It has no state of its own.
 #[derive(Clone, Copy, Debug, Default)]
@@ -80,7 +82,7 @@ fn directive(record: &mut [u32], memory: &mut [u32], answer: &mut [u32], call: &
         Call::GetBuffer { id } => state.get_buffer(id),
         Call::ReturnBuffer { id, address } => state.return_buffer(id, address),
         Call::Tick => state.tick(),
-        Call::Read { .. } | Call::Write { .. } => unreachable!("these have no answer"),
+        _ => return state.by_model(call),
     };
     match result {
         Ok(value) => {
@@ -247,6 +249,16 @@ struct State<'a> {
 }
 
 impl State<'_> {
+    /// The call as the model makes it: read from the words, and drawn again.
+    fn by_model(self, call: &Call) -> u32 {
+        let mut model = Model::from_record(self.record, self.memory);
+        let answer = model.call(call);
+        self.record.copy_from_slice(&model.record());
+        self.memory.copy_from_slice(model.memory());
+        self.answer[..ANSWER_WORDS].copy_from_slice(&answer.to_words());
+        answer.status
+    }
+
     fn create_region(
         &mut self,
         name: u32,
@@ -607,4 +619,39 @@ impl State<'_> {
 fn put_notice(answer: &mut [u32], index: usize, notice: [u32; NOTICE_WORDS]) {
     let at = NOTICES_AT + index * NOTICE_WORDS;
     answer[at..at + NOTICE_WORDS].copy_from_slice(&notice);
+}
+
+#[cfg(test)]
+mod tests {
+    use super::*;
+    use directives::Directive;
+
+    /// The model leaves the words that the functions leave.
+    #[test]
+    fn by_the_model() {
+        let mut words = [vec![0; RECORD_WORDS], vec![7; 256], vec![0; ANSWER_WORDS]];
+        for (asked, arguments) in [
+            (Directive::CreateRegion, &[1, 4, 508, 16, 1][..]),
+            (Directive::CreatePartition, &[2, 512, 100, 24]),
+            (Directive::GetBuffer, &[1]),
+            (Directive::Get, &[1, 300, 0, 0, 0, 0]),
+            (Directive::Get, &[1, 300, 1, 3, 9, 2]),
+            (Directive::Information, &[1]),
+            (Directive::Tick, &[]),
+            (Directive::Return, &[1, 3]),
+        ] {
+            let call = asked.call(arguments);
+            let mut others = words.clone();
+            let [record, memory, answer] = &mut others;
+            let state = State {
+                record,
+                memory,
+                answer,
+            };
+            let status = state.by_model(&call);
+            let [record, memory, answer] = &mut words;
+            assert_eq!(directive(record, memory, answer, &call), status, "{call:?}");
+            assert_eq!(words, others, "{call:?}");
+        }
+    }
 }

@@ -12,7 +12,7 @@ use Rattle.script.proofs.read_call.Tie as tie
 use Rattle.script.proofs.read_call.Reads as reads
 use Rattle.script.proofs.read_call.Lts as lts
 use Rattle.script.proofs.call_at.Reads as call-at-reads
-use Rattle.script.proofs.call_of.Reads as call-of-reads
+use Rattle.script.proofs.table.call_of.Reads as call-of-reads
 use Rattle.script.proofs.read_fields.Reads as read-fields-reads
 
 returns : tie.Need-returns

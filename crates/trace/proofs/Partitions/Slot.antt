@@ -23,7 +23,8 @@ use Rattle.manager.specs.declared.Partition.{Partition}
 use Rattle.manager.specs.declared.Call.{Call}
 use Rattle.manager.specs.declared.Status.the-variants.{Successful}
 use Rattle.manager.specs.Lists.{Distinct}
-use Rattle.trace.specs.Receipts.{Receipts, PartitionEntry, buffersIn, update, mapOption, onPartition, entered}
+use Rattle.trace.specs.Receipts.{Receipts, PartitionEntry, buffersIn, update, mapOption, onPartition}
+use Rattle.trace.specs.Replies.{entered}
 use Rattle.trace.specs.Trace.{Object, region, partition}
 use Rattle.trace.proofs.Invariant.{Inside, Only, PartitionIs, PartitionSlot, Waits, Inv, empty, live}
 use Rattle.trace.proofs.Frame.{partition-shaped}
@@ -144,4 +145,5 @@ kept-done c m t u m′ d n e v s =
     record {
       inv = subst (λ (r : Receipts). Inv m′ d r) (sym f) v;
       stays = subst (λ (r : Receipts). Stays t r m m′) (sym f) s;
+      undamaged = refl;
     }

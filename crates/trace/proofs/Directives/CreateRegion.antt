@@ -22,19 +22,22 @@ use Rattle.manager.specs.declared.Call.{Call}
 use Rattle.manager.specs.declared.Call.the-variants.{CreateRegion}
 use Rattle.manager.specs.declared.Status.the-variants.{Successful}
 use Rattle.manager.proofs.Laws.Result.{Passed}
-use Rattle.trace.specs.Receipts.{Receipts, RegionEntry, pagesIn, update}
+use Rattle.trace.specs.Receipts.{Receipts, RegionEntry, pagesIn, update, replyOf}
 use Rattle.trace.specs.Trace.{region, partition, Owned}
+use Rattle.trace.specs.Replies.{yes, newRegionId, byReceipts}
 use Rattle.trace.proofs.Invariant.{Only, regionFor, RegionSlot, live, Inv, Picture, with-waits}
 use Rattle.trace.proofs.Frame.{map-area}
 use Rattle.trace.proofs.Clients.{map-stays}
 use Rattle.trace.proofs.Areas.{areaFor, overlaps-clear, region-there, region-elsewhere, areas-new-region, region-kept, partition-kept}
 use Rattle.trace.proofs.Loans.Tests.{by-eqb}
-use Rattle.trace.proofs.Regions.Checks.{note-done, Kept, kept-checked}
+use Rattle.trace.proofs.Regions.Checks.{note-done, Kept, kept-checked, Right}
 use Rattle.trace.proofs.Regions.Live.{slot-none}
 use Rattle.trace.proofs.Regions.Picture.{update-here, words-same, registering}
 use Rattle.trace.proofs.Regions.Lending.{none-there, waits-registered}
 use Rattle.trace.proofs.Regions.Queue.{sound-inv}
 use Rattle.trace.proofs.Map.{opens, Steps}
+use Rattle.trace.proofs.Replies.Checks.{same, test, acted, agree, answers}
+use Rattle.trace.proofs.Replies.Ids.{past-slots, new-region, area-asked}
 
 -- what is found passes the test
 index-passes : {A : Type 0} (z : A) (t : A → Bool) (l : List A) → indexOf t l < length l → t (getD l (indexOf t l) z) ≡ true
@@ -107,10 +110,11 @@ module _ (m : List ℕ) (d : Manager) (t : Receipts) (v : Inv m d t) (name start
           inv = rw n after;
           stays = λ w h h′. map-stays memory manager u after (idOf slot) asked (update-here (idOf slot) (some asked) (t .regions)) m memory (step .only) w
               (subst (λ (x : Receipts). Owned x w) n h′);
+          undamaged = refl;
         }
 
   -- A CREATE KEEPS THE PICTURE
-  pub keeps-create : Kept asks m t (createRegion m d name start bytes page order)
+  keeps-create : Kept asks m t (createRegion m d name start bytes page order)
   unfolding createRegion lists.every Passed
   keeps-create =
       kept-checked asks m d t v _ _ (sound-inv m d t v) refl
@@ -122,3 +126,18 @@ module _ (m : List ℕ) (d : Manager) (t : Receipts) (v : Inv m d t) (name start
       let some-page : 1 ≤ pagesIn asked = (let y = eqb-false (pagesIn asked) 0 (c .1 .1 .1 .1 .1 .0) in omega arith) in
       act-kept (leb-false slots slot (c .1 .1 .1 .1 .1 .1 .1 .0)) (opens m asked refl named started upto page-some page-most some-page)
       (c .1 .1 .1 .1 .1 .1 .0))
+
+-- IT IS ANSWERED AS THE RECEIPTS SAY
+module _ (m : List ℕ) (d : Manager) (t : Receipts) (v : Inv m d t) where
+  replies-create : (name start bytes page : ℕ) (order : Order)
+      → replyOf (createRegion m d name start bytes page order) ≡ byReceipts (length m) t (CreateRegion name start bytes page order)
+  unfolding createRegion byReceipts
+  replies-create name start bytes page order =
+      let e = new-region m d t (v .picture) in
+      answers m d _ _ _ (sound-inv m d t v)
+      (agree (same (same (same (same (same (same
+      (test (area-asked m d t (v .picture) (record { start = start; length = bytes })) (λ z.
+      test (past-slots (regionNamed d 0) (newRegionId t) e) (λ z. acted (ap yes (sym e))))))))))))
+
+  pub right : (name start bytes page : ℕ) (order : Order) → Right (CreateRegion name start bytes page order) m t (createRegion m d name start bytes page order)
+  right name start bytes page order = record { kept = keeps-create m d t v name start bytes page order; replies = replies-create name start bytes page order }

@@ -1,15 +1,16 @@
 -- A get of a buffer: the front leaves the chain and is lent. Assumes nothing.
 use mathlib.Core.Path.{_≡_, refl, sym, ap, _∙_, subst}
 use mathlib.Core.Bool.{true}
-use mathlib.Core.List.{List, _∷_}
+use mathlib.Core.List.{List, _∷_, []}
 use mathlib.Core.Logic.{_⊎_, inl, inr}
 use mathlib.Core.Option.{some}
-use Prim.Native.Nat.{ℕ, _<_}
+use Prim.Native.Nat.{ℕ, _<_, suc}
 use native.Mathlib.Omega.{arith}
-use lib.ListN.{getD}
-use borrow.Author.Tests.{eqb-false}
+use lib.ListN.{getD, length}
+use lib.Dec.{eqb}
+use borrow.Author.Tests.{eqb-false, eq-eqb, ne-eqb}
 use Rattle.manager.specs.Record.{slotOf, partitionOf, withPartition}
-use Rattle.manager.specs.Result.{done}
+use Rattle.manager.specs.Result.{done, check, checked}
 use Rattle.manager.specs.Lists as lists
 use Rattle.manager.specs.Partition.{isBuffer, chain, afterGet, gotten}
 use Rattle.manager.proofs.Laws.Partition.Links.{get-chain, get-buffer}
@@ -22,22 +23,25 @@ use Rattle.manager.specs.declared.Manager.{Manager}
 use Rattle.manager.specs.declared.Partition.{Partition}
 use Rattle.manager.specs.declared.Call.the-variants.{GetBuffer}
 use Rattle.manager.specs.Lists.{In, Distinct}
-use Rattle.trace.specs.Receipts.{Receipts, PartitionEntry, strike, withBuffers}
+use Rattle.manager.specs.declared.Status.the-variants.{Unsatisfied}
+use Rattle.trace.specs.Receipts.{Receipts, PartitionEntry, strike, withBuffers, replyOf}
+use Rattle.trace.specs.Replies.{front, byReceipts}
 use Rattle.trace.proofs.Invariant.{Only, PartitionIs, Inv, live}
 use Rattle.trace.proofs.Frame.{partition-laid, partition-shaped}
 use Rattle.trace.proofs.Clients.{NoLink, owned-no-link}
 use Rattle.trace.proofs.Buffers.{strike-here, within-strike, strike-other, strike-length}
-use Rattle.trace.proofs.Regions.Checks.{Kept, kept-checked}
+use Rattle.trace.proofs.Regions.Checks.{Kept, kept-checked, Right}
 use Rattle.trace.proofs.Regions.Queue.{sound-inv}
-use Rattle.trace.proofs.Partitions.Slot.{unlent-once, partition-entry, on-partition, put-keeps, live-slot, live-clear, outside, kept-done}
+use Rattle.trace.proofs.Partitions.Slot.{unlent-once, partition-entry, on-partition, put-keeps, live-slot, live-clear, outside, kept-done, free-unlent}
+use Rattle.trace.proofs.Replies.Checks.{Answers, same, answers, at-partition}
 
 -- the entry with one buffer more lent
-abbrev pub lentOne : ℕ → PartitionEntry → PartitionEntry
+abbrev lentOne : ℕ → PartitionEntry → PartitionEntry
 lentOne a e = withBuffers (a ∷ e .lent) (strike a (e .unlent)) e
 
 module _ (m : List ℕ) (p : Partition) (e : PartitionEntry) (is : PartitionIs m p e) (h : 0 < p .free) where
   -- the front is the first of those not lent
-  pub front-first : e .unlent ≡ p .front ∷ chain (afterGet m p) (gotten m p)
+  front-first : e .unlent ≡ p .front ∷ chain (afterGet m p) (gotten m p)
   front-first = sym (is .chained) ∙ get-chain m p (partition-laid m p e is) (live-chain m p (is .sound)) h
 
   struck : strike (p .front) (e .unlent) ≡ chain (afterGet m p) (gotten m p)
@@ -48,7 +52,7 @@ module _ (m : List ℕ) (p : Partition) (e : PartitionEntry) (is : PartitionIs m
   front-within = rw front-first (inl refl)
 
   -- A LIVE PARTITION, WITH ITS FRONT LENT
-  pub got-is : PartitionIs (afterGet m p) (gotten m p) (lentOne (p .front) e)
+  got-is : PartitionIs (afterGet m p) (gotten m p) (lentOne (p .front) e)
   unfolding In Distinct
   got-is =
       record {
@@ -107,10 +111,35 @@ module _ (m : List ℕ) (d : Manager) (t : Receipts) (v : Inv m d t) (id : ℕ) 
         (λ w o o′. got-words m p e is h w (owned-no-link m d t v id e q w o))
 
   -- A GET KEEPS THE PICTURE
-  pub keeps-get : Kept (GetBuffer id) m t (getBuffer m d id)
+  keeps-get : Kept (GetBuffer id) m t (getBuffer m d id)
   unfolding getBuffer lists.every Passed
   keeps-get =
       kept-checked (GetBuffer id) m d t v _ _ (sound-inv m d t v) refl
       (λ c. let s = partition-entry m (partitionOf d id) (t .partitions id) (v .picture .partitions id) (c .0) in
       let n = eqb-false (partitionOf d id .free) 0 (c .1 .0) in
       act-kept (s .0) (s .1) (s .2) (omega arith))
+
+module _ (m : List ℕ) (p : Partition) (e : PartitionEntry) (is : PartitionIs m p e) where
+  -- the front of the chain
+  front-is : (d d′ : Manager) (m′ : List ℕ) (l : List ℕ) → e .unlent ≡ l
+      → Answers m d (check (eqb (p .free) 0) Unsatisfied ∷ []) (done m′ d′ (p .front)) (front l)
+  unfolding checked
+  front-is d d′ m′ [] f = rw (eq-eqb (p .free) 0 (free-unlent m p e is ∙ ap length f))
+  front-is d d′ m′ (a ∷ l) f =
+      let n : p .free ≡ suc (length l) = free-unlent m p e is ∙ ap length f in
+      let g = front-first m p e is (omega arith) in
+      let h : p .front ≡ a = cc in
+      rw (ne-eqb (p .free) 0 (λ z. omega arith), h)
+
+-- IT IS ANSWERED AS THE RECEIPTS SAY
+module _ (m : List ℕ) (d : Manager) (t : Receipts) (v : Inv m d t) where
+  replies-get : (id : ℕ) → replyOf (getBuffer m d id) ≡ byReceipts (length m) t (GetBuffer id)
+  unfolding getBuffer byReceipts
+  replies-get id =
+      answers m d _ _ _ (sound-inv m d t v)
+      (at-partition m d (partitionOf d id) (t .partitions id) (v .picture .partitions id)
+      (λ p. check (eqb (p .free) 0) Unsatisfied ∷ []) (λ p. done (afterGet m p) (withPartition d (slotOf id) (gotten m p)) (p .front)) _
+      (λ e is q. front-is m (partitionOf d id) e is d _ _ (e .unlent) refl))
+
+  pub right : (id : ℕ) → Right (GetBuffer id) m t (getBuffer m d id)
+  right id = record { kept = keeps-get m d t v id; replies = replies-get id }

@@ -1,6 +1,6 @@
 -- A create: the lowest empty slot has the partition that was asked for, all its buffers chained by address, and its entry lends none.
 -- Its area meets no other, so all other objects stay as they were. Assumes nothing.
-use mathlib.Core.Path.{_≡_, refl, _∙_}
+use mathlib.Core.Path.{_≡_, refl, _∙_, sym, ap}
 use mathlib.Core.Bool.{false}
 use mathlib.Core.List.{List, []}
 use mathlib.Core.Logic.{inr}
@@ -27,18 +27,21 @@ use Rattle.manager.specs.declared.Manager.{Manager}
 use Rattle.manager.specs.declared.Partition.{Partition}
 use Rattle.manager.specs.declared.Call.the-variants.{CreatePartition}
 use Rattle.manager.specs.Lists.{In, Distinct}
-use Rattle.trace.specs.Receipts.{Receipts, PartitionEntry, buffersFrom}
+use Rattle.trace.specs.Receipts.{Receipts, PartitionEntry, buffersFrom, replyOf}
+use Rattle.trace.specs.Replies.{yes, newPartitionId, byReceipts}
 use Rattle.trace.proofs.Invariant.{Only, PartitionIs, Inv, live}
 use Rattle.trace.proofs.Areas.{overlaps-clear}
 use Rattle.trace.proofs.Buffers.{length-buffers, numbered-buffers, buffer-within}
 use Rattle.trace.proofs.Clients.{NoLink, owned-no-link}
 use Rattle.trace.proofs.Regions.Picture.{update-here}
-use Rattle.trace.proofs.Regions.Checks.{Kept, kept-checked}
+use Rattle.trace.proofs.Regions.Checks.{Kept, kept-checked, Right}
 use Rattle.trace.proofs.Regions.Queue.{sound-inv}
 use Rattle.trace.proofs.Partitions.Slot.{keeping, put-keeps, outside, kept-done}
+use Rattle.trace.proofs.Replies.Checks.{same, test, acted, agree, answers}
+use Rattle.trace.proofs.Replies.Ids.{past-slots, new-partition, area-asked}
 
 -- the addresses of buffers, by number and one after the other
-pub addresses-from : (n : ℕ) (p : Partition) (k a : ℕ) → bufferAt p k ≡ a → addresses n p k ≡ buffersFrom n (p .size) a
+addresses-from : (n : ℕ) (p : Partition) (k a : ℕ) → bufferAt p k ≡ a → addresses n p k ≡ buffersFrom n (p .size) a
 unfolding addresses buffersFrom
 addresses-from zero p k a e = refl
 addresses-from (suc n) p k a e = rw (e, addresses-from n p (k + 1) (a + p .size) (omega arith))
@@ -107,7 +110,7 @@ module _ (m : List ℕ) (d : Manager) (t : Receipts) (v : Inv m d t) (name start
         (λ w h h′. words w (owned-no-link _ _ (keeping (idOf slot) (some e) t) after (idOf slot) e (update-here (idOf slot) (some e) (t .partitions)) w h′))
 
   -- A CREATE KEEPS THE PICTURE
-  pub keeps-create : Kept (CreatePartition name start bytes size) m t (createPartition m d name start bytes size)
+  keeps-create : Kept (CreatePartition name start bytes size) m t (createPartition m d name start bytes size)
   unfolding createPartition lists.every Passed
   keeps-create =
       kept-checked (CreatePartition name start bytes size) m d t v _ _ (sound-inv m d t v) refl
@@ -122,3 +125,18 @@ module _ (m : List ℕ) (d : Manager) (t : Receipts) (v : Inv m d t) (name start
       (new-only m name start bytes size named started aligned upto some-buffer whole big)
       (new-is m name start bytes size named started aligned upto some-buffer whole big)
       (new-words m name start bytes size named started aligned upto some-buffer whole big))
+
+-- IT IS ANSWERED AS THE RECEIPTS SAY
+module _ (m : List ℕ) (d : Manager) (t : Receipts) (v : Inv m d t) where
+  replies-create : (name start bytes size : ℕ)
+      → replyOf (createPartition m d name start bytes size) ≡ byReceipts (length m) t (CreatePartition name start bytes size)
+  unfolding createPartition byReceipts
+  replies-create name start bytes size =
+      let e = new-partition m d t (v .picture) in
+      answers m d _ _ _ (sound-inv m d t v)
+      (agree (same (same (same (same (same (same (same (same (same
+      (test (area-asked m d t (v .picture) (record { start = start; length = bytes })) (λ z.
+      test (past-slots (partitionNamed d 0) (newPartitionId t) e) (λ z. acted (ap yes (sym e)))))))))))))))
+
+  pub right : (name start bytes size : ℕ) → Right (CreatePartition name start bytes size) m t (createPartition m d name start bytes size)
+  right name start bytes size = record { kept = keeps-create m d t v name start bytes size; replies = replies-create name start bytes size }

@@ -1,11 +1,12 @@
 -- A return: the loan is struck, and then the region's queue is served. Assumes nothing.
-use mathlib.Core.Path.{_≡_, refl, sym, subst}
+use mathlib.Core.Path.{_≡_, refl, sym, subst, ap, _∙_}
 use mathlib.Core.Bool.{false}
-use mathlib.Core.List.{List}
+use mathlib.Core.List.{List, [], _∷_}
 use mathlib.Core.Option.{some}
 use Prim.Native.Nat.{ℕ}
 use native.Mathlib.Omega.{arith}
 use lib.Dec.{eqb}
+use lib.ListN.{length}
 use Rattle.manager.specs.Record.{tasks, regionOf}
 use Rattle.manager.specs.Lists.{every}
 use Rattle.manager.specs.Region.{heldAt, changed}
@@ -15,21 +16,26 @@ use Rattle.manager.specs.declared.Manager.{Manager}
 use Rattle.manager.specs.declared.Region.{Region}
 use Rattle.manager.specs.declared.Call.the-variants.{ReturnSegment}
 use Rattle.manager.proofs.Laws.Result.{Passed}
+use Rattle.manager.specs.Result.{check}
+use Rattle.manager.specs.declared.Notice.{Notice}
+use Rattle.manager.specs.declared.Status.the-variants.{InvalidAddress}
 use Rattle.trace.specs.Loans.{Loan, Lent, amend}
-use Rattle.trace.specs.Receipts.{Receipts, RegionEntry, giveBack, onRegion, withLoans, note}
+use Rattle.trace.specs.Receipts.{Receipts, RegionEntry, giveBack, onRegion, withLoans, replyOf}
 use Rattle.trace.specs.Queue.{queueOf}
+use Rattle.trace.specs.Replies.{tells, byReceipts, note}
 use Rattle.trace.proofs.Invariant.{RegionIs, regionFor, Inv}
 use Rattle.trace.proofs.Frame.{only-trans}
-use Rattle.trace.proofs.Map.{Steps, shows, lent-held}
-use Rattle.trace.proofs.Regions.Checks.{Kept, kept-map, kept-checked}
+use Rattle.trace.proofs.Map.{Steps, shows, lent-held, none-at}
+use Rattle.trace.proofs.Regions.Checks.{Kept, kept-map, kept-checked, Right}
 use Rattle.trace.proofs.Regions.Live.{slot-entry}
 use Rattle.trace.proofs.Regions.Picture.{update-here, lending, on-region, lending-again, stepped}
 use Rattle.trace.proofs.Regions.Lending.{waits-lent}
 use Rattle.trace.proofs.Regions.Queue.{sound-inv, few-queue}
 use Rattle.trace.proofs.Regions.Serve.{Outcome, Serving, something, served}
+use Rattle.trace.proofs.Replies.Checks.{test, acted, agree, answers, at-region}
 
 -- what a return does in a region, once its checks pass
-abbrev pub returning : List ℕ → Manager → ℕ → ℕ → Region → Served
+abbrev returning : List ℕ → Manager → ℕ → ℕ → Region → Served
 returning m d id a r = serve (changed m r a 0) d id
 
 module _ (m : List ℕ) (d : Manager) (t : Receipts) (v : Inv m d t) (id a : ℕ) where
@@ -54,7 +60,7 @@ module _ (m : List ℕ) (d : Manager) (t : Receipts) (v : Inv m d t) (id a : ℕ
           queue = refl;
         }
 
-    pub outcome : Outcome e rest (queueOf id e t) released (onRegion id (giveBack a) t) (returning m d id a (regionFor e))
+    outcome : Outcome e rest (queueOf id e t) released (onRegion id (giveBack a) t) (returning m d id a (regionFor e))
     unfolding serve
     outcome = rw (on-region id e t (giveBack a) q) (served id e tasks _ d _ rest (queueOf id e t) serving (few-queue d t id e (v .waits)))
 
@@ -63,11 +69,11 @@ module _ (m : List ℕ) (d : Manager) (t : Receipts) (v : Inv m d t) (id a : ℕ
     unfolding note
     act-kept =
         kept-map (ReturnSegment id a) m d t v id e q (fromServed (returning m d id a (regionFor e)))
-        (only-trans _ _ m released (returning m d id a (regionFor e) .memory) (step .only) (outcome .only))
+        (only-trans _ _ m released (returning m d id a (regionFor e) .memory) (step .only) (outcome .only)) refl
         (outcome .inv)
 
   -- A RETURN KEEPS THE PICTURE
-  pub keeps-return : Kept (ReturnSegment id a) m t (returnSegment m d id a)
+  keeps-return : Kept (ReturnSegment id a) m t (returnSegment m d id a)
   unfolding returnSegment every Passed
   keeps-return =
       kept-checked (ReturnSegment id a) m d t v _ _ (sound-inv m d t v) refl
@@ -75,3 +81,17 @@ module _ (m : List ℕ) (d : Manager) (t : Receipts) (v : Inv m d t) (id a : ℕ
       let h = lent-held m (s .0) (s .2 .is) a (subst (λ (r : Region). eqb (heldAt m r a) 0 ≡ false) (s .2 .region) (c .1 .0)) in
       subst (λ (r : Region). Kept (ReturnSegment id a) m t (fromServed (returning m d id a r))) (sym (s .2 .region))
       (act-kept (s .0) (s .1) (s .2 .is) _ h))
+
+-- IT IS ANSWERED AS THE RECEIPTS SAY
+module _ (m : List ℕ) (d : Manager) (t : Receipts) (v : Inv m d t) where
+  replies-return : (id a : ℕ) → replyOf (returnSegment m d id a) ≡ byReceipts (length m) t (ReturnSegment id a)
+  unfolding returnSegment byReceipts
+  replies-return id a =
+      answers m d _ _ _ (sound-inv m d t v)
+      (at-region m d (regionOf d id) (t .regions id) (v .picture .regions id)
+      (λ r. check (eqb (heldAt m r a) 0) InvalidAddress ∷ []) (λ r. fromServed (returning m d id a r)) _
+      (λ e is q p. agree (test (none-at m e is a) (λ h.
+      acted (ap (λ (ns : List Notice). tells ns) (outcome m d t v id a e q is _ (lent-held m e is a (none-at m e is a ∙ h)) .grants))))))
+
+  pub right : (id a : ℕ) → Right (ReturnSegment id a) m t (returnSegment m d id a)
+  right id a = record { kept = keeps-return m d t v id a; replies = replies-return id a }
