@@ -6,6 +6,7 @@ pub mod Result
 pub mod Map
 pub mod Apart
 pub mod Paged
+pub mod Shift
 pub mod Sound
 pub mod Region
 pub mod Partition

@@ -15,7 +15,8 @@ use Rattle.manager.specs.Map.{Segment, free, decode, draw, tiled, soundMap, tot
 use Rattle.manager.proofs.Laws.Map.{redraw, total-append, total-cons}
 use Rattle.manager.proofs.Laws.Apart.{Well, well-sized, well-proper}
 use Rattle.manager.specs.Paged.{apart, paged, allocate, placeFrom, heldFrom, reachFrom, changeFrom}
-use Rattle.manager.proofs.Laws.Paged.{hit, spot, fit-is, take-none, well-take, total-take, well-change, total-change, shifted, place-shift, held-shift, reach-shift, change-shift}
+use Rattle.manager.proofs.Laws.Paged.{hit, spot, fit-is, take-none, well-take, total-take, well-change, total-change}
+use Rattle.manager.proofs.Laws.Shift.{shifted, place-shift, held-shift, reach-shift, change-shift}
 use Rattle.manager.specs.Region.{layoutOf, pagesOf, firstPageOf, addressOf, startsPage, pageAt, wordsAt, mapWords, segments, withSegments, heldAt, roomAt, placed}
 use Rattle.manager.proofs.Laws.Region.{lent, putBack, lent-in, put-back}
 use Rattle.manager.specs.Sound.{Sited}
