@@ -11,9 +11,10 @@ use borrow.Author.Fill.{fill-more}
 use Rattle.manager.specs.Map.{draw, total}
 use Rattle.manager.specs.Paged.{free+}
 use Rattle.manager.proofs.Laws.Paged.{total-free}
-use Rattle.manager.specs.Region.{pagesOf, mapAt, opened}
-use Rattle.manager.proofs.Laws.Region.{lent, putBack, lent-long, lent-in, lent-fits, lent-bytes, lent-few, lent-some, put-back, map-laid, pages-laid}
+use Rattle.manager.specs.Region.{layoutOf, pagesOf, opened}
+use Rattle.manager.proofs.Laws.Region.{lent, putBack, lent-long, lent-in, lent-fits, lent-bytes, lent-few, lent-some, put-back}
 use Rattle.manager.specs.Sound.{Laid}
+use Rattle.arith.specs.declared.Layout.{Layout}
 use Rattle.manager.specs.declared.Region.{Region}
 
 cleared : (n : ℕ) → 1 ≤ n → set (replicate n 0) 0 (n * 2) ≡ draw (free+ n [])
@@ -48,11 +49,11 @@ module _ (was ws : List ℕ) (i : ℕ) (v : Clearing was ws i) where
 pub ruleset clearing = (clear-start, clear-more, clear-end)
 
 -- what is put back
-pub opens : (r : Region) (at n : ℕ) → at ≡ mapAt r → n ≡ pagesOf r → (m : List ℕ) → Laid m r → (ws : List ℕ) → ws ≡ draw (free+ (length (lent at n m)) [])
-    → putBack at n m ws ≡ opened m r
+pub opens : (r : Region) (l : Layout) → l ≡ layoutOf r → (m : List ℕ) → Laid m r → (ws : List ℕ) → ws ≡ draw (free+ (length (lent l m)) [])
+    → putBack l m ws ≡ opened m r
 unfolding total
-opens r at n ea en m l ws e =
-    ap (putBack at n m) (e ∙ ap (λ (k : ℕ). draw (free+ k [])) (lent-long r at n ea en m l))
-    ∙ put-back r at n ea en m l (free+ (pagesOf r) []) (total-free (pagesOf r) [] ∙ add-zero (pagesOf r))
+opens r l el m h ws e =
+    ap (putBack l m) (e ∙ ap (λ (k : ℕ). draw (free+ k [])) (lent-long r l el m h))
+    ∙ put-back r l el m h (free+ (pagesOf r) []) (total-free (pagesOf r) [] ∙ add-zero (pagesOf r))
 
-pub ruleset opening = (map-laid, pages-laid, lent-in, lent-fits, lent-bytes, lent-few, lent-some, opens)
+pub ruleset opening = (lent-in, lent-fits, lent-bytes, lent-few, lent-some, opens)

@@ -20,7 +20,6 @@ use Rattle.manager.specs.Result.{Result, checked, refused, done}
 use Rattle.manager.proofs.Laws.Result.{performs-by, performs-replied}
 use Rattle.manager.proofs.Laws.Appended.{or-first, or-second}
 use Rattle.manager.specs.Region.{layoutOf, pagesOf, opened}
-use Rattle.manager.proofs.Laws.Region.{pages-laid}
 use Rattle.manager.specs.Regions.{overlaps, regionNamed, newRegion, createRegion}
 use Rattle.manager.specs.Sound.{sound, Laid}
 use Rattle.manager.proofs.Laws.Sound.{sound-words}
@@ -134,7 +133,7 @@ pub ruleset creating = (performs-replied, performs-by, page-allowed, new-laid, c
 
 module _ (m : List ℕ) (d : Manager) (r : Region) (l : Layout) (el : l ≡ layoutOf r) where
   ek : l .pages ≡ pagesOf r
-  ek = pages-laid r l el
+  ek = rw el
 
   pub enter-empty : l .pages ≡ 0 → entered m d r ≡ refused m d InvalidSize
   unfolding entered checked

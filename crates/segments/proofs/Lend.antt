@@ -18,7 +18,7 @@ use Rattle.manager.specs.Paged.{apart, paged, allocate, placeFrom, heldFrom, re
 use Rattle.manager.proofs.Laws.Paged.{hit, spot, fit-is, take-none, well-take, total-take, well-change, total-change}
 use Rattle.manager.proofs.Laws.Shift.{shifted, place-shift, held-shift, reach-shift, change-shift}
 use Rattle.manager.specs.Region.{layoutOf, pagesOf, firstPageOf, addressOf, startsPage, pageAt, wordsAt, mapWords, segments, withSegments, heldAt, roomAt, placed}
-use Rattle.manager.proofs.Laws.Region.{lent, putBack, lent-in, put-back}
+use Rattle.manager.proofs.Laws.Region.{lent, putBack, lent-in, lent-fits, lent-bytes, put-back}
 use Rattle.manager.specs.Sound.{Sited}
 use Rattle.manager.proofs.Laws.Sound.{map-long, pages-few, address-in, sited-with, well-segments, total-segments, same-segments}
 use Rattle.manager.specs.declared.Region.{Region}
@@ -125,19 +125,19 @@ pub ruleset reading = (words-sound, words-few, words-held, words-reach)
 
 module _ (m : List ℕ) (r : Region) (s : Sited m r) (l : Layout) (el : l ≡ layoutOf r) where
   abbrev part : List ℕ
-  part = lent (l .map) (l .pages) m
+  part = lent l m
 
   abbrev after : List ℕ → List ℕ
-  after ws = putBack (l .map) (l .pages) m ws
+  after ws = putBack l m ws
 
   pub part-in : l .map + l .pages ≤ length m
-  part-in = lent-in r (l .map) (l .pages) (rw el) (rw el) m (s .laid)
+  part-in = lent-in r l el m (s .laid)
 
   pub part-fits : Fits w64 (l .map + l .pages)
-  part-fits = fits-under w64 (l .map + l .pages) 16385 (omega (arith, part-in, s .laid .words)) tt
+  part-fits = lent-fits r l el m (s .laid)
 
   pub start-fits : Fits w64 (l .map * 4)
-  start-fits = fits-under w64 (l .map * 4) 65537 (omega (arith, part-in, s .laid .words)) tt
+  start-fits = lent-bytes r l el m (s .laid)
 
   part-is : part ≡ wordsAt m l
   part-is = words-whole m l
@@ -145,7 +145,7 @@ module _ (m : List ℕ) (r : Region) (s : Sited m r) (l : Layout) (el : l ≡ la
   -- segments drawn there
   module _ (t : List Segment) (e : total t ≡ pagesOf r) (w : Well true t) (ws : List ℕ) (x : ws ≡ draw t) where
     drawn : after ws ≡ withSegments m r t
-    drawn = ap after x ∙ put-back r (l .map) (l .pages) (rw el) (rw el) m (s .laid) t e
+    drawn = ap after x ∙ put-back r l el m (s .laid) t e
 
     drawn-sited : Sited (after ws) r
     drawn-sited = rw drawn (sited-with m r (s .laid) t e (well-sized true t w) (well-proper t w))
