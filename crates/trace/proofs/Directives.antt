@@ -1,5 +1,5 @@
--- EVERY CALL, in every state that the receipts picture, keeps the picture and the words of clients, is answered as the receipts say, and is
--- not called damaged. A module for each directive shows it of that one. Assumes nothing.
+-- EVERY CALL, in every state that the receipts picture, keeps the picture and the words of clients, is answered as the receipts say, and
+-- never 25. A module for each directive shows it of that one. Assumes nothing.
 pub mod CreateRegion
 pub mod IdentRegion
 pub mod DeleteRegion
