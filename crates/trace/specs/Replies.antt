@@ -22,7 +22,8 @@ use Rattle.manager.specs.declared.Wait.the-variants.{No, Yes}
 use Rattle.manager.specs.declared.Status.{Status}
 use Rattle.manager.specs.declared.Status.the-variants.{Successful, InvalidName, InvalidId, TooMany, InvalidSize, InvalidAddress, InvalidNumber, ResourceInUse, Unsatisfied, IncorrectState, InvalidPriority, Waiting}
 use Rattle.trace.specs.Loans.{Loan, loan, loanPages, most, sum, enter, amend}
-use Rattle.trace.specs.Receipts.{Receipts, RegionEntry, Wait, Reply, unit, reading, pagesOver, servableIn, spanIn, addressIn, pageIn, byPage, pageLoans, onRegion, onPartition, lend, giveBack, refit, update, withBuffers, strike, buffersFrom, withWaits, allLater, allNoticed, isSuccess, isWaiting}
+use Rattle.trace.specs.Receipts.{Receipts, RegionEntry, Wait, Reply, unit, reading, pagesOver, servableIn, spanIn, addressIn, pageIn, byPage, pageLoans}
+use Rattle.trace.specs.Receipts.{onRegion, onPartition, lend, giveBack, refit, update, withBuffers, strike, buffersFrom, withWaits, allLater, allNoticed, isSuccess, isWaiting}
 use Rattle.trace.specs.Queue.{queueOf, inLine, dueIn}
 
 -- INFORMATION BY THE RECEIPTS: count, largest and total bytes over the runs of unheld pages, then over the loans
