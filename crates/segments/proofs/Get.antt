@@ -9,7 +9,7 @@ use borrow.Author.Tests.{eq-eqb, ne-eqb, lt-leb, le-leb, not-true, not-false}
 use Rattle.arith.specs.declared.Layout.{Layout}
 use Rattle.manager.specs.Record.{regionOf}
 use Rattle.manager.specs.Result.{Result, Performs, checked, answerOf, replied, refused, done}
-use Rattle.manager.proofs.Laws.Result.{performs-by, performs-replied}
+use Rattle.manager.proofs.Laws.Result.{performs-replied}
 use Rattle.manager.specs.Region.{layoutOf, pagesOf, addressOf, pagesAsked, placed, taken}
 use Rattle.manager.specs.Queue.{enqueue}
 use Rattle.manager.specs.Paged.{onPlace}
@@ -29,7 +29,6 @@ use Rattle.segments.specs.Lending.{Takes}
 use Rattle.segments.specs.Verdicts.{verdictOf, onVerdict}
 use Rattle.segments.specs.declared.checks.Verdict.{Verdict}
 use Rattle.segments.specs.declared.checks.Verdict.the-variants.{Good, Bad}
-use Rattle.segments.proofs.Address.{live, some-asked}
 use Rattle.segments.proofs.Lend.{taken-address, none-taken}
 use Rattle.segments.proofs.Verdicts.{checked-all}
 
@@ -96,4 +95,4 @@ module _ (m : List ℕ) (d : Manager) (id size : ℕ) (wait : Wait) (task priori
           pub get-placed : v ≡ Good → Gets ≡ Placed m d r k wait waiter
           get-placed e = get-is ∙ rw e
 
-pub ruleset getting = (performs-replied, performs-by, live, some-asked, get-unsound, get-zero, get-dead, get-large, get-refused, get-placed, not-true, not-false)
+pub ruleset getting = (performs-replied, get-unsound, get-zero, get-dead, get-large, not-true, not-false)

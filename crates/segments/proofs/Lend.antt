@@ -11,8 +11,8 @@ use mir.Syntax.{w64}
 use mir.Val.{Fits}
 use borrow.Author.Needs.{fits-under}
 use Rattle.arith.specs.declared.Layout.{Layout}
-use Rattle.manager.specs.Map.{Segment, free, decode, draw, tiled, soundMap, total}
-use Rattle.manager.proofs.Laws.Map.{redraw, total-append, total-cons}
+use Rattle.manager.specs.Map.{Segment, free, decode, draw, soundMap, total}
+use Rattle.manager.proofs.Laws.Map.{total-append, total-cons}
 use Rattle.manager.proofs.Laws.Apart.{Well, well-sized, well-proper}
 use Rattle.manager.specs.Paged.{apart, paged, allocate, placeFrom, heldFrom, reachFrom, changeFrom}
 use Rattle.manager.proofs.Laws.Paged.{hit, spot, fit-is, take-none, well-take, total-take, well-change, total-change}
@@ -26,10 +26,6 @@ use Rattle.manager.specs.declared.Place.{Place}
 use Rattle.manager.specs.declared.Place.the-variants.{At, Nowhere}
 use Rattle.map.proofs.Part.{words-whole}
 use Rattle.segments.specs.Lending.{Changes, Takes}
-
--- where nothing is found, nothing changes
-pub untaken : (ws : List ℕ) (k : ℕ) → tiled ws ≡ true → placeFrom k 0 (decode ws) ≡ Nowhere → ws ≡ draw (allocate paged k 0 (decode ws))
-untaken ws k ok e = sym (ap draw (take-none k 0 (decode ws) e) ∙ redraw ws ok)
 
 -- ---- a page, and the place of its word
 
@@ -139,9 +135,6 @@ module _ (m : List ℕ) (r : Region) (s : Sited m r) (l : Layout) (el : l ≡ la
   pub start-fits : Fits w64 (l .map * 4)
   start-fits = lent-bytes r l el m (s .laid)
 
-  part-is : part ≡ wordsAt m l
-  part-is = words-whole m l
-
   -- segments drawn there
   module _ (t : List Segment) (e : total t ≡ pagesOf r) (w : Well true t) (ws : List ℕ) (x : ws ≡ draw t) where
     drawn : after ws ≡ withSegments m r t
@@ -154,11 +147,11 @@ module _ (m : List ℕ) (r : Region) (s : Sited m r) (l : Layout) (el : l ≡ la
     takes : Takes r k m (after ws) (shifted (l .first) q)
     takes =
         let t = allocate paged k (firstPageOf r) (segments m r) in
-        let x : ws ≡ draw t = ew ∙ ap (λ (w : List ℕ). draw (allocate paged k 0 (decode w))) (words-are m r s l el part part-is) ∙ ap draw (fit-is k 0 (segments m r) ∙ sym (fit-is k (firstPageOf r) (segments m r))) in
+        let x : ws ≡ draw t = ew ∙ ap (λ (w : List ℕ). draw (allocate paged k 0 (decode w))) (words-are m r s l el part (words-whole m l)) ∙ ap draw (fit-is k 0 (segments m r) ∙ sym (fit-is k (firstPageOf r) (segments m r))) in
         let n = total-take k (firstPageOf r) (segments m r) ∙ total-segments m r s in
         let w = well-take k (firstPageOf r) (segments m r) o (well-segments m r s) in
         record {
-          place = ap (shifted (l .first)) eq ∙ words-placed m r s l el part part-is k;
+          place = ap (shifted (l .first)) eq ∙ words-placed m r s l el part (words-whole m l) k;
           memory = drawn t n w ws x;
           sited = drawn-sited t n w ws x;
         }
@@ -173,7 +166,7 @@ module _ (m : List ℕ) (r : Region) (s : Sited m r) (l : Layout) (el : l ≡ la
     pub changes : (k : ℕ) → k ≤ roomAt m r a → (ws : List ℕ) → ws ≡ draw (changeFrom i k 0 (decode part)) → Changes r a k m (after ws)
     changes k b ws ew =
         let t = changeFrom (pageAt r a) k (firstPageOf r) (segments m r) in
-        let x : ws ≡ draw t = ew ∙ ap draw (words-change m r s l el part part-is a h i ei k) in
+        let x : ws ≡ draw t = ew ∙ ap draw (words-change m r s l el part (words-whole m l) a h i ei k) in
         let n = total-change (pageAt r a) k (firstPageOf r) (segments m r) b ∙ total-segments m r s in
         let w = well-change (pageAt r a) k (firstPageOf r) (segments m r) (well-segments m r s) in
         record { memory = drawn t n w ws x; sited = drawn-sited t n w ws x }

@@ -10,7 +10,7 @@ use borrow.Author.Tests.{eq-eqb, ne-eqb, le-leb, lt-leb, not-true, not-false}
 use Rattle.arith.specs.declared.Layout.{Layout}
 use Rattle.manager.specs.Record.{regionOf}
 use Rattle.manager.specs.Result.{Result, Performs, checked, answerOf, replied, refused, done}
-use Rattle.manager.proofs.Laws.Result.{performs-by, performs-replied}
+use Rattle.manager.proofs.Laws.Result.{performs-replied}
 use Rattle.manager.specs.Region.{layoutOf, heldAt, roomAt, changed, pagesAsked}
 use Rattle.manager.specs.Regions.{resizeSegment}
 use Rattle.manager.specs.Sound.{sound}
@@ -20,7 +20,7 @@ use Rattle.manager.specs.declared.Answer.{Answer}
 use Rattle.manager.specs.declared.Status.the-variants.{Successful, InvalidId, InvalidSize, InvalidAddress, Unsatisfied, InternalError}
 use Rattle.segments.specs.Lending.{Changes}
 use Rattle.map.specs.Word.{heldWordAt}
-use Rattle.segments.proofs.Address.{live, some-asked, held-is, held-some, length-fits}
+use Rattle.segments.proofs.Address.{held-is, length-fits}
 
 -- what is done once the checks have passed
 abbrev Fitted : List ℕ → Manager → Region → ℕ → ℕ → ℕ → Result
@@ -70,4 +70,4 @@ module _ (m : List ℕ) (d : Manager) (id address size : ℕ) (b : Bool) (eb : b
         unfolding resizeSegment checked
         resize-fitted z k ek = rw (← eb, s, ne-eqb _ _ y, ← er, ne-eqb _ _ named, ← en, ne-eqb _ _ z, ← ek)
 
-pub ruleset resizing = (performs-replied, performs-by, live, some-asked, held-some, length-fits, resize-unsound, resize-zero, resize-dead, resize-none, resize-fitted, not-true, not-false)
+pub ruleset resizing = (performs-replied, length-fits, resize-unsound, resize-zero, resize-dead, resize-none, not-true, not-false)

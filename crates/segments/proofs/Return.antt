@@ -8,7 +8,7 @@ use borrow.Author.Tests.{eq-eqb, ne-eqb, not-true, not-false}
 use Rattle.arith.specs.declared.Layout.{Layout}
 use Rattle.manager.specs.Record.{regionOf}
 use Rattle.manager.specs.Result.{Result, Performs, checked, refused}
-use Rattle.manager.proofs.Laws.Result.{performs-by, performs-replied}
+use Rattle.manager.proofs.Laws.Result.{performs-replied}
 use Rattle.manager.specs.Region.{layoutOf, heldAt, changed}
 use Rattle.manager.specs.Serve.{serve, fromServed}
 use Rattle.manager.specs.Regions.{returnSegment}
@@ -23,8 +23,7 @@ use Rattle.reply.specs.Notices.{answerWith}
 use Rattle.reply.specs.declared.Noticed.{Noticed}
 use Rattle.reply.proofs.Laws.{performs-noticed}
 use Rattle.map.specs.Word.{heldWordAt}
-use Rattle.segments.proofs.Address.{live, held-is, held-some}
-use Rattle.segments.proofs.Serve.{sound-asking}
+use Rattle.segments.proofs.Address.{held-is}
 
 -- what is done once the checks have passed
 abbrev Freed : List ℕ → Manager → ℕ → Region → ℕ → Result
@@ -62,4 +61,4 @@ module _ (m : List ℕ) (d : Manager) (id address : ℕ) (b : Bool) (eb : b ≡ 
       unfolding returnSegment checked
       return-freed z = rw (← eb, s, ← er, ne-eqb _ _ named, ← en, ne-eqb _ _ z)
 
-pub ruleset returning = (performs-replied, performs-by, live, held-some, sound-asking, return-unsound, return-dead, return-none, return-freed, not-true, not-false)
+pub ruleset returning = (performs-replied, return-unsound, return-dead, return-none, not-true, not-false)

@@ -9,8 +9,8 @@ use Rattle.manager.specs.Map.{Segment, free, held, wordsOf, draw, decode, sound
 use Rattle.manager.proofs.Laws.Map.{sound-tiled, redraw, draw-append, draw-cons, length-draw}
 use Rattle.manager.proofs.Laws.Apart.{Well, well-decoded, well-at}
 use Rattle.manager.specs.Paged.{apart, free+, paged, placeFrom, allocate}
-use Rattle.manager.proofs.Laws.Paged.{fit-is, hit, free-none, free-front}
-use Rattle.manager.specs.declared.Place.the-variants.{At}
+use Rattle.manager.proofs.Laws.Paged.{fit-is, hit, take-none, free-none, free-front}
+use Rattle.manager.specs.declared.Place.the-variants.{At, Nowhere}
 use Rattle.segments.specs.MapWords.{holding}
 use Rattle.segments.proofs.Words.{word-at, words-in, holding-words}
 
@@ -44,3 +44,7 @@ took k i ws ok o e =
       within = omega (arith, words-in p t ws n 0 i x l);
       held = rw v (holding-words p t ws n 0 i x l k o (h .room)) ∙ sym y;
     }
+
+-- where nothing is found, nothing changes
+pub untaken : (ws : List ℕ) (k : ℕ) → soundMap apart ws ≡ true → placeFrom k 0 (decode ws) ≡ Nowhere → ws ≡ draw (allocate paged k 0 (decode ws))
+untaken ws k ok e = sym (ap draw (take-none k 0 (decode ws) e) ∙ redraw ws (sound-tiled apart ws ok))

@@ -1,8 +1,10 @@
--- `return_segment` meets its contract: each exit is one of the definition. Assumes nothing.
+-- `return_segment` meets its contract: each exit is one of the definition. Behind many calls the places on the way are named. Assumes nothing.
 use borrow.Author.Needs.{needs}
 use borrow.Author.Tests.{not-false}
-use Rattle.segments.proofs.Address.{held-some}
-use Rattle.segments.proofs.Return.{returning}
+use Rattle.manager.proofs.Laws.Result.{performs-by}
+use Rattle.segments.proofs.Address.{live, held-some}
+use Rattle.segments.proofs.Serve.{sound-asking}
+use Rattle.segments.proofs.Return.{returning, return-freed}
 use Rattle.segments.proofs.return_segment.Statement.{statement}
 use Rattle.segments.proofs.return_segment.Tie as tie
 
@@ -28,14 +30,27 @@ return-segment-spec =
     let laid = held .before .before .before in
     let named = laid .before in
     let found = named .before .before in
-    let sound = found .before in
-    let args = sound .before .before .before .before .args in (
-      search (needs, returning),
-      search (needs, returning),
-      search (needs, returning),
-      search (needs, returning),
-      held-some _ _ _ (sound .before .is-sound .ensures) (not-false _ (sound .if1 .left)) (args .id) _ (found .region-of .ensures) (named .if2 .left) _ (laid .layout-of .ensures)
-          (args .address) _ (held .before .held-word-at .ensures) (held .if3 .left),
+    let passed = found .before in
+    let args = passed .before .before .before .before .args in
+    let eb = passed .before .is-sound .ensures in
+    let ok = not-false _ (passed .if1 .left) in
+    let er = found .region-of .ensures in
+    let el = laid .layout-of .ensures in (
+      live _ _ _ eb ok (args .id) _ er (named .if2 .left),
+      er,
+      el,
+      sound-asking _ _ _ eb ok,
+      held-some _ _ _ eb ok (args .id) _ er (named .if2 .left) _ el (args .address) _ (held .before .held-word-at .ensures) (held .if3 .left),
     ))
     (λ c. search needs)
-    (λ c. search (needs, returning)))
+    (λ c.
+    let freed = c .before .before in
+    let held = freed .before .before in
+    let laid = held .before .before .before in
+    let named = laid .before in
+    let found = named .before .before in
+    let passed = found .before in
+    performs-by _ _ _ _
+    (return-freed _ _ _ _ _ (passed .before .is-sound .ensures) (not-false _ (passed .if1 .left)) _ (found .region-of .ensures) (named .if2 .left) _ (laid .layout-of .ensures) _
+    (held .before .held-word-at .ensures) (held .if3 .left))
+    (freed .release-and-serve .ensures)))

@@ -1,8 +1,7 @@
 -- `allocate` meets its contract: a search, and then the act where it found room. Assumes nothing.
 use mathlib.Core.Path.{sym, _∙_}
-use Rattle.manager.specs.Paged.{apart}
 use Rattle.manager.proofs.Laws.Map.{sound-tiled}
-use Rattle.segments.proofs.Lend.{untaken}
+use Rattle.segments.proofs.Take.{untaken}
 use borrow.Author.Needs.{needs}
 use Rattle.segments.proofs.map_words.allocate.Statement.{statement}
 use Rattle.segments.proofs.map_words.allocate.Tie as tie
@@ -27,7 +26,7 @@ same-length c = search needs
 returns : tie.Need-returns
 returns c =
     let e = sym (c .before .before .find .ensures) ∙ c .enum-told .given .1 in
-    (sym e, untaken _ _ (sound-tiled apart _ (c .before .before .before .before .before .pre .0 .0)) e)
+    (sym e, untaken _ _ (c .before .before .before .before .before .pre .0 .0) e)
 
 same-length-2 : tie.Need-same-length-2
 same-length-2 c = search needs
