@@ -5,8 +5,8 @@ use mathlib.Core.List.{List, [], _∷_, _++_, append-nil}
 use Prim.Native.Nat.{ℕ, zero, suc, _+_, _-_, _≤_, _<_}
 use native.Mathlib.Numerals.{add-one}
 use native.Mathlib.Omega.{arith}
-use lib.ListN.{length, take, drop, set, replicate, length-set, length-append, length-replicate, take-append-drop}
-use lib.Seq.{take-suc-set, drop-set-lt, append-snoc, length-take-le, take-all, take-at, drop-at}
+use lib.ListN.{length, take, drop, set, replicate, length-set, length-replicate, take-append-drop}
+use lib.Seq.{take-suc-set, drop-set-lt, append-snoc, length-take-le, take-all}
 use Rattle.manager.specs.Result.{pad}
 
 pub record Filling {A : Type 0} (z : A) (n : ℕ) (b : List A) (k : ℕ) (left whole : List A) : Type 0 where
@@ -34,16 +34,6 @@ module _ {A : Type 0} (z : A) (n : ℕ) where
   fill-start l =
       let e : n ≡ n - 0 = omega arith in
       record { size = length-replicate n z; within = omega arith; room = ap (λ (k : ℕ). replicate k z) e; done = refl }
-
-  -- a padded list is filled so far, and may be filled on
-  pub fill-from : (l left : List A) (k : ℕ) → k ≡ length l → k ≤ n → Filling z n (pad n z l) k left (l ++ left)
-  fill-from l left k e h =
-      record {
-        size = length-append l _ ∙ rw length-replicate (omega arith);
-        within = h;
-        room = drop-at l _ k (sym e) ∙ rw e;
-        done = rw (take-at l (replicate (n - length l) z) k (sym e));
-      }
 
   -- one place is put
   pub fill-put : (b : List A) (k : ℕ) (x : A) (left whole : List A) → k < n → Filling z n b k (x ∷ left) whole → Filling z n (set b k x) (k + 1) left whole

@@ -13,7 +13,7 @@ use Rattle.manager.proofs.Laws.Lists.{rest-cons}
 use Rattle.manager.specs.Queue.{staying, leaving, aged, expired, afterTick}
 use Rattle.objects.proofs.Laws.{unmapped}
 use Rattle.reply.specs.Notices.{Notices}
-use Rattle.queue.proofs.Fill.{Filling, fill-start, fill-put, fill-end}
+use Rattle.objects.proofs.Fill.{Filling, fill-start, fill-put, fill-end}
 
 -- after i places of the queue ws: k stay, in b, and n leave, with the notices ns
 pub record Ticking (ws b : List Waiter) (ns : List Notice) (k n i : ℕ) : Type 0 where

@@ -72,10 +72,6 @@ module _ (p : ℕ) (ws : List ℕ) (h : Stands p ws) (z : lead (h .post) ≡ 0) 
         ∙ onto-append front (g ∷ []) (free+ (h .pages) (h .post))
         ∙ onto-last true front g g (free+ (h .pages) (h .post)) (held (h .pages) ∷ h .post) refl front-well
 
-    -- where the segment before stands
-    front-words : draw (h .pre) ≡ draw front ++ draw (g ∷ [])
-    front-words = ap draw e ∙ draw-append front (g ∷ [])
-
     g-some : 1 ≤ sizeOf g
     g-some = well-at true front g (held (h .pages) ∷ h .post) front-well .0
 

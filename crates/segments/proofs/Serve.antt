@@ -28,7 +28,7 @@ use Rattle.manager.specs.declared.Notice.{Notice}
 use Rattle.manager.specs.declared.Place.{Place}
 use Rattle.manager.specs.declared.Place.the-variants.{At, Nowhere}
 use Rattle.objects.proofs.Laws.{unmapped}
-use Rattle.queue.proofs.Fill.{Filling, fill-start, fill-put, fill-end}
+use Rattle.objects.proofs.Fill.{Filling, fill-start, fill-put, fill-end}
 use Rattle.segments.specs.Lending.{Takes}
 use Rattle.segments.proofs.Lend.{taken-address, none-taken}
 use Rattle.segments.specs.Serving.{asks, Asking, onTurn, pagesFirst, turnOf, Turns, Serves}

@@ -105,10 +105,6 @@ module _ (p : ℕ) (ws : List ℕ) (h : Stands p ws) where
       resize-is (h .pages + lead (h .post)) (omega (arith, some))
       ∙ rw (z, free-none (rest (h .post)))
 
-  -- in words, with k of them held
-  draw-is : (pre : List Segment) (g : Segment) (t : List Segment) → draw (pre ++ (g ∷ t)) ≡ draw pre ++ draw (g ∷ t)
-  draw-is pre g t = draw-append pre (g ∷ t)
-
   grown-words : draw (h .pre ++ (held (h .pages + lead (h .post)) ∷ rest (h .post))) ≡ draw (h .pre) ++ (wordsOf (h .pages + lead (h .post)) 1 ++ draw (rest (h .post)))
   grown-words =
       draw-append (h .pre) (held (h .pages + lead (h .post)) ∷ rest (h .post))

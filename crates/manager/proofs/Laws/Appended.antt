@@ -2,11 +2,11 @@
 -- Assumes nothing.
 use Prim.Native.Nat.{ℕ, zero, suc}
 use mathlib.Core.Path.{_≡_, refl, sym, ap, _∙_}
-use mathlib.Core.Bool.{Bool, true, false, _&&_, _||_, and-true, and-assoc, or-assoc, or-false}
+use mathlib.Core.Bool.{Bool, true, false, _&&_, _||_, and-true, and-assoc, or-assoc}
 use mathlib.Core.List.{List, [], _∷_, _++_}
 use native.Mathlib.Omega.{arith}
-use lib.ListN.{length, replicate}
-use Rattle.manager.specs.Lists.{every, any, indexOf, pairwise}
+use lib.ListN.{replicate}
+use Rattle.manager.specs.Lists.{every, any}
 use Rattle.manager.proofs.Laws.Lists.{and-first, and-second}
 
 -- what holds of both outcomes of a test holds of the test
@@ -52,23 +52,3 @@ module _ {A : Type 0} where
 
   pub every-behind : (t : A → Bool) (z : A) → t z ≡ true → (l : List A) (k : ℕ) → every t (l ++ replicate k z) ≡ every t l
   every-behind t z e l k = every-append t l (replicate k z) ∙ rw (every-same t z e k) (and-true (every t l))
-
-  pub some-same : (t : A → Bool) (z : A) → t z ≡ false → (k : ℕ) → any t (replicate k z) ≡ false
-  unfolding any
-  some-same t z e zero = refl
-  some-same t z e (suc k) = rw e (some-same t z e k)
-
-  pub some-behind : (t : A → Bool) (z : A) → t z ≡ false → (l : List A) (k : ℕ) → any t (l ++ replicate k z) ≡ any t l
-  some-behind t z e l k = some-append t l (replicate k z) ∙ rw (some-same t z e k) (or-false (any t l))
-
-  pub index-beyond : (t : A → Bool) (l : List A) → any t l ≡ false → indexOf t l ≡ length l
-  unfolding any indexOf
-  index-beyond t [] e = refl
-  index-beyond t (x ∷ l) e = rw (or-first (t x) (any t l) e) (ap suc (index-beyond t l (or-second (t x) (any t l) e)))
-
-  -- z may stand behind each
-  module _ (t : A → A → Bool) (z : A) (behind : (x : A) → t x z ≡ true) where
-    pub pairwise-same : (k : ℕ) → pairwise t (replicate k z) ≡ true
-    unfolding pairwise
-    pairwise-same zero = refl
-    pairwise-same (suc k) = and-both _ _ (every-same (t z) z (behind z) k) (pairwise-same k)

@@ -7,9 +7,9 @@ use mathlib.Core.Bool.{Bool, true, false, cond, _&&_, _||_}
 use mathlib.Core.List.{List, [], _∷_}
 use native.Mathlib.Numerals.{add-one}
 use native.Mathlib.Omega.{arith}
-use lib.ListN.{length, getD, drop, drop-of-length-le, length-drop}
+use lib.ListN.{length, getD, drop, drop-of-length-le}
 use lib.Seq.{drop-cons}
-use Rattle.manager.specs.Lists.{every, any, indexOf, pairwise, adjacent}
+use Rattle.manager.specs.Lists.{every, any, indexOf, pairwise}
 
 -- two tests, both true
 pub and-first : (a b : Bool) → (a && b) ≡ true → a ≡ true
@@ -62,23 +62,6 @@ module _ {A : Type 0} where
     unfolding pairwise
     pairwise-none h = ap (pairwise t) (drop-of-length-le l h)
 
-    pub adjacent-cons : (z : A) → i + 1 < length l
-        → adjacent t (drop i l) ≡ (t (getD l i z) (getD l (i + 1) z) && adjacent t (drop (i + 1) l))
-    unfolding adjacent
-    adjacent-cons z h =
-        let r : drop (i + 1) l ≡ getD l (i + 1) z ∷ drop (i + 1 + 1) l = rest-cons l (i + 1) z h in
-        ap (adjacent t) (rest-cons l i z (omega arith) ∙ ap (λ (s : List A). getD l i z ∷ s) r)
-        ∙ ap (λ (s : List A). t (getD l i z) (getD l (i + 1) z) && adjacent t s) (sym r)
-
-    alone : (s : List A) → length s ≤ 1 → adjacent t s ≡ true
-    unfolding adjacent
-    alone [] h = refl
-    alone (x ∷ []) h = refl
-    alone (x ∷ y ∷ s) h = absurd (omega arith)
-
-    pub adjacent-none : length l ≤ i + 1 → adjacent t (drop i l) ≡ true
-    adjacent-none h = alone (drop i l) (omega (arith, length-drop i l))
-
   -- HOW FAR A LOOP HAS COME
   -- every: no element before place i failed
   pub record Passing (t : A → Bool) (l : List A) (n : ℕ) (w : Bool) (i : ℕ) : Type 0 where
@@ -128,12 +111,6 @@ module _ {A : Type 0} where
 
     pub some-here : i < n → (z : A) → t (getD l i z) ≡ true → true ≡ w
     some-here h z e = let c = some-cons t l i z (omega (arith, v .size)) in sym (rw e at c) ∙ v .rest
-
-    pub some-missed : i < n → (z : A) (b : Bool) → b ≡ t (getD l i z) → b ≡ false → Seeking t l n w (i + 1)
-    some-missed h z b e g = some-next h z (sym e ∙ g)
-
-    pub some-found : i < n → (z : A) (b : Bool) → b ≡ t (getD l i z) → b ≡ true → true ≡ w
-    some-found h z b e g = some-here h z (sym e ∙ g)
 
     pub some-end : n ≤ i → false ≡ w
     some-end h = sym (some-none t l i (omega (arith, v .size))) ∙ v .rest
@@ -188,34 +165,6 @@ module _ {A : Type 0} where
     pub pairwise-end : n ≤ i → true ≡ w
     pairwise-end h = sym (pairwise-none t l i (omega (arith, v .size))) ∙ v .rest
 
-  -- adjacent: no element before place i failed with the next
-  pub record Following (t : A → A → Bool) (l : List A) (n : ℕ) (w : Bool) (i : ℕ) : Type 0 where
-    pub size : length l ≡ n
-    pub within : i ≤ n
-    pub rest : adjacent t (drop i l) ≡ w
-
-  pub adjacent-start : (t : A → A → Bool) (l : List A) (n : ℕ) → length l ≡ n → Following t l n (adjacent t l) 0
-  adjacent-start t l n e = record { size = e; within = omega arith; rest = refl }
-
-  module _ (t : A → A → Bool) (l : List A) (n : ℕ) (w : Bool) (i : ℕ) (v : Following t l n w i) where
-    pub adjacent-next : i + 1 < n → (z : A) → t (getD l i z) (getD l (i + 1) z) ≡ true → Following t l n w (i + 1)
-    adjacent-next h z e =
-        let c = adjacent-cons t l i z (omega (arith, v .size)) in
-        record { size = v .size; within = omega arith; rest = sym (rw e at c) ∙ v .rest }
-
-    pub adjacent-fail : i + 1 < n → (z : A) → t (getD l i z) (getD l (i + 1) z) ≡ false → false ≡ w
-    adjacent-fail h z e = let c = adjacent-cons t l i z (omega (arith, v .size)) in sym (rw e at c) ∙ v .rest
-
-    pub adjacent-passed : i + 1 < n → (z : A) (b : Bool) → b ≡ t (getD l i z) (getD l (i + 1) z) → b ≡ true
-        → Following t l n w (i + 1)
-    adjacent-passed h z b e g = adjacent-next h z (sym e ∙ g)
-
-    pub adjacent-failed : i + 1 < n → (z : A) (b : Bool) → b ≡ t (getD l i z) (getD l (i + 1) z) → b ≡ false → false ≡ w
-    adjacent-failed h z b e g = adjacent-fail h z (sym e ∙ g)
-
-    pub adjacent-end : n ≤ i + 1 → true ≡ w
-    adjacent-end h = sym (adjacent-none t l i (omega (arith, v .size))) ∙ v .rest
-
   -- WHAT A TEST OVER THE LIST SAYS OF ONE ELEMENT
   pub every-at : (t : A → Bool) (l : List A) (i : ℕ) (z : A) → every t l ≡ true → i < length l → t (getD l i z) ≡ true
   unfolding every
@@ -223,13 +172,4 @@ module _ {A : Type 0} where
   every-at t (x ∷ l) zero z e h = and-first (t x) (every t l) e
   every-at t (x ∷ l) (suc i) z e h = every-at t l i z (and-second (t x) (every t l) e) (omega arith)
 
--- the laws of a loop, for `search`
-pub ruleset every-loop = (every-start, every-from, every-next, every-fail, every-passed, every-failed, every-end)
-
-pub ruleset some-loop = (some-start, some-next, some-here, some-missed, some-found, some-end)
-
 pub ruleset index-loop = (index-start, index-next, index-here, index-missed, index-found, index-end)
-
-pub ruleset pairwise-loop = (pairwise-start, pairwise-next, pairwise-fail, pairwise-end)
-
-pub ruleset adjacent-loop = (adjacent-start, adjacent-next, adjacent-fail, adjacent-passed, adjacent-failed, adjacent-end)

@@ -237,11 +237,6 @@ tiled-drawn s w = tiled-from s w
 pub total-decoded : (ws : List ℕ) → tiled ws ≡ true → total (decode ws) ≡ length ws
 total-decoded ws e = sym (length-draw (decode ws)) ∙ ap length (redraw ws e)
 
--- a segment somewhere in one, with what is behind it
-pub sized-at : (s : List Segment) (g : Segment) (t : List Segment) → Sized (s ++ (g ∷ t)) → (1 ≤ sizeOf g) × Sized t
-sized-at [] g t w = w
-sized-at (f ∷ s) g t w = sized-at s g t (w .1)
-
 -- SOUND MAPS: tiled, by segments that stand as their kind says; and a drawing of such is sound
 module _ (proper : List Segment → Bool) where
   pub sound-tiled : (ws : List ℕ) → soundMap proper ws ≡ true → tiled ws ≡ true

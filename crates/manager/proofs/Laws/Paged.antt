@@ -2,17 +2,17 @@
 -- the map before it, the segment, and the map behind it. Assumes nothing.
 use Prim.Native.Nat.{ℕ, zero, suc, _+_, _-_, _≤_, _<_}
 use mathlib.Core.Path.{_≡_, refl, sym, ap, _∙_}
-use mathlib.Core.Bool.{Bool, true, false, cond, _&&_, _||_, and-false}
+use mathlib.Core.Bool.{Bool, true, false, cond, _&&_, and-false}
 use mathlib.Core.List.{List, [], _∷_, _++_}
 use native.Mathlib.Nat.{add-zero}
 use native.Mathlib.Omega.{arith}
 use lib.Dec.{eqb, leb}
 use borrow.Author.Tests.{leb-true, leb-false, le-leb, lt-leb, eqb-true, eq-eqb, ne-eqb}
-use Rattle.manager.specs.Map.{Segment, free, held, isHeldSegment, draw, decode, soundMap, total}
+use Rattle.manager.specs.Map.{Segment, free, held, isHeldSegment, total}
 use Rattle.manager.specs.Map.{sizeOf}
 use Rattle.manager.proofs.Laws.Map.{Sized, both-true, total-cons}
-use Rattle.manager.proofs.Laws.Apart.{Well, well-after, well-decoded, well-drawn}
-use Rattle.manager.specs.Paged.{apart, free+, held+, lead, rest, onPlace, placeFrom, occupyFrom, allocate, paged, heldFrom, reachFrom, changeFrom}
+use Rattle.manager.proofs.Laws.Apart.{Well, well-after}
+use Rattle.manager.specs.Paged.{free+, held+, lead, rest, onPlace, placeFrom, occupyFrom, allocate, paged, heldFrom, reachFrom, changeFrom}
 use Rattle.manager.specs.declared.Place.{Place}
 use Rattle.manager.specs.declared.Place.the-variants.{At, Nowhere}
 
@@ -367,10 +367,3 @@ held-within p at (held n ∷ s) = go (eqb at p) (held-within p (at + n) s)
     go : (b : Bool) → heldFrom p (at + n) s ≤ total s → cond b n (heldFrom p (at + n) s) ≤ n + total s
     go true h = omega arith
     go false h = omega arith
-
--- ---- of whole maps
-
--- a get keeps a sound map sound and its length
-module _ (ws : List ℕ) (ok : soundMap apart ws ≡ true) where
-  pub sound-take : (k at : ℕ) → 1 ≤ k → soundMap apart (draw (allocate paged k at (decode ws))) ≡ true
-  sound-take k at o = well-drawn (allocate paged k at (decode ws)) (well-take k at (decode ws) o (well-decoded ws ok))

@@ -14,10 +14,9 @@ use Rattle.arith.proofs.Laws.Layout.{count-map, count-end}
 use Rattle.manager.specs.Record.{mostWords, noRegion, regionOf, slotOf}
 use Rattle.manager.specs.Lists.{every}
 use Rattle.manager.proofs.Laws.Lists.{and-first, and-second, every-at}
-use Rattle.manager.specs.Map.{Segment, decode, draw, tiled, soundMap, total}
-use Rattle.manager.proofs.Laws.Map.{Sized, redraw, reread, sound-drawn, sound-tiled, length-draw, total-decoded, sized-decoded}
+use Rattle.manager.specs.Map.{Segment, draw, tiled, soundMap, total}
+use Rattle.manager.proofs.Laws.Map.{Sized, redraw, sound-drawn, sound-tiled, length-draw, total-decoded, sized-decoded}
 use Rattle.manager.proofs.Laws.Apart.{Well, well-decoded}
-use Rattle.manager.specs.Paged.{Kind}
 use Rattle.manager.specs.Region.{dead, kind, pagesOf, firstPageOf, mapAt, mapWords, segments, withSegments, addressOf}
 use Rattle.manager.specs.Sound.{Laid, Sited, sound, soundLength, inside, soundPage, liveRegion, soundRegion, soundPartition, soundAreas, soundQueue}
 use Rattle.manager.specs.declared.Manager.{Manager}
@@ -125,9 +124,6 @@ module _ (m : List ℕ) (r : Region) (s : Laid m r) where
     length-with = length-sets m (mapAt r) (draw t)
 
     module _ (w : Sized t) where
-      pub segments-with : segments (withSegments m r t) r ≡ t
-      segments-with = ap decode read-with ∙ reread t w
-
       pub sited-with : kind r .proper t ≡ true → Sited (withSegments m r t) r
       sited-with o =
           record {

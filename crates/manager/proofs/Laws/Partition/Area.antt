@@ -1,8 +1,8 @@
 -- A get, a return and a create touch no word outside the partition's area, and its chain rests on the words of its area alone. Assumes
 -- nothing.
 use Prim.Native.Nat.{ℕ, zero, suc, _+_, _-_, _/_, _≤_, _<_}
-use mathlib.Core.Path.{_≡_, refl, ap, sym, _∙_, subst}
-use mathlib.Core.Bool.{true, false}
+use mathlib.Core.Path.{_≡_, refl, ap, sym, _∙_}
+use mathlib.Core.Bool.{true}
 use mathlib.Core.List.{List}
 use mathlib.Core.Logic.{_⊎_, ⊎-elim}
 use native.Mathlib.Omega.{arith}
@@ -10,13 +10,13 @@ use lib.ListN.{length, getD, length-set}
 use lib.Seq.{getD-set-other}
 use lib.Dec.{eqb}
 use Rattle.manager.specs.Lists.{any}
-use Rattle.manager.specs.Partition.{buffers, bufferAt, isBuffer, nextOf, setNext, link, follow, chain, isFree, linked, soundChain, linkAll, afterGet, afterReturn}
-use Rattle.manager.proofs.Laws.Distinct.{On, Off, same-or-not, on-off, on-head, on-tail}
+use Rattle.manager.specs.Partition.{buffers, bufferAt, isBuffer, nextOf, setNext, link, follow, isFree, linked, soundChain, linkAll, afterGet, afterReturn}
+use Rattle.manager.proofs.Laws.Distinct.{On, same-or-not, on-head, on-tail}
 use Rattle.manager.specs.declared.Partition.{Partition}
-use Rattle.manager.proofs.Laws.Partition.Buffers.{Shaped, Buffer, buffer-of, buffer-at, placed, words-clear}
+use Rattle.manager.proofs.Laws.Partition.Buffers.{Shaped, Buffer, buffer-of, buffer-at, placed}
 use Rattle.manager.proofs.Laws.Partition.Chain.{linked-rest, linked-last, rear-on}
 use Rattle.manager.proofs.Laws.Partition.Repeats.{chain-buffer}
-use Rattle.manager.proofs.Laws.Partition.Links.{Same, chain-front, after-last, after-get, return-first, return-behind}
+use Rattle.manager.proofs.Laws.Partition.Links.{chain-front, after-last, after-get, return-first, return-behind}
 use Rattle.manager.proofs.Laws.Partition.Created.{link-length, all-clear}
 
 -- a word that is not wholly within the partition's area
@@ -126,22 +126,3 @@ module _ (m : List ℕ) (p : Partition) (s : Shaped p) (e : soundChain m p ≡ t
     return-outside o a q =
         let u = outside-clear p s i a o (buffer-of p s a q) in
         return-only a (λ x r. outside-clear p s i x o (free-buffer x r)) (u .0) (u .1)
-
-    -- none of a buffer that is held before and after
-    module _ (b : ℕ) (ib : isBuffer p b ≡ true) (ob : isFree m p b ≡ false) (h : b / 4 ≤ i) (k : i < (b + p .size) / 4) where
-      held-clear : (x : ℕ) → isFree m p x ≡ true → (i ≡ x / 4 → ⊥) × (i ≡ x / 4 + 1 → ⊥)
-      held-clear x q =
-          words-clear p s b x (buffer-of p s b ib) (free-buffer x q) (λ r. on-off x (chain m p) q (subst (λ (y : ℕ). Off y (chain m p)) r ob)) i h k
-
--- A CHAIN RESTS ON THE WORDS OF ITS AREA ALONE
-pub record Agree (p : Partition) (m m′ : List ℕ) : Type 0 where
-  pub word : (i : ℕ) → p .start / 4 ≤ i → i < (p .start + p .length) / 4 → getD m′ i 0 ≡ getD m i 0
-
-module _ (p : Partition) (s : Shaped p) (m m′ : List ℕ) (h : Agree p m m′) where
-  pub agree-same : (x : ℕ) → Buffer p x → Same m m′ x
-  agree-same x b =
-      let q = placed p s x b in
-      record {
-        next = h .word (x / 4) (omega (arith, q .low)) (omega (arith, q .high, s .big));
-        before = h .word (x / 4 + 1) (omega (arith, q .low)) (omega (arith, q .high, s .big));
-      }

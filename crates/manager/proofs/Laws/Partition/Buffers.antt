@@ -114,15 +114,5 @@ module _ (p : Partition) (s : Shaped p) where
     pub words-apart : (a ≡ b → ⊥) → a / 4 ≡ b / 4 → ⊥
     words-apart q e = ⊎-elim (λ (h : a + p .size ≤ b). omega (arith, e, s .big)) (λ (h : b + p .size ≤ a). omega (arith, e, s .big)) (apart a b x y q)
 
-    -- no word of one is a link of another
-    pub words-clear : (a ≡ b → ⊥) → (i : ℕ) → a / 4 ≤ i → i < (a + p .size) / 4 → (i ≡ b / 4 → ⊥) × (i ≡ b / 4 + 1 → ⊥)
-    words-clear q i h k =
-        let pa = placed a x .aligned in
-        let pb = placed b y .aligned in
-        let z = apart a b x y q in (
-          λ e. ⊎-elim (λ (l : a + p .size ≤ b). omega (arith, pb, pa, s .big)) (λ (l : b + p .size ≤ a). omega (arith, pa, pb, s .big)) z,
-          λ e. ⊎-elim (λ (l : a + p .size ≤ b). omega (arith, pb, pa, s .big)) (λ (l : b + p .size ≤ a). omega (arith, pa, pb, s .big)) z,
-        )
-
   pub not-zero : (a : ℕ) → isBuffer p a ≡ true → a ≡ 0 → ⊥
   not-zero a e z = omega (arith, s .start-in, placed a (buffer-of p s a e) .low)
