@@ -1,7 +1,7 @@
 // Numbers: roundings to whole pages, and the layout of an area of memory. Every function is total over 32-bit
 // inputs, and no sum wraps: sums are kept in 64 bits.
 ghost use mathlib.Core.Path.{_≡_};
-ghost use Prim.Native.Nat.{ℕ, _<_};
+ghost use Prim.Native.Nat.{_<_};
 ghost use Rattle.arith.specs.Round.{roundUp, pagesFor};
 ghost use Rattle.arith.specs.Layout.{firstPage, pageCount, layoutOf};
 

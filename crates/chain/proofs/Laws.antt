@@ -1,16 +1,16 @@
 -- One step of each definition of the chain, as the code takes it: what a test or a turn shows, over plain variables. Assumes nothing.
-use Prim.Native.Nat.{ℕ, zero, suc, _+_, _-_, _*_, _/_, _%_, _≤_, _<_}
+use Prim.Native.Nat.{ℕ, zero, suc, _-_, _/_, _%_, _≤_, _<_}
 use mathlib.Core.Path.{_≡_, refl, ap, sym, _∙_}
-use mathlib.Core.Bool.{Bool, true, false, not, cond, _&&_}
-use mathlib.Core.List.{List, [], _∷_}
+use mathlib.Core.Bool.{Bool, true, false, _&&_}
+use mathlib.Core.List.{List}
 use native.Mathlib.Omega.{arith}
 use native.Mathlib.Nat.{div-zero}
 use lib.ListN.{length, getD, set, List·getD-eq-default}
 use lib.Seq.{set-out}
 use lib.Dec.{eqb, leb, ltb}
-use borrow.Author.Tests.{eq-eqb, ne-eqb, lt-ltb, le-ltb, le-leb, lt-leb, not-true, not-false}
+use borrow.Author.Tests.{eq-eqb, ne-eqb, le-ltb, le-leb, lt-leb, not-true, not-false}
 use Rattle.manager.specs.Lists.{any}
-use Rattle.manager.specs.Partition.{buffers, isBuffer, nextOf, beforeOf, setNext, setBefore, link, follow, linked, afterGet, afterReturn}
+use Rattle.manager.specs.Partition.{isBuffer, nextOf, beforeOf, setNext, setBefore, link, follow, linked, afterGet, afterReturn}
 use Rattle.manager.specs.declared.Partition.{Partition}
 
 -- words past the memory

@@ -3,7 +3,6 @@
 use manager::Answer;
 use manager::Manager;
 use manager::Status;
-ghost use mathlib.Core.Path.{_≡_};
 ghost use Rattle.manager.specs.Result.{Performs};
 ghost use Rattle.manager.specs.Regions.{tick};
 

@@ -1,15 +1,14 @@
 -- The library's answers by the receipts (`theorem-library`): the words that the caller keeps are those of the record that the list of
 -- calls reaches, and unpacking gives that record back; demand 3 then says what is answered. Assumes nothing.
 use mathlib.Core.Path.{_≡_, refl, ap, _∙_, subst}
-use mathlib.Core.Bool.{Bool, true, _&&_}
+use mathlib.Core.Bool.{true}
 use mathlib.Core.List.{List}
 use Prim.Native.Nat.{ℕ, _≤_}
-use native.Mathlib.Omega.{arith}
 use lib.ListN.{length}
 use lib.Seq.{sets}
 use borrow.Author.Tests.{le-leb}
-use Rattle.manager.specs.Record.{slots, tasks, mostWords, noWaiter, fresh}
-use Rattle.manager.specs.Result.{Result, answerOf, pad}
+use Rattle.manager.specs.Record.{tasks, mostWords, fresh}
+use Rattle.manager.specs.Result.{Result, answerOf}
 use Rattle.manager.specs.Status.{numberOf}
 use Rattle.manager.specs.Access.{readSegment, writeSegment}
 use Rattle.manager.specs.Perform.{perform, defined}
@@ -18,9 +17,9 @@ use Rattle.manager.specs.declared.Manager.{Manager}
 use Rattle.manager.specs.declared.Call.{Call}
 use Rattle.trace.specs.Receipts.{Receipts, Reply, replyOf}
 use Rattle.trace.specs.Queue.{inLine}
-use Rattle.trace.specs.Replies.{byReceipts, writeByReceipts, readByReceipts, note}
+use Rattle.trace.specs.Replies.{note}
 use Rattle.trace.specs.Claims.{Claims, waitersOf}
-use Rattle.trace.specs.Trace.{State, Ask, ClientsWrite, Runs, start, after}
+use Rattle.trace.specs.Trace.{State, ClientsWrite, Runs, start, after}
 use Rattle.trace.specs.Trace as trace
 use Rattle.trace.proofs.Invariant.{Inv}
 use Rattle.trace.proofs.Start.{start-inv}
@@ -28,7 +27,7 @@ use Rattle.trace.proofs.Theorem.{runs, theorem}
 use Rattle.trace.proofs.Access.{writes}
 use Rattle.trace.proofs.Regions.Queue.{sound-inv}
 use Rattle.trace.proofs.Queue.Waiters.{line-fits}
-use Rattle.packing.specs.Packing.{pack, unpack, wellFormed, recordWords, regionWords, allWords}
+use Rattle.packing.specs.Packing.{pack, unpack, wellFormed, regionWords, allWords}
 use Rattle.packing.proofs.Inverse.{pack-formed, unpack-pack}
 use Rattle.firmware.specs.Exported.{Outcome, answerSize, answerWords, called, performed, segmentWords, segmentWritten}
 use Rattle.end_to_end.specs.Library.{replyWords, Caller, zeroed, afterCall, afterWrite, Calls, end, call, write, clients, Answers, LibraryByReceipts}

@@ -1,29 +1,26 @@
 -- The program's output by the receipts (`theorem`): demand 3 says of every state that the calls before reach what the next one is
 -- answered; one induction over the script's calls. Assumes nothing.
-use mathlib.Core.Path.{_≡_, refl, sym, ap, _∙_}
-use mathlib.Core.Bool.{Bool, true, false, cond}
+use mathlib.Core.Path.{_≡_, refl, ap, _∙_}
+use mathlib.Core.Bool.{Bool, true, false}
 use mathlib.Core.List.{List, [], _∷_, _++_}
 use Prim.Native.Nat.{ℕ, zero, suc, _-_, _≤_}
 use lib.ListN.{length, replicate}
-use lib.Dec.{eqb}
-use Rattle.manager.specs.Record.{fresh, mostWords, tasks, noNotice}
-use Rattle.manager.specs.Result.{Result, answerOf, pad}
+use Rattle.manager.specs.Record.{mostWords, tasks, noNotice}
+use Rattle.manager.specs.Result.{Result, answerOf}
 use Rattle.manager.specs.Perform.{perform, defined}
-use Rattle.manager.specs.declared.Manager.{Manager}
 use Rattle.manager.specs.declared.Notice.{Notice}
 use Rattle.manager.specs.declared.Call.{Call}
-use Rattle.trace.specs.Receipts.{Receipts, Reply, replyOf, blank}
+use Rattle.trace.specs.Receipts.{replyOf}
 use Rattle.trace.specs.Replies.{byReceipts, note}
 use Rattle.trace.specs.Trace.{State, Ask, call, after, Runs, end, ask, clients, start}
 use Rattle.trace.proofs.Start.{start-inv}
 use Rattle.trace.proofs.Theorem.{runs, theorem}
-use Rattle.effects.specs.Effects.{CallEffects}
+use Rattle.script.specs.Table.{rowOf}
+use Rattle.script.specs.Reading.{readAll}
 use Rattle.effects.proofs.Theorem.{calls as effects}
-use Rattle.script.specs.Table.{Row, rowOf}
-use Rattle.script.specs.Reading.{Script, readAll}
 use Rattle.run.specs.Output.{noticesText, answerText, valuesText}
 use Rattle.run.specs.Run.{answers, runScript, runAll}
-use Rattle.end_to_end.specs.Program.{valuesOf, replyText, repliesText, written, ProgramByReceipts}
+use Rattle.end_to_end.specs.Program.{replyText, repliesText, written, ProgramByReceipts}
 
 -- unused places of the notices write nothing
 unused-text : (n : ℕ) → noticesText (replicate n noNotice) ≡ []

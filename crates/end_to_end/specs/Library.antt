@@ -6,7 +6,7 @@ use mathlib.Core.List.{List, _∷_}
 use lib.ListN.{length, replicate}
 use lib.Seq.{sets}
 use Rattle.manager.specs.Record.{tasks, mostWords, noNotice}
-use Rattle.manager.specs.Result.{Result, pad}
+use Rattle.manager.specs.Result.{pad}
 use Rattle.manager.specs.Status.{numberOf}
 use Rattle.manager.specs.declared.Call.{Call}
 use Rattle.trace.specs.Receipts.{Receipts, Reply, blank}

@@ -11,8 +11,8 @@ use Rattle.manager.specs.Status.{numberOf}
 use Rattle.manager.specs.declared.Call.{Call}
 use Rattle.trace.specs.Receipts.{Receipts, Reply, blank}
 use Rattle.trace.specs.Replies.{byReceipts, note}
-use Rattle.script.specs.Table.{Row, rowOf}
-use Rattle.script.specs.Reading.{Script, readAll}
+use Rattle.script.specs.Table.{rowOf}
+use Rattle.script.specs.Reading.{readAll}
 use Rattle.run.specs.Output.{line, informationText, noticesText}
 use Rattle.run.specs.Run.{mostScript, badText, runAll}
 

@@ -5,24 +5,23 @@ use mathlib.Core.Bool.{Bool, true, false, cond, not, _&&_}
 use mathlib.Core.List.{List, [], _∷_, _++_, append-assoc}
 use Prim.Native.Nat.{ℕ, zero, suc, _+_, _-_, _*_, _≤_, _<_}
 use native.Mathlib.Omega.{arith}
-use borrow.Author.Tests.{le-leb, lt-leb, eq-eqb, ne-eqb, eqb-true, not-true, not-false}
+use borrow.Author.Tests.{le-leb, lt-leb, eq-eqb, ne-eqb, not-true, not-false}
 use lib.Dec.{eqb, leb}
 use lib.ListN.{length, set, replicate, length-set}
 use lib.Seq.{sets, length-sets}
 use Rattle.manager.proofs.Laws.Lists.{and-first}
 use Rattle.manager.specs.Record.{fresh, slots, tasks, noNotice}
-use Rattle.manager.specs.Result.{Result, Performs, pad}
+use Rattle.manager.specs.Result.{Performs, pad}
 use Rattle.manager.specs.Status.{numberOf}
 use Rattle.manager.specs.declared.Answer.{Answer}
 use Rattle.manager.specs.declared.Call.{Call}
 use Rattle.manager.specs.declared.Manager.{Manager}
 use Rattle.manager.specs.declared.Notice.{Notice}
-use Rattle.manager.specs.declared.Wait.{Wait}
 use Rattle.manager.specs.declared.Wait.the-variants.{No, Yes}
 use Rattle.packing.specs.Packing.{allWords, pack, packed, unpack, unpacked, wellFormed, choices, recordWords}
 use Rattle.packing.specs.declared.Unpacked.{Unpacked}
 use Rattle.packing.proofs.Laws.{put-start, put-next, put-end, all-length}
-use Rattle.firmware.specs.Exported.{perform, readSegment, writeSegment, answerSize, noticesAt, noticeWords, answerWords, Outcome, damaged, performed, called, chosen, waitAt, Leaves, segmentWords, Reads, segmentWritten, Writes}
+use Rattle.firmware.specs.Exported.{perform, readSegment, writeSegment, answerSize, noticesAt, noticeWords, answerWords, called, chosen, waitAt, Leaves, segmentWords, Reads, segmentWritten, Writes}
 
 -- A CHOICE
 module _ (w : ℕ) where

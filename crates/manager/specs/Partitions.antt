@@ -1,6 +1,6 @@
 -- Rules 12: the directives on partitions. Each has its checks in the order of "Order of checks". Assumes nothing.
-use Prim.Native.Nat.{ℕ, _+_, _-_, _*_, _%_}
-use mathlib.Core.Bool.{Bool, true, false, cond, not}
+use Prim.Native.Nat.{ℕ, _-_, _%_}
+use mathlib.Core.Bool.{not}
 use mathlib.Core.List.{List, [], _∷_}
 use lib.Dec.{eqb, leb, ltb}
 use Rattle.manager.specs.Record.{slots, noPartition, partitionOf, slotOf, idOf, withPartition}
@@ -11,7 +11,6 @@ use Rattle.manager.specs.Regions.{answered, overlaps, pastMemory}
 use Rattle.manager.specs.Sound.{sound}
 use Rattle.manager.specs.declared.Manager.{Manager}
 use Rattle.manager.specs.declared.Partition.{Partition}
-use Rattle.manager.specs.declared.Area.{Area}
 use Rattle.manager.specs.declared.Status.the-variants.{InvalidName, InvalidId, TooMany, InvalidSize, InvalidAddress, ResourceInUse, Unsatisfied}
 
 -- Create takes the lowest empty slot, ident the lowest with the name

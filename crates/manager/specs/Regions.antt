@@ -1,7 +1,7 @@
 -- Rules 11: the directives on regions and the clock tick. Each has its checks in the order of "Order of checks". Assumes nothing.
 use Prim.Native.Nat.{ℕ, _+_, _*_}
-use mathlib.Core.Bool.{Bool, true, false, cond, not, _&&_}
-use mathlib.Core.List.{List, [], _∷_, _++_}
+use mathlib.Core.Bool.{Bool, cond, not}
+use mathlib.Core.List.{List, [], _∷_}
 use lib.ListN.{length}
 use lib.Dec.{eqb, leb, ltb}
 use Rattle.arith.specs.Round.{roundUp}
@@ -22,7 +22,6 @@ use Rattle.manager.specs.declared.Information.{Information}
 use Rattle.manager.specs.declared.Order.{Order}
 use Rattle.manager.specs.declared.Wait.{Wait}
 use Rattle.manager.specs.declared.Wait.the-variants.{No, Yes}
-use Rattle.manager.specs.declared.Status.{Status}
 use Rattle.manager.specs.declared.Status.the-variants.{Successful, InvalidName, InvalidId, TooMany, InvalidSize, InvalidAddress, InvalidNumber, ResourceInUse, Unsatisfied, IncorrectState, InvalidPriority, InternalError, Waiting}
 
 -- "25 first always", where the records that the directive looks at are not sound; then its own checks, then what it does

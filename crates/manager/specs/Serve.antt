@@ -1,7 +1,7 @@
 -- Rules 8: the first waiter is tried by the get rule; if served, the next; the first who can't be served
 -- ends it. Assumes nothing.
 use Prim.Native.Nat.{ℕ, zero, suc}
-use mathlib.Core.Bool.{Bool, cond}
+use mathlib.Core.Bool.{cond}
 use mathlib.Core.List.{List, [], _∷_}
 use lib.ListN.{getD}
 use lib.Dec.{ltb}
@@ -11,7 +11,6 @@ use Rattle.manager.specs.Paged.{onPlace}
 use Rattle.manager.specs.Region.{addressOf, pagesAsked, placed, taken}
 use Rattle.manager.specs.Queue.{firstOf, dequeue}
 use Rattle.manager.specs.declared.Manager.{Manager}
-use Rattle.manager.specs.declared.Region.{Region}
 use Rattle.manager.specs.declared.Waiter.{Waiter}
 use Rattle.manager.specs.declared.Notice.{Notice}
 use Rattle.manager.specs.declared.Status.the-variants.{Successful}

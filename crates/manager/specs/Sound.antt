@@ -2,13 +2,12 @@
 use Prim.Native.Nat.{ℕ, _+_, _*_, _%_, _≤_}
 use mathlib.Core.Path.{_≡_}
 use mathlib.Core.Bool.{Bool, true, false, cond, not, _&&_, _||_}
-use mathlib.Core.List.{List, [], _∷_}
+use mathlib.Core.List.{List}
 use lib.ListN.{length}
-use lib.Dec.{eqb, leb, ltb}
+use lib.Dec.{eqb, leb}
 use Rattle.manager.specs.Record.{tasks, mostWords, regionOf}
 use Rattle.manager.specs.Lists.{every, pairwise, adjacent}
 use Rattle.manager.specs.Map.{soundMap}
-use Rattle.manager.specs.Paged.{Kind}
 use Rattle.manager.specs.Region.{dead, kind, pagesOf, mapWords, anyHeld, pagesAsked, servable, areas, overlap}
 use Rattle.manager.specs.Partition.{deadPartition, soundChain}
 use Rattle.manager.specs.Queue.{goesBefore}

@@ -1,14 +1,14 @@
 -- Packing and unpacking are inverse. Elements are packed one behind the other, so that an element is found behind the words of those before
 -- it; and what is read of so many words, packed again, is those words. Both once for every kind of element. Assumes nothing.
-use mathlib.Core.Path.{_≡_, refl, ap, sym, _∙_}
-use mathlib.Core.Bool.{Bool, true, false, _&&_}
+use mathlib.Core.Path.{_≡_, refl, sym, _∙_}
+use mathlib.Core.Bool.{true}
 use mathlib.Core.List.{List, [], _∷_, _++_, append-assoc, append-nil}
 use Prim.Native.Nat.{ℕ, zero, suc, _+_, _-_, _*_, _≤_, _<_}
 use native.Mathlib.Omega.{arith}
 use native.Mathlib.Numerals.{add-one}
 use borrow.Author.Tests.{le-leb, eq-eqb, leb-true, eqb-true}
 use lib.Dec.{leb, eqb}
-use lib.ListN.{length, take, drop, getD, length-append, take-append-drop}
+use lib.ListN.{length, take, drop, getD, length-append}
 use lib.Seq.{getD-append-add, getD-append-seam, drop-cons, take-add, take-all, drop-drop}
 use Rattle.manager.specs.Record.{slots, tasks}
 use Rattle.manager.proofs.Laws.Lists.{and-first, and-second}

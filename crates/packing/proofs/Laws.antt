@@ -1,7 +1,7 @@
 -- Packing and unpacking element by element: a loop that has come to element k has taken or put those before, and the rest gives the
 -- whole. One law for each turn, over the kind of element. Assumes nothing.
 use mathlib.Core.Path.{_≡_, refl, ap, sym, _∙_}
-use mathlib.Core.Bool.{Bool, true, false, not, _&&_}
+use mathlib.Core.Bool.{Bool, true, false, not}
 use mathlib.Core.List.{List, [], _∷_, _++_, append-nil}
 use Prim.Native.Nat.{ℕ, zero, suc, _+_, _-_, _*_, _≤_, _<_}
 use native.Mathlib.Omega.{arith}
@@ -16,7 +16,6 @@ use Rattle.manager.specs.declared.Manager.{Manager}
 use Rattle.manager.specs.declared.Region.{Region}
 use Rattle.manager.specs.declared.Partition.{Partition}
 use Rattle.manager.specs.declared.Waiter.{Waiter}
-use Rattle.packing.specs.declared.Unpacked.{Unpacked}
 use Rattle.manager.specs.declared.Order.{Order}
 use Rattle.manager.specs.declared.Order.the-variants.{Fifo, Priority}
 use Rattle.packing.specs.Packing.{orderWord, orderAt, regionWords, partitionWords, waiterWords, allWords, allAt, choices, regionAt, partitionAt, waiterAt, partitionsAt, waitersAt, recordWords, pack, packed, unpack, unpacked}

@@ -2,19 +2,17 @@
 -- number k, and what is left of `linkAll` from there gives the whole. Assumes nothing.
 use Prim.Native.Nat.{ℕ, zero, suc, _+_, _-_, _*_, _/_, _%_, _≤_, _<_}
 use mathlib.Core.Path.{_≡_, refl, ap, sym, _∙_}
-use mathlib.Core.Bool.{Bool, true, false, not, cond, _||_}
-use mathlib.Core.List.{List, [], _∷_}
+use mathlib.Core.Bool.{true, cond}
+use mathlib.Core.List.{List}
 use mathlib.Core.Logic.{⊎-elim}
 use native.Mathlib.Omega.{arith}
-use native.Mathlib.Numerals.{add-one}
 use native.Mathlib.Nat.{div-mul-le-self, mul-le-mul-right, lt-div-mul-add}
 use lib.ListN.{length}
-use lib.Dec.{eqb, leb, ltb}
+use lib.Dec.{eqb, ltb}
 use borrow.Author.Tests.{eq-eqb, ne-eqb, lt-ltb, le-ltb}
 use Rattle.manager.specs.Partition.{buffers, bufferAt, link, linkAll}
 use Rattle.manager.proofs.Laws.Distinct.{same-or-not}
 use Rattle.manager.proofs.Laws.Partition.Created.{link-length, beforeAddress}
-use Rattle.manager.proofs.Laws.Partition.Live.{some-buffer}
 use Rattle.manager.specs.declared.Partition.{Partition}
 use Rattle.partitions.specs.Checks.{sizeRefused}
 

@@ -6,7 +6,6 @@ mod create;
 use manager::Answer;
 use manager::Manager;
 use manager::Status;
-ghost use mathlib.Core.Path.{_≡_};
 ghost use Rattle.manager.specs.Result.{Performs};
 ghost use Rattle.manager.specs.Partitions.{createPartition, identPartition, deletePartition, getBuffer, returnBuffer};
 

@@ -11,7 +11,7 @@ ghost use mathlib.Core.Path.{_≡_};
 ghost use mathlib.Core.List.{_++_};
 ghost use lib.ListN.{take, drop};
 ghost use Rattle.manager.specs.Lists.{indexOf};
-ghost use Rattle.manager.specs.Queue.{goesBefore, push, insert, removeAt, enqueue, dequeue, firstOf, waiting, aged, expired, leaving, afterTick};
+ghost use Rattle.manager.specs.Queue.{goesBefore, push, removeAt, enqueue, dequeue, firstOf, waiting, aged, expired, leaving, afterTick};
 ghost use Rattle.manager.specs.Record.{noWaiter};
 ghost use Rattle.reply.specs.Notices.{Notices};
 

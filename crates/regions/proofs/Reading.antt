@@ -8,7 +8,7 @@ use native.Mathlib.Numerals.{add-one}
 use lib.ListN.{length, replicate}
 use borrow.Author.Tests.{eq-eqb, ne-eqb, le-leb, lt-leb, not-true, not-false}
 use Rattle.manager.specs.Record.{slots, tasks, noRegion, noNotice, regionOf, slotOf, withRegion}
-use Rattle.manager.specs.Result.{Result, Performs, checked, refused, done}
+use Rattle.manager.specs.Result.{Performs, checked, refused, done}
 use Rattle.manager.proofs.Laws.Result.{performs-replied}
 use Rattle.manager.specs.Map.{decode, tiled, freeSizes, heldSizes}
 use Rattle.manager.specs.Region.{layoutOf, wordsAt, mapWords, anyHeld}

@@ -8,7 +8,6 @@ use manager::Manager;
 use manager::Order;
 use manager::Region;
 use manager::Status;
-ghost use mathlib.Core.Path.{_≡_};
 ghost use Rattle.manager.specs.Result.{Performs};
 ghost use Rattle.manager.specs.Regions.{createRegion, identRegion, deleteRegion, regionInformation};
 

@@ -2,7 +2,7 @@
 use manager::Information;
 ghost use mathlib.Core.Path.{_≡_};
 ghost use mathlib.Core.Bool.{true};
-ghost use Prim.Native.Nat.{ℕ, _+_, _≤_, max};
+ghost use Prim.Native.Nat.{_+_, _≤_, max};
 ghost use lib.ListN.{length};
 ghost use Rattle.manager.specs.Map.{tiled, decode, freeSizes, heldSizes};
 ghost use Rattle.manager.specs.Regions.{informationOf};

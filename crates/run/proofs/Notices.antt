@@ -1,6 +1,6 @@
 -- The loop of `put_notices`. `NoticesLeft` says what holds after i of the notices: what is left to put is the text of those from i on, and what
 -- was put has at most `mostNotice` bytes for each. Assumes nothing.
-use mathlib.Core.Path.{_≡_, refl, sym, _∙_, ap}
+use mathlib.Core.Path.{_≡_}
 use Prim.Native.Nat.{ℕ, _+_, _*_, _≤_, _<_}
 use mathlib.Core.List.{List}
 use native.Mathlib.Omega.{arith}

@@ -3,16 +3,13 @@
 -- most `mostPerByte` bytes for each byte read. Assumes nothing.
 use mathlib.Core.Path.{_≡_, refl, sym, _∙_, ap, subst}
 use Prim.Native.Nat.{ℕ, suc, _+_, _*_, _-_, _≤_, _<_}
-use mathlib.Core.List.{List, [], _∷_, _++_, append-assoc}
+use mathlib.Core.List.{List, [], _++_, append-assoc}
 use mathlib.Core.Bool.{Bool}
-use mathlib.Core.Option.{none, some}
 use native.Mathlib.Omega.{arith}
 use lib.ListN.{length}
 use borrow.Author.Tests.{lt-ltb, le-ltb}
-use Rattle.text.specs.Bytes.{bytes}
-use Rattle.text.specs.Decimal.{lineOf}
 use Rattle.manager.specs.Record.{fresh}
-use Rattle.manager.specs.Result.{Result, answerOf, Performs}
+use Rattle.manager.specs.Result.{answerOf, Performs}
 use Rattle.manager.specs.declared.Manager.{Manager}
 use Rattle.manager.specs.declared.Answer.{Answer}
 use Rattle.manager.specs.declared.Call.{Call}

@@ -1,15 +1,14 @@
 -- The texts of more than one line, from those of their lines: what the functions that put them ensure, from what those that they call ensure.
 -- Assumes nothing.
-use mathlib.Core.Path.{_≡_, refl, sym, _∙_, ap}
-use Prim.Native.Nat.{ℕ, _≤_}
+use mathlib.Core.Path.{_≡_}
+use Prim.Native.Nat.{ℕ}
 use mathlib.Core.List.{List}
 use mathlib.Core.Bool.{Bool, true, false}
 use native.Mathlib.Omega.{arith}
 use Rattle.manager.specs.Status.{numberOf}
 use Rattle.manager.specs.declared.Notice.{Notice}
-use Rattle.manager.specs.declared.Information.{Information}
 use Rattle.manager.specs.declared.Answer.{Answer}
-use Rattle.run.specs.Output.{line, informationText, valuesText, noticeText, noticesText, answerText, mostLine, mostStatus, mostValue, mostValues, mostNotice, mostNotices, mostAnswer, Puts}
+use Rattle.run.specs.Output.{line, informationText, valuesText, noticeText, noticesText, answerText, mostStatus, mostValue, mostValues, mostNotice, mostNotices, mostAnswer, Puts}
 use Rattle.run.proofs.Stores.{puts-append, puts-most}
 
 -- a line whose number is told by an equation

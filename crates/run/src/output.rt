@@ -4,12 +4,9 @@ use manager::Information;
 use manager::Manager;
 use manager::Notice;
 use manager::number;
-ghost use mathlib.Core.Path.{_≡_};
-ghost use mathlib.Core.Bool.{Bool};
 ghost use Prim.Native.Nat.{_+_, _≤_};
 ghost use lib.ListN.{length};
 ghost use Rattle.text.specs.Decimal.{decimal, lineOf};
-ghost use Rattle.manager.specs.Status.{numberOf};
 ghost use Rattle.run.specs.Output.{line, Puts, informationText, valuesText, noticeText, noticesText, answerText};
 ghost use Rattle.run.specs.Output.{mostLine, mostBad, mostValue, mostValues, mostNotice, mostNotices, mostAnswer};
 

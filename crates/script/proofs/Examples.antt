@@ -1,14 +1,14 @@
 -- Scripts and what they are read as, computed: a whole script, and lines that are bad. Assumes nothing.
 use mathlib.Core.Path.{_≡_, refl}
-use mathlib.Core.List.{List, [], _∷_, _++_}
+use mathlib.Core.List.{List, [], _∷_}
 use Rattle.text.specs.Bytes.{bytes}
 use Rattle.text.specs.Lines.{numberAfter, numberOf, lineFrom, starts, fieldAt}
 use Rattle.text.specs.Decimal.{digits, decimal, lineOf}
-use Rattle.manager.specs.declared.Order.the-variants.{Fifo, Priority}
-use Rattle.manager.specs.declared.Wait.the-variants.{No, Yes}
+use Rattle.manager.specs.declared.Order.the-variants.{Fifo}
+use Rattle.manager.specs.declared.Wait.the-variants.{No}
 use Rattle.manager.specs.declared.Call.{Call}
 use Rattle.manager.specs.declared.Call.the-variants.{CreateRegion, GetSegment, ReturnSegment, RegionInformation, Tick}
-use Rattle.script.specs.Reading.{findRow, keyAt, numbersFrom, readCall, readFrom, readAll, whole, Script}
+use Rattle.script.specs.Reading.{findRow, keyAt, numbersFrom, readCall, readFrom, readAll, whole}
 use Rattle.script.specs.Written.{writeFields, write, writeAll}
 use mathlib.Core.Option.{some}
 

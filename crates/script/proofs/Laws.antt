@@ -4,21 +4,20 @@ use mathlib.Core.Path.{_≡_, refl, sym, _∙_, ap}
 use Prim.Native.Nat.{ℕ, zero, suc, _+_, _-_, _≤_, _<_}
 use mathlib.Core.List.{List, [], _∷_, _++_}
 use mathlib.Core.Bool.{Bool, true, false, cond}
-use mathlib.Core.Option.{Option, none, some}
+use mathlib.Core.Option.{none, some}
 use native.Mathlib.Numerals.{add-one}
 use native.Mathlib.Omega.{arith}
 use lib.ListN.{length, getD, getElem?, take, drop, set, drop-of-length-le, length-drop, length-set}
 use lib.Seq.{drop-cons, take-all, take-suc-set}
-use lib.Dec.{leb}
 use borrow.Author.Tests.{le-leb, lt-leb}
 use Rattle.text.specs.Lines.{starts}
 use Rattle.text.specs.declared.Entry.{Entry}
 use Rattle.text.specs.declared.Entry.the-variants.{Took, Bad}
-use Rattle.text.proofs.Laws.{true-false, starts-fits}
-use Rattle.manager.specs.declared.Order.the-variants.{Fifo, Priority}
-use Rattle.manager.specs.declared.Wait.the-variants.{No, Yes}
+use Rattle.text.proofs.Laws.{starts-fits}
+use Rattle.manager.specs.declared.Order.the-variants.{Priority}
+use Rattle.manager.specs.declared.Wait.the-variants.{Yes}
 use Rattle.script.specs.Table.{Key, keys, noKey, Row, calls, noRow, orderOf, waitOf}
-use Rattle.script.specs.Reading.{findRow, keyAt, Numbers, numbers, wrong, numbersFrom, onNumbers, onRow, fieldsOf, readCall}
+use Rattle.script.specs.Reading.{findRow, keyAt, numbers, wrong, numbersFrom, onNumbers, onRow, fieldsOf, readCall}
 use Rattle.script.specs.declared.Fields.{Fields}
 use Rattle.script.specs.declared.Fields.the-variants.{All, Wrong}
 use Rattle.script.specs.declared.ReadCall.the-variants.{One, BadAt, End}

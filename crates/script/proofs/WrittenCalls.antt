@@ -11,19 +11,18 @@ use lib.ListN.{length, getD, drop, length-append, length-drop}
 use lib.Seq.{drop-drop, drop-append-seam, append-snoc}
 use lib.Dec.{leb, ltb, eqb}
 use borrow.Author.Tests.{leb-true, ltb-true, leb-false}
-use Rattle.text.specs.Lines.{starts, fieldAt}
-use Rattle.text.specs.Decimal.{decimal, lineOf}
+use Rattle.text.specs.Lines.{starts}
+use Rattle.text.specs.Decimal.{lineOf}
 use Rattle.text.specs.declared.Entry.{Entry}
 use Rattle.text.specs.declared.Entry.the-variants.{Took, Bad}
 use Rattle.text.proofs.Laws.{true-false, starts-fits}
 use Rattle.text.proofs.Digits.{length-line}
 use Rattle.text.proofs.Numbers.{digits-some}
-use Rattle.text.proofs.WrittenLines.{plain, starts-complete, starts-sound, FieldRead, field-complete, field-sound}
+use Rattle.text.proofs.WrittenLines.{plain, starts-complete, starts-sound, field-complete, field-sound}
 use Rattle.manager.specs.declared.Call.{Call}
-use Rattle.script.specs.Table.{Key, noKey, Row, calls, noRow, rowOf, argumentsOf}
+use Rattle.script.specs.Table.{Key, Row, calls, noRow, rowOf, argumentsOf}
 use Rattle.script.specs.Reading.{findRow, keyAt, Numbers, numbers, wrong, onEntry, numbersFrom, onNumbers, onRow, readCall}
 use Rattle.script.specs.Written.{writeFields, write, Fit}
-use Rattle.script.specs.declared.ReadCall.{ReadCall}
 use Rattle.script.specs.declared.ReadCall.the-variants.{One, BadAt, End}
 use Rattle.script.proofs.Tables.{allUpto, both, all-upto}
 use Rattle.script.proofs.Laws.{none-some, some-same, find-starts, read-row}

@@ -3,22 +3,22 @@
 use mathlib.Core.Path.{_≡_, refl, sym, _∙_, ap, subst}
 use mathlib.Core.Logic.{_↔_}
 use Prim.Native.Nat.{ℕ, zero, suc, _+_, _-_, _≤_, _<_}
-use mathlib.Core.List.{List, [], _∷_, _++_}
+use mathlib.Core.List.{List, [], _∷_}
 use mathlib.Core.Bool.{Bool, true, false, cond}
 use mathlib.Core.Option.{Option, none, some}
 use native.Mathlib.Omega.{arith}
-use lib.ListN.{length, drop, length-append, length-drop, drop-of-length-le}
+use lib.ListN.{length, drop, length-drop, drop-of-length-le}
 use lib.Seq.{drop-drop, drop-append-seam}
 use lib.Dec.{leb}
 use borrow.Author.Tests.{leb-true}
 use Rattle.manager.specs.declared.Call.{Call}
 use Rattle.script.specs.Table.{Row, calls, rowOf}
 use Rattle.script.specs.Reading.{findRow, Numbers, numbers, wrong, numbersFrom, onNumbers, onRow, readCall, Script, whole, stops, follows, onRead, readFrom, readAll}
-use Rattle.script.specs.Written.{write, writeAll, Fit, FitAll}
+use Rattle.script.specs.Written.{write, writeAll, FitAll}
 use Rattle.script.specs.declared.ReadCall.{ReadCall}
 use Rattle.script.specs.declared.ReadCall.the-variants.{One, BadAt, End}
 use Rattle.script.proofs.Laws.{read-end}
-use Rattle.script.proofs.WrittenCalls.{read-complete, read-sound, read-next, write-least}
+use Rattle.script.proofs.WrittenCalls.{read-complete, read-sound, read-next}
 
 -- ---- one call more
 

@@ -11,7 +11,7 @@ use manager::Wait;
 use manager::Waiter;
 ghost use mathlib.Core.Path.{_≡_};
 ghost use mathlib.Core.Bool.{cond};
-ghost use Prim.Native.Nat.{ℕ, _≤_};
+ghost use Prim.Native.Nat.{_≤_};
 ghost use lib.Dec.{leb};
 ghost use Rattle.manager.specs.Record.{regionOf};
 ghost use Rattle.manager.specs.Result.{Performs, done, replied};

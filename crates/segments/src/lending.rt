@@ -5,7 +5,7 @@ use arith::Layout;
 use manager::Place;
 use manager::Region;
 ghost use mathlib.Core.Path.{_≡_};
-ghost use Prim.Native.Nat.{ℕ, _≤_};
+ghost use Prim.Native.Nat.{_≤_};
 ghost use Rattle.manager.specs.Region.{layoutOf, heldAt, roomAt};
 ghost use Rattle.manager.specs.Sound.{Sited};
 ghost use Rattle.segments.specs.Lending.{Changes, Takes};

@@ -12,7 +12,6 @@ use manager::Manager;
 use manager::Status;
 use manager::Wait;
 use manager::Waiter;
-ghost use mathlib.Core.Path.{_≡_};
 ghost use Rattle.manager.specs.Result.{Performs};
 ghost use Rattle.manager.specs.Regions.{getSegment, returnSegment, segmentSize, resizeSegment};
 

@@ -2,8 +2,8 @@
 use manager::Place;
 ghost use mathlib.Core.Path.{_≡_};
 ghost use mathlib.Core.Bool.{true};
-ghost use Prim.Native.Nat.{ℕ, _+_, _*_, _<_, _≤_};
-ghost use lib.ListN.{length, getD};
+ghost use Prim.Native.Nat.{_+_, _*_, _<_, _≤_};
+ghost use lib.ListN.{length};
 ghost use Rattle.manager.specs.Map.{tiled, soundMap, decode, draw};
 ghost use Rattle.manager.specs.Paged.{apart, paged, placeFrom, allocate, heldFrom, reachFrom, changeFrom};
 ghost use Rattle.segments.specs.MapWords.{holding, beforeFrom, Extends};

@@ -8,7 +8,7 @@ use manager::Region;
 use manager::Status;
 use reply::Noticed;
 ghost use mathlib.Core.Path.{_≡_};
-ghost use Prim.Native.Nat.{ℕ, _≤_};
+ghost use Prim.Native.Nat.{_≤_};
 ghost use Rattle.manager.specs.Record.{regionOf};
 ghost use Rattle.manager.specs.Region.{layoutOf, addressOf};
 ghost use Rattle.manager.specs.Serve.{serve};

@@ -5,17 +5,16 @@ use Prim.Native.Nat.{ℕ, zero, suc, _+_, _≤_, _<_}
 use mathlib.Core.Path.{_≡_, refl, sym, ap, _∙_}
 use mathlib.Core.Bool.{Bool, true, false, cond, not, _&&_, _||_, and-false, and-true, and-assoc}
 use mathlib.Core.List.{List, [], _∷_}
-use native.Mathlib.Numerals.{add-one}
 use native.Mathlib.Omega.{arith}
 use borrow.Author.Tests.{eq-eqb, ne-eqb, eqb-true, eqb-false, leb-true, le-ltb, not-true, not-false}
-use lib.Dec.{eqb, leb, ltb}
-use lib.ListN.{length, getD, set, drop, replicate, length-set, drop-of-length-le, getD-replicate, List·getD-eq-default}
+use lib.Dec.{eqb, leb}
+use lib.ListN.{length, getD, set, drop, replicate, length-set, drop-of-length-le, List·getD-eq-default}
 use lib.Seq.{getD-set-same, getD-set-other}
 use Rattle.arith.specs.Layout.{pageCount}
 use Rattle.manager.specs.Lists.{every, pairwise, adjacent}
-use Rattle.manager.proofs.Laws.Lists.{and-first, and-second, rest-cons}
+use Rattle.manager.proofs.Laws.Lists.{and-first, rest-cons}
 use Rattle.manager.specs.Queue.{byPriority, urgent, goesBefore}
-use Rattle.manager.specs.Record.{slots, tasks, slotOf, noRegion, noWaiter, regionOf}
+use Rattle.manager.specs.Record.{slots, tasks, slotOf, noRegion, regionOf}
 use Rattle.manager.specs.Region.{layoutOf, dead, anyHeld}
 use Rattle.arith.specs.declared.Layout.{Layout}
 use Rattle.manager.specs.Sound.{unused, emptyWaiter, soundWaiter, soundPlace, otherTask, inOrder, soundQueue}

@@ -11,7 +11,7 @@ use native.Mathlib.Decide.{decLt}
 use lib.ListN.{length, getD, take, drop, length-append, length-drop, take-append-drop}
 use lib.Seq.{drop-cons, drop-drop, take-append-seam, drop-append-seam, getD-drop}
 use lib.Dec.{ltb, eqb}
-use borrow.Author.Tests.{le-ltb, ltb-false, eq-eqb, ne-eqb, eqb-true, eqb-false}
+use borrow.Author.Tests.{ltb-false, eq-eqb, ne-eqb, eqb-true, eqb-false}
 use Rattle.text.specs.Lines.{part, numberOf, lineFrom, lineAt, starts, fieldAt, onLine, onNum}
 use Rattle.text.specs.Decimal.{decimal, lineOf}
 use Rattle.text.specs.declared.Num.{Num}

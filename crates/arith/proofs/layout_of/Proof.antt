@@ -1,6 +1,4 @@
 -- `layout_of` meets its contract: each field is what its own function says. Assumes nothing.
-use mathlib.Core.Path.{ap}
-use Prim.Native.Nat.{ℕ}
 use Rattle.arith.proofs.Laws.Layout.{layout-is}
 use borrow.Author.Needs.{needs}
 use Rattle.arith.proofs.layout_of.Statement.{statement}

@@ -1,16 +1,14 @@
 -- `run::line_number` meets its contract. The invariant: `n` counts the newlines before `i`, and one. Assumes nothing.
 use native.Mathlib.Omega.{arith}
 use borrow.Author.Needs.{needs}
-use mathlib.Core.Path.{_≡_, refl, sym, _∙_, ap}
+use mathlib.Core.Path.{_≡_, refl, _∙_, ap}
 use mathlib.Core.Logic.{⊎-elim}
 use Prim.Native.Nat.{ℕ, _+_, _≤_, _-_}
-use lib.ListN.{length, take}
+use lib.ListN.{take}
 use Rattle.run.specs.Output.{newlines}
 use Rattle.run.proofs.Laws.{newline-hit, newline-miss, newlines-out}
 use Rattle.run.proofs.line_number.Statement.{statement}
 use Rattle.run.proofs.line_number.Tie as tie
-use Rattle.run.proofs.line_number.Reads as reads
-use Rattle.run.proofs.line_number.Lts as lts
 
 abbrev Inv-loop : tie.InvT-loop
 Inv-loop src p n₀ i₀ n i = (n ≡ newlines (take i src) + 1) × (i ≤ p) × (n ≤ i + 1)

@@ -1,14 +1,9 @@
 -- `run::run` meets its contract: a script that is too long gives only `bad=0`. Assumes nothing.
 use native.Mathlib.Omega.{arith}
 use borrow.Author.Needs.{needs}
-use mathlib.Core.Path.{_≡_, refl, sym, _∙_, ap}
 use Rattle.run.proofs.Running.{too-long, too-long-memory, all-run, all-memory, ends-within}
 use Rattle.run.proofs.run.Statement.{statement}
 use Rattle.run.proofs.run.Tie as tie
-use Rattle.run.proofs.run.Reads as reads
-use Rattle.run.proofs.run.Lts as lts
-use Rattle.run.proofs.output.put_bad.Reads as put-bad-reads
-use Rattle.run.proofs.run_calls.Reads as run-calls-reads
 
 put-bad-requires : tie.Need-put-bad-requires
 put-bad-requires c κs = search needs

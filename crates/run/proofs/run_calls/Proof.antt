@@ -1,20 +1,12 @@
 -- `run::run_calls` meets its contract. The invariant is `Running`; the measure is what is left of the script. Assumes nothing.
 use native.Mathlib.Omega.{arith}
 use borrow.Author.Needs.{needs}
-use mathlib.Core.Path.{_≡_, refl, sym, _∙_, ap}
-use Prim.Native.Nat.{ℕ, _-_}
+use mathlib.Core.Path.{_≡_, refl, _∙_}
+use Prim.Native.Nat.{_-_}
 use lib.ListN.{length}
 use Rattle.run.proofs.Running.{Running, running-start, running-one, running-end, running-out, running-bad, room, room-one, forward}
 use Rattle.run.proofs.run_calls.Statement.{statement}
 use Rattle.run.proofs.run_calls.Tie as tie
-use Rattle.run.proofs.run_calls.Reads as reads
-use Rattle.run.proofs.run_calls.Lts as lts
-use Rattle.directives.proofs.perform.Reads as perform-reads
-use Rattle.manager.proofs.Manager.new.Reads as new-reads
-use Rattle.run.proofs.line_number.Reads as line-number-reads
-use Rattle.run.proofs.output.put_answer.Reads as put-answer-reads
-use Rattle.run.proofs.output.put_bad.Reads as put-bad-reads
-use Rattle.script.proofs.read_call.Reads as read-call-reads
 
 abbrev Inv-loop : tie.InvT-loop
 Inv-loop src mem₀ out₀ d₀ at₀ n₀ mem out d at n = Running src mem₀ out₀ mem out d at n × (length mem ≡ length mem₀) × (length out ≡ length out₀)

@@ -1,17 +1,14 @@
 -- `script::call_at` meets its contract. The invariant: the call to find is the one to find among those from `k` on. Assumes nothing.
 use native.Mathlib.Omega.{arith}
 use borrow.Author.Needs.{needs}
-use mathlib.Core.Path.{_≡_, refl, sym, _∙_, ap}
-use Prim.Native.Nat.{ℕ, _≤_, _-_}
+use mathlib.Core.Path.{_≡_, refl, sym, _∙_}
+use Prim.Native.Nat.{_≤_, _-_}
 use lib.ListN.{length, drop}
 use Rattle.script.specs.Table.{calls}
 use Rattle.script.specs.Reading.{findRow}
 use Rattle.script.proofs.Laws.{find-none, find-hit, find-miss}
 use Rattle.script.proofs.call_at.Statement.{statement}
 use Rattle.script.proofs.call_at.Tie as tie
-use Rattle.script.proofs.call_at.Reads as reads
-use Rattle.script.proofs.call_at.Lts as lts
-use Rattle.script.proofs.is_named.Reads as is-named-reads
 
 abbrev Inv-loop : tie.InvT-loop
 Inv-loop src at k₀ k = (findRow calls (drop at src) ≡ findRow (drop k calls) (drop at src)) × (k ≤ length calls)

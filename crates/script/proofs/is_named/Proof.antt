@@ -1,14 +1,10 @@
 -- `script::is_named` meets its contract: the part of the code's table is the line. Assumes nothing.
-use native.Mathlib.Omega.{arith}
 use borrow.Author.Needs.{needs}
-use mathlib.Core.Path.{_≡_, refl, sym, _∙_, ap}
+use mathlib.Core.Path.{_∙_}
 use Rattle.script.proofs.Tables.{line-held, line-text}
 use Rattle.script.proofs.Laws.{rest-all}
 use Rattle.script.proofs.is_named.Statement.{statement}
 use Rattle.script.proofs.is_named.Tie as tie
-use Rattle.script.proofs.is_named.Reads as reads
-use Rattle.script.proofs.is_named.Lts as lts
-use Rattle.text.proofs.starts_with.Reads as starts-with-reads
 
 mul-a : tie.Need-mul-a
 mul-a c = search needs

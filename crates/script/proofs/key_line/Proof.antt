@@ -1,14 +1,10 @@
 -- `script::key_line` meets its contract: the part of the code's table is the key. Assumes nothing.
-use native.Mathlib.Omega.{arith}
 use borrow.Author.Needs.{needs}
-use mathlib.Core.Path.{_≡_, refl, sym, _∙_, ap}
+use mathlib.Core.Path.{_∙_}
 use Rattle.script.proofs.Tables.{key-held, key-text, key-most}
 use Rattle.script.specs.Reading.{keyAt}
 use Rattle.script.proofs.key_line.Statement.{statement}
 use Rattle.script.proofs.key_line.Tie as tie
-use Rattle.script.proofs.key_line.Reads as reads
-use Rattle.script.proofs.key_line.Lts as lts
-use Rattle.text.proofs.field.Reads as field-reads
 
 mul-a : tie.Need-mul-a
 mul-a c = search needs

@@ -1,19 +1,11 @@
 -- `script::read_call` meets its contract: each `return` is a way through `readCall`. Assumes nothing.
 use native.Mathlib.Omega.{arith}
 use borrow.Author.Needs.{needs}
-use mathlib.Core.Path.{_≡_, refl, sym, _∙_, ap}
-use Prim.Native.Nat.{ℕ, _+_, _≤_, _<_, _-_}
-use lib.ListN.{length, getD}
-use Rattle.script.specs.Table.{calls, noRow}
+use Prim.Native.Nat.{_-_}
 use Rattle.script.proofs.Tables.{line-held}
 use Rattle.script.proofs.Laws.{callAnswers, fields-within}
 use Rattle.script.proofs.read_call.Statement.{statement}
 use Rattle.script.proofs.read_call.Tie as tie
-use Rattle.script.proofs.read_call.Reads as reads
-use Rattle.script.proofs.read_call.Lts as lts
-use Rattle.script.proofs.call_at.Reads as call-at-reads
-use Rattle.script.proofs.table.call_of.Reads as call-of-reads
-use Rattle.script.proofs.read_fields.Reads as read-fields-reads
 
 returns : tie.Need-returns
 returns c = search (needs, callAnswers)

@@ -2,16 +2,13 @@
 -- after the numbers in `out`. Assumes nothing.
 use native.Mathlib.Omega.{arith}
 use borrow.Author.Needs.{needs}
-use mathlib.Core.Path.{_≡_, refl, sym, _∙_, ap}
-use Prim.Native.Nat.{ℕ, _+_, _≤_, _<_, _-_}
+use mathlib.Core.Path.{_≡_}
+use Prim.Native.Nat.{_-_}
 use lib.ListN.{length}
 use Rattle.script.proofs.Tables.{counted}
 use Rattle.script.proofs.Laws.{FieldsLeft, sequence-within, out-within, fieldReading}
 use Rattle.script.proofs.read_fields.Statement.{statement}
 use Rattle.script.proofs.read_fields.Tie as tie
-use Rattle.script.proofs.read_fields.Reads as reads
-use Rattle.script.proofs.read_fields.Lts as lts
-use Rattle.script.proofs.key_line.Reads as key-line-reads
 
 abbrev Inv-loop : tie.InvT-loop
 Inv-loop src at k out₀ from count p₀ i₀ out p i = FieldsLeft src at k from count out p i × (length out ≡ length out₀)

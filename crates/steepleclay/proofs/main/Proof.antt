@@ -1,16 +1,9 @@
 -- `steepleclay::main` is safe and ends: what is read and what is written are parts of the buffers. Assumes nothing.
-use native.Mathlib.Omega.{arith}
 use borrow.Author.Needs.{needs}
-use mathlib.Core.Path.{_≡_, refl, sym, _∙_, ap}
-use lib.ListN.{length, length-replicate}
-use lib.Seq.{length-take-le, length-sets}
+use mathlib.Core.Path.{sym}
+use lib.Seq.{length-take-le}
 use Rattle.steepleclay.proofs.main.Statement.{statement}
 use Rattle.steepleclay.proofs.main.Tie as tie
-use Rattle.steepleclay.proofs.main.Reads as reads
-use Rattle.steepleclay.proofs.main.Lts as lts
-use Rattle.io.proofs.write_all.Reads as write-all-reads
-use Rattle.run.proofs.run.Reads as run-reads
-use Rattle.steepleclay.proofs.read_all.Reads as read-all-reads
 
 slice-aggregate-read-all : tie.Need-slice-aggregate-read-all
 slice-aggregate-read-all c = search needs

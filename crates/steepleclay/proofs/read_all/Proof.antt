@@ -2,13 +2,10 @@
 use native.Mathlib.Omega.{arith}
 use borrow.Author.Needs.{needs}
 use mathlib.Core.Path.{_≡_, refl, _∙_}
-use Prim.Native.Nat.{ℕ, _≤_, _-_}
+use Prim.Native.Nat.{_≤_, _-_}
 use lib.ListN.{length}
 use Rattle.steepleclay.proofs.read_all.Statement.{statement}
 use Rattle.steepleclay.proofs.read_all.Tie as tie
-use Rattle.steepleclay.proofs.read_all.Reads as reads
-use Rattle.steepleclay.proofs.read_all.Lts as lts
-use Rattle.steepleclay.proofs.read_once.Reads as read-once-reads
 
 abbrev Inv-loop : tie.InvT-loop
 Inv-loop fd buf₀ done₀ buf done = (done ≤ length buf) × (length buf ≡ length buf₀)

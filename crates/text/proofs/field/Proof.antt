@@ -2,19 +2,14 @@
 -- Assumes nothing.
 use native.Mathlib.Omega.{arith}
 use borrow.Author.Needs.{needs}
-use mathlib.Core.Path.{_≡_, refl, sym, _∙_}
-use Prim.Native.Nat.{ℕ, _+_, _≤_, _<_}
+use mathlib.Core.Path.{_≡_, sym, _∙_}
+use Prim.Native.Nat.{_+_, _≤_, _<_}
 use lib.ListN.{length}
 use Rattle.text.specs.Lines.{lineAt}
 use Rattle.text.specs.declared.Line.the-variants.{Ends}
 use Rattle.text.proofs.Laws.{line-within, starts-part, fieldAnswers}
 use Rattle.text.proofs.field.Statement.{statement}
 use Rattle.text.proofs.field.Tie as tie
-use Rattle.text.proofs.field.Reads as reads
-use Rattle.text.proofs.field.Lts as lts
-use Rattle.text.proofs.line_end.Reads as line-end-reads
-use Rattle.text.proofs.number.Reads as number-reads
-use Rattle.text.proofs.starts_with.Reads as starts-with-reads
 
 -- where the line ends
 is-line : (k : tie.After-known-told) → lineAt (k .before .before .before .before .before .before .args .src .now) (k .before .before .before .before .before .before .args .at) ≡ Ends (k .before .e .given .0 .0)

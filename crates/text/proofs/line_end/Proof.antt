@@ -2,15 +2,13 @@
 -- Assumes nothing.
 use native.Mathlib.Omega.{arith}
 use mathlib.Core.Path.{_≡_, refl, sym, _∙_}
-use Prim.Native.Nat.{ℕ, _≤_, _-_}
-use lib.ListN.{length, drop}
+use Prim.Native.Nat.{_≤_, _-_}
+use lib.ListN.{drop}
 use Rattle.text.specs.Lines.{lineAt, lineFrom}
 use Rattle.text.proofs.Laws.{line-none, line-out, line-hit, line-miss}
 use borrow.Author.Needs.{needs}
 use Rattle.text.proofs.line_end.Statement.{statement}
 use Rattle.text.proofs.line_end.Tie as tie
-use Rattle.text.proofs.line_end.Reads as reads
-use Rattle.text.proofs.line_end.Lts as lts
 
 abbrev Inv-loop : tie.InvT-loop
 Inv-loop src at i₀ left₀ i left = (lineAt src at ≡ lineFrom left i (drop i src)) × (left ≤ 64)

@@ -2,15 +2,13 @@
 -- rest of the other. Assumes nothing.
 use native.Mathlib.Omega.{arith}
 use mathlib.Core.Path.{_≡_, refl, sym, _∙_}
-use Prim.Native.Nat.{ℕ, _≤_, _-_}
+use Prim.Native.Nat.{_≤_, _-_}
 use lib.ListN.{length, drop}
 use Rattle.text.specs.Lines.{starts}
 use Rattle.text.proofs.Laws.{starts-all, starts-out, starts-miss, starts-more}
 use borrow.Author.Needs.{needs}
 use Rattle.text.proofs.starts_with.Statement.{statement}
 use Rattle.text.proofs.starts_with.Tie as tie
-use Rattle.text.proofs.starts_with.Reads as reads
-use Rattle.text.proofs.starts_with.Lts as lts
 
 abbrev Inv-loop : tie.InvT-loop
 Inv-loop text key i₀ i = (starts key text ≡ starts (drop i key) (drop i text)) × (i ≤ length key)

@@ -1,7 +1,6 @@
 -- `clear` meets its contract: all words 0, and then the first one's. Assumes nothing.
 use Prim.Native.Nat.{_-_}
 use lib.ListN.{length, length-set}
-use mathlib.Core.Path.{_∙_}
 use Rattle.regions.proofs.Clear.{Clearing, clearing}
 use borrow.Author.Needs.{needs}
 use Rattle.regions.proofs.create.clear.Statement.{statement}

@@ -8,11 +8,8 @@ use borrow.Fn.PlainCycle.{Measures, is, falls, and}
 use Rattle.run.proofs.output.put_number.Reads as put-number
 use Rattle.run.proofs.output.put_number.Kinds as put-number-kinds
 use Rattle.run.proofs.output.+put_number.Lts-put_number as put-number-lts
-use mathlib.Core.Path.{_≡_, refl, sym, _∙_, ap}
-use Prim.Native.Nat.{_+_, _/_, _%_}
-use lib.ListN.{length, length-set, set}
-use lib.Seq.{sets, length-sets}
-use Rattle.text.specs.Decimal.{decimal}
+use Prim.Native.Nat.{_+_}
+use lib.ListN.{length-set}
 use Rattle.text.proofs.Digits.{decimal-small, decimal-big, length-small, length-big}
 use Rattle.run.proofs.Stores.{sets-append}
 use Rattle.run.proofs.output.+put_number.{statement}

@@ -2,16 +2,14 @@
 -- Assumes nothing.
 use native.Mathlib.Omega.{arith}
 use borrow.Author.Needs.{needs}
-use mathlib.Core.Path.{_≡_, refl, sym, _∙_, ap}
-use Prim.Native.Nat.{ℕ, _+_, _≤_, _-_}
+use mathlib.Core.Path.{_≡_, refl, sym, _∙_}
+use Prim.Native.Nat.{_+_, _≤_, _-_}
 use native.Mathlib.Nat.{add-zero}
 use lib.ListN.{length, drop, length-set}
 use lib.Seq.{sets}
 use Rattle.run.proofs.Stores.{sets-step, sets-end}
 use Rattle.run.proofs.output.put.Statement.{statement}
 use Rattle.run.proofs.output.put.Tie as tie
-use Rattle.run.proofs.output.put.Reads as reads
-use Rattle.run.proofs.output.put.Lts as lts
 
 abbrev Inv-loop : tie.InvT-loop
 Inv-loop out₀ at text i₀ out i = (sets out₀ at text ≡ sets out (at + i) (drop i text)) × (length out ≡ length out₀) × (i ≤ length text)

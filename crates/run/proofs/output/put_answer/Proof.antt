@@ -1,16 +1,8 @@
 -- `run::output::put_answer` meets its contract: status, values and notices one after another. Assumes nothing.
-use native.Mathlib.Omega.{arith}
 use borrow.Author.Needs.{needs}
-use mathlib.Core.Path.{_≡_, refl, sym, _∙_, ap}
 use Rattle.run.proofs.Texts.{textsPut}
 use Rattle.run.proofs.output.put_answer.Statement.{statement}
 use Rattle.run.proofs.output.put_answer.Tie as tie
-use Rattle.run.proofs.output.put_answer.Reads as reads
-use Rattle.run.proofs.output.put_answer.Lts as lts
-use Rattle.manager.proofs.number.Reads as number-reads
-use Rattle.run.proofs.output.put_line.Reads as put-line-reads
-use Rattle.run.proofs.output.put_notices.Reads as put-notices-reads
-use Rattle.run.proofs.output.put_values.Reads as put-values-reads
 
 slice-aggregate-put-line : tie.Need-slice-aggregate-put-line
 slice-aggregate-put-line c = search needs

@@ -1,13 +1,9 @@
 -- `run::output::put_information` meets its contract: the six lines one after another. Assumes nothing.
-use native.Mathlib.Omega.{arith}
 use borrow.Author.Needs.{needs}
 use Rattle.run.specs.Output.{informationText}
 use Rattle.run.proofs.Stores.{puts-append}
 use Rattle.run.proofs.output.put_information.Statement.{statement}
 use Rattle.run.proofs.output.put_information.Tie as tie
-use Rattle.run.proofs.output.put_information.Reads as reads
-use Rattle.run.proofs.output.put_information.Lts as lts
-use Rattle.run.proofs.output.put_value.Reads as put-value-reads
 
 put-value-requires : tie.Need-put-value-requires
 put-value-requires c κs = search needs

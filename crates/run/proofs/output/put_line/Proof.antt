@@ -1,17 +1,13 @@
 -- `run::output::put_line` meets its contract: the stores of the key, the number and the newline are those of the whole line. Assumes nothing.
 use native.Mathlib.Omega.{arith}
 use borrow.Author.Needs.{needs}
-use mathlib.Core.Path.{_≡_, refl, sym, _∙_, ap}
-use lib.ListN.{length, length-set}
+use mathlib.Core.Path.{_∙_}
+use lib.ListN.{length-set}
 use Rattle.text.specs.Decimal.{lineOf}
 use Rattle.text.proofs.Digits.{length-line, length-decimal}
 use Rattle.run.proofs.Stores.{sets-append}
 use Rattle.run.proofs.output.put_line.Statement.{statement}
 use Rattle.run.proofs.output.put_line.Tie as tie
-use Rattle.run.proofs.output.put_line.Reads as reads
-use Rattle.run.proofs.output.put_line.Lts as lts
-use Rattle.run.proofs.output.put.Reads as put-reads
-use Rattle.run.proofs.output.put_number.Reads as put-number-reads
 
 put-requires : tie.Need-put-requires
 put-requires c κs = search needs

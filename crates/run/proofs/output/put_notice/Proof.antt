@@ -1,15 +1,8 @@
 -- `run::output::put_notice` meets its contract: the three lines one after another. Assumes nothing.
-use native.Mathlib.Omega.{arith}
 use borrow.Author.Needs.{needs}
-use mathlib.Core.Path.{_≡_, refl, sym, _∙_, ap}
 use Rattle.run.proofs.Texts.{textsPut}
 use Rattle.run.proofs.output.put_notice.Statement.{statement}
 use Rattle.run.proofs.output.put_notice.Tie as tie
-use Rattle.run.proofs.output.put_notice.Reads as reads
-use Rattle.run.proofs.output.put_notice.Lts as lts
-use Rattle.manager.proofs.number.Reads as number-reads
-use Rattle.run.proofs.output.put_line.Reads as put-line-reads
-use Rattle.run.proofs.output.put_value.Reads as put-value-reads
 
 slice-aggregate-put-line : tie.Need-slice-aggregate-put-line
 slice-aggregate-put-line c = search needs

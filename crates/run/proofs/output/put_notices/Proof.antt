@@ -1,16 +1,13 @@
 -- `run::output::put_notices` meets its contract. The invariant is `NoticesLeft`. Assumes nothing.
 use native.Mathlib.Omega.{arith}
 use borrow.Author.Needs.{needs}
-use mathlib.Core.Path.{_≡_, refl, sym, _∙_, ap}
-use Prim.Native.Nat.{ℕ, _+_, _*_, _≤_, _<_, _-_}
+use mathlib.Core.Path.{_≡_, refl, _∙_}
+use Prim.Native.Nat.{_-_}
 use lib.ListN.{length}
 use Rattle.manager.specs.Record.{tasks}
 use Rattle.run.proofs.Notices.{NoticesLeft, notice-room, noticesPut}
 use Rattle.run.proofs.output.put_notices.Statement.{statement}
 use Rattle.run.proofs.output.put_notices.Tie as tie
-use Rattle.run.proofs.output.put_notices.Reads as reads
-use Rattle.run.proofs.output.put_notices.Lts as lts
-use Rattle.run.proofs.output.put_notice.Reads as put-notice-reads
 
 abbrev Inv-loop : tie.InvT-loop
 Inv-loop out₀ at notices p₀ i₀ out p i =

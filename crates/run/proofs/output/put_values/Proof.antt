@@ -1,14 +1,8 @@
 -- `run::output::put_values` meets its contract: six values, or one. Assumes nothing.
-use native.Mathlib.Omega.{arith}
 use borrow.Author.Needs.{needs}
-use mathlib.Core.Path.{_≡_, refl, sym, _∙_, ap}
 use Rattle.run.proofs.Texts.{textsPut}
 use Rattle.run.proofs.output.put_values.Statement.{statement}
 use Rattle.run.proofs.output.put_values.Tie as tie
-use Rattle.run.proofs.output.put_values.Reads as reads
-use Rattle.run.proofs.output.put_values.Lts as lts
-use Rattle.run.proofs.output.put_information.Reads as put-information-reads
-use Rattle.run.proofs.output.put_value.Reads as put-value-reads
 
 put-information-requires : tie.Need-put-information-requires
 put-information-requires c κs = search needs

@@ -1,11 +1,8 @@
 -- `script::table::order_of` meets its contract. Assumes nothing.
-use native.Mathlib.Omega.{arith}
 use borrow.Author.Needs.{needs}
 use Rattle.script.proofs.Laws.{order-other}
 use Rattle.script.proofs.table.order_of.Statement.{statement}
 use Rattle.script.proofs.table.order_of.Tie as tie
-use Rattle.script.proofs.table.order_of.Reads as reads
-use Rattle.script.proofs.table.order_of.Lts as lts
 
 returns : tie.Need-returns
 returns c = search needs

@@ -1,11 +1,8 @@
 -- `script::table::wait_of` meets its contract. Assumes nothing.
-use native.Mathlib.Omega.{arith}
 use borrow.Author.Needs.{needs}
 use Rattle.script.proofs.Laws.{wait-other}
 use Rattle.script.proofs.table.wait_of.Statement.{statement}
 use Rattle.script.proofs.table.wait_of.Tie as tie
-use Rattle.script.proofs.table.wait_of.Reads as reads
-use Rattle.script.proofs.table.wait_of.Lts as lts
 
 returns : tie.Need-returns
 returns c = search needs
