@@ -7,31 +7,68 @@ use Rattle.segments.proofs.Get.{getting, get-refused, get-placed}
 use Rattle.segments.proofs.get_segment.Statement.{statement}
 use Rattle.segments.proofs.get_segment.Tie as tie
 
-pub get-segment-spec : {M : Type 1} → statement M
-get-segment-spec =
-    tie.close
-    (tie.spec
-    (λ c κs. search needs)
-    (λ c κs. search needs)
-    (λ c. search needs)
-    (λ c. search (needs, getting))
-    (λ c κs. search needs)
-    (λ c. search needs)
-    (λ c. search (needs, getting))
-    (λ c κs. search needs)
-    (λ c κs. search needs)
-    (λ c. search needs)
-    (λ c. search (needs, getting))
-    (λ c κs. search needs)
-    (λ c κs. search needs)
-    (λ c κs. search needs)
-    (λ c. search needs)
-    (λ c. search (needs, getting))
-    (λ c κs. search needs)
-    (λ c. search needs)
-    (λ c κs. search needs)
-    (λ c. search needs)
-    (λ c.
+is-sound-requires : tie.Need-is-sound-requires
+is-sound-requires c κs = search needs
+
+reply-requires : tie.Need-reply-requires
+reply-requires c κs = search needs
+
+same-length : tie.Need-same-length
+same-length c = search needs
+
+returns : tie.Need-returns
+returns c = search (needs, getting)
+
+reply-requires-2 : tie.Need-reply-requires-2
+reply-requires-2 c κs = search needs
+
+same-length-2 : tie.Need-same-length-2
+same-length-2 c = search needs
+
+returns-2 : tie.Need-returns-2
+returns-2 c = search (needs, getting)
+
+region-of-requires : tie.Need-region-of-requires
+region-of-requires c κs = search needs
+
+reply-requires-3 : tie.Need-reply-requires-3
+reply-requires-3 c κs = search needs
+
+same-length-3 : tie.Need-same-length-3
+same-length-3 c = search needs
+
+returns-3 : tie.Need-returns-3
+returns-3 c = search (needs, getting)
+
+layout-of-requires : tie.Need-layout-of-requires
+layout-of-requires c κs = search needs
+
+pages-asked-requires : tie.Need-pages-asked-requires
+pages-asked-requires c κs = search needs
+
+reply-requires-4 : tie.Need-reply-requires-4
+reply-requires-4 c κs = search needs
+
+same-length-4 : tie.Need-same-length-4
+same-length-4 c = search needs
+
+returns-4 : tie.Need-returns-4
+returns-4 c = search (needs, getting)
+
+may-wait-requires : tie.Need-may-wait-requires
+may-wait-requires c κs = search needs
+
+enum-known-s : tie.Need-enum-known-s
+enum-known-s c = search needs
+
+reply-requires-5 : tie.Need-reply-requires-5
+reply-requires-5 c κs = search needs
+
+same-length-5 : tie.Need-same-length-5
+same-length-5 c = search needs
+
+returns-5 : tie.Need-returns-5
+returns-5 c =
     let judged = c .before .before .before .before in
     let roomy = judged .before in
     let asked = roomy .before .before in
@@ -42,9 +79,13 @@ get-segment-spec =
     let passed = some .before in
     performs-replied _ _ _ _ _ _ (c .reply5 .ensures)
     (get-refused _ _ _ _ _ _ _ _ _ (passed .before .is-sound .ensures) (not-false _ (passed .if1 .left)) (some .if2 .left) _ (found .region-of .ensures) (named .if3 .left) _
-    (laid .layout-of .ensures) _ (asked .pages-asked .ensures) (search needs) _ (judged .may-wait .ensures) _ (c .before .before .s .given .1)))
-    (λ c. search needs)
-    (λ c κs.
+    (laid .layout-of .ensures) _ (asked .pages-asked .ensures) (search needs) _ (judged .may-wait .ensures) _ (c .before .before .s .given .1))
+
+enum-told : tie.Need-enum-told
+enum-told c = search needs
+
+take-or-wait-requires : tie.Need-take-or-wait-requires
+take-or-wait-requires c κs =
     let asked = c .before .before .before .before .before .before in
     let laid = asked .before in
     let named = laid .before in
@@ -58,9 +99,13 @@ get-segment-spec =
       live _ _ _ eb ok (args .id) _ er (named .if3 .left),
       laid .layout-of .ensures,
       some-asked _ _ _ eb ok (args .id) _ er (named .if3 .left) (args .size) (some .if2 .left) _ (asked .pages-asked .ensures),
-    ))
-    (λ c. search needs)
-    (λ c.
+    )
+
+same-length-6 : tie.Need-same-length-6
+same-length-6 c = search needs
+
+returns-6 : tie.Need-returns-6
+returns-6 c =
     let taken = c .before .before in
     let good = taken .before .before in
     let judged = good .before .before in
@@ -74,4 +119,7 @@ get-segment-spec =
     performs-by _ _ _ _
     (get-placed _ _ _ _ _ _ _ _ _ (passed .before .is-sound .ensures) (not-false _ (passed .if1 .left)) (some .if2 .left) _ (found .region-of .ensures) (named .if3 .left) _
     (laid .layout-of .ensures) _ (asked .pages-asked .ensures) (search needs) _ (judged .may-wait .ensures) (good .enum-told .given .1))
-    (taken .take-or-wait .ensures)))
+    (taken .take-or-wait .ensures)
+
+pub get-segment-spec : {M : Type 1} → statement M
+get-segment-spec = tie.close (tie.spec is-sound-requires reply-requires same-length returns reply-requires-2 same-length-2 returns-2 region-of-requires reply-requires-3 same-length-3 returns-3 layout-of-requires pages-asked-requires reply-requires-4 same-length-4 returns-4 may-wait-requires enum-known-s reply-requires-5 same-length-5 returns-5 enum-told take-or-wait-requires same-length-6 returns-6)

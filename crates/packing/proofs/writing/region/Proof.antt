@@ -6,24 +6,56 @@ use borrow.Author.Needs.{needs}
 use Rattle.packing.proofs.writing.region.Statement.{statement}
 use Rattle.packing.proofs.writing.region.Tie as tie
 
+order-requires : tie.Need-order-requires
+order-requires c κs = search needs
+
+mul-words : tie.Need-mul-words
+mul-words c = search needs
+
+slice-write-words : tie.Need-slice-write-words
+slice-write-words c = search needs
+
+add-words : tie.Need-add-words
+add-words c = search needs
+
+mul-words-2 : tie.Need-mul-words-2
+mul-words-2 c = search needs
+
+slice-write-words-2 : tie.Need-slice-write-words-2
+slice-write-words-2 c = simp length-set (omega (arith, c .before .before .pre))
+
+add-words-2 : tie.Need-add-words-2
+add-words-2 c = search needs
+
+mul-words-3 : tie.Need-mul-words-3
+mul-words-3 c = search needs
+
+slice-write-words-3 : tie.Need-slice-write-words-3
+slice-write-words-3 c = simp length-set (omega (arith, c .before .before .pre))
+
+add-words-3 : tie.Need-add-words-3
+add-words-3 c = search needs
+
+mul-words-4 : tie.Need-mul-words-4
+mul-words-4 c = search needs
+
+slice-write-words-4 : tie.Need-slice-write-words-4
+slice-write-words-4 c = simp length-set (omega (arith, c .before .before .pre))
+
+add-words-4 : tie.Need-add-words-4
+add-words-4 c = search needs
+
+mul-words-5 : tie.Need-mul-words-5
+mul-words-5 c = search needs
+
+slice-write-words-5 : tie.Need-slice-write-words-5
+slice-write-words-5 c = simp length-set (omega (arith, c .before .before .pre))
+
+same-length : tie.Need-same-length
+same-length c = search needs
+
+returns : tie.Need-returns
+returns c = search (needs, one-by-one)
+
 pub region-spec : {M : Type 1} → statement M
-region-spec =
-    tie.close
-    (tie.spec
-    (λ c κs. search needs)
-    (λ c. search needs)
-    (λ c. search needs)
-    (λ c. search needs)
-    (λ c. search needs)
-    (λ c. simp length-set (omega (arith, c .before .before .pre)))
-    (λ c. search needs)
-    (λ c. search needs)
-    (λ c. simp length-set (omega (arith, c .before .before .pre)))
-    (λ c. search needs)
-    (λ c. search needs)
-    (λ c. simp length-set (omega (arith, c .before .before .pre)))
-    (λ c. search needs)
-    (λ c. search needs)
-    (λ c. simp length-set (omega (arith, c .before .before .pre)))
-    (λ c. search needs)
-    (λ c. search (needs, one-by-one)))
+region-spec = tie.close (tie.spec order-requires mul-words slice-write-words add-words mul-words-2 slice-write-words-2 add-words-2 mul-words-3 slice-write-words-3 add-words-3 mul-words-4 slice-write-words-4 add-words-4 mul-words-5 slice-write-words-5 same-length returns)
