@@ -37,4 +37,16 @@ returns-4 : tie.Need-returns-4
 returns-4 c = search (needs, parts)
 
 pub held-word-at-spec : {M : Type 1} → statement M
-held-word-at-spec = tie.close (tie.spec returns rem-if2 returns-2 div-if3 cast-if3 returns-3 map-words-requires index-at-requires held-word-requires returns-4)
+held-word-at-spec =
+    tie.close
+    (tie.spec
+    returns
+    rem-if2
+    returns-2
+    div-if3
+    cast-if3
+    returns-3
+    map-words-requires
+    index-at-requires
+    held-word-requires
+    returns-4)

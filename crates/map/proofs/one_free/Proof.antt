@@ -27,4 +27,13 @@ returns-2 : tie.Need-returns-2
 returns-2 c = search (needs, parts)
 
 pub one-free-spec : {M : Type 1} → statement M
-one-free-spec = tie.close (tie.spec map-words-requires returns shared-slice-read-first cast-result cast-result-2 mul-result returns-2)
+one-free-spec =
+    tie.close
+    (tie.spec
+    map-words-requires
+    returns
+    shared-slice-read-first
+    cast-result
+    cast-result-2
+    mul-result
+    returns-2)

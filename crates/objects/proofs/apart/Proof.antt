@@ -52,4 +52,18 @@ returns-2 : tie.Need-returns-2 Inv-loop μ-loop
 returns-2 c = search (needs, parting)
 
 pub apart-spec : {M : Type 1} → statement M
-apart-spec = tie.close (tie.spec Inv-loop μ-loop object-areas-requires loop-holds mul-x array-copy-out-x add-i meets-none-requires returns loop-less loop-again returns-2)
+apart-spec =
+    tie.close
+    (tie.spec
+    Inv-loop
+    μ-loop
+    object-areas-requires
+    loop-holds
+    mul-x
+    array-copy-out-x
+    add-i
+    meets-none-requires
+    returns
+    loop-less
+    loop-again
+    returns-2)

@@ -122,4 +122,31 @@ returns-6 c =
     (taken .take-or-wait .ensures)
 
 pub get-segment-spec : {M : Type 1} → statement M
-get-segment-spec = tie.close (tie.spec is-sound-requires reply-requires same-length returns reply-requires-2 same-length-2 returns-2 region-of-requires reply-requires-3 same-length-3 returns-3 layout-of-requires pages-asked-requires reply-requires-4 same-length-4 returns-4 may-wait-requires enum-known-s reply-requires-5 same-length-5 returns-5 enum-told take-or-wait-requires same-length-6 returns-6)
+get-segment-spec =
+    tie.close
+    (tie.spec
+    is-sound-requires
+    reply-requires
+    same-length
+    returns
+    reply-requires-2
+    same-length-2
+    returns-2
+    region-of-requires
+    reply-requires-3
+    same-length-3
+    returns-3
+    layout-of-requires
+    pages-asked-requires
+    reply-requires-4
+    same-length-4
+    returns-4
+    may-wait-requires
+    enum-known-s
+    reply-requires-5
+    same-length-5
+    returns-5
+    enum-told
+    take-or-wait-requires
+    same-length-6
+    returns-6)

@@ -100,4 +100,27 @@ returns-5 c =
     (fitted .resize-within .ensures)
 
 pub resize-segment-spec : {M : Type 1} → statement M
-resize-segment-spec = tie.close (tie.spec is-sound-requires reply-requires same-length returns reply-requires-2 same-length-2 returns-2 region-of-requires reply-requires-3 same-length-3 returns-3 layout-of-requires held-word-at-requires reply-requires-4 same-length-4 returns-4 mul-old pages-asked-requires resize-within-requires same-length-5 returns-5)
+resize-segment-spec =
+    tie.close
+    (tie.spec
+    is-sound-requires
+    reply-requires
+    same-length
+    returns
+    reply-requires-2
+    same-length-2
+    returns-2
+    region-of-requires
+    reply-requires-3
+    same-length-3
+    returns-3
+    layout-of-requires
+    held-word-at-requires
+    reply-requires-4
+    same-length-4
+    returns-4
+    mul-old
+    pages-asked-requires
+    resize-within-requires
+    same-length-5
+    returns-5)

@@ -83,4 +83,22 @@ returns-4 c =
     (freed .release-and-serve .ensures)
 
 pub return-segment-spec : {M : Type 1} → statement M
-return-segment-spec = tie.close (tie.spec is-sound-requires reply-requires same-length returns region-of-requires reply-requires-2 same-length-2 returns-2 layout-of-requires held-word-at-requires reply-requires-3 same-length-3 returns-3 release-and-serve-requires same-length-4 returns-4)
+return-segment-spec =
+    tie.close
+    (tie.spec
+    is-sound-requires
+    reply-requires
+    same-length
+    returns
+    region-of-requires
+    reply-requires-2
+    same-length-2
+    returns-2
+    layout-of-requires
+    held-word-at-requires
+    reply-requires-3
+    same-length-3
+    returns-3
+    release-and-serve-requires
+    same-length-4
+    returns-4)

@@ -40,4 +40,17 @@ returns : tie.Need-returns
 returns c = search (needs, answering)
 
 pub notice-spec : {M : Type 1} → statement M
-notice-spec = tie.close (tie.spec number-requires mul-words slice-write-words add-words mul-words-2 slice-write-words-2 add-words-2 mul-words-3 slice-write-words-3 same-length returns)
+notice-spec =
+    tie.close
+    (tie.spec
+    number-requires
+    mul-words
+    slice-write-words
+    add-words
+    mul-words-2
+    slice-write-words-2
+    add-words-2
+    mul-words-3
+    slice-write-words-3
+    same-length
+    returns)

@@ -37,4 +37,16 @@ returns : tie.Need-returns
 returns c = search (needs, answering)
 
 pub put-spec : {M : Type 1} → statement M
-put-spec = tie.close (tie.spec slice-write-words slice-write-words-2 slice-write-words-3 slice-write-words-4 slice-write-words-5 slice-write-words-6 slice-write-words-7 notices-requires same-length returns)
+put-spec =
+    tie.close
+    (tie.spec
+    slice-write-words
+    slice-write-words-2
+    slice-write-words-3
+    slice-write-words-4
+    slice-write-words-5
+    slice-write-words-6
+    slice-write-words-7
+    notices-requires
+    same-length
+    returns)

@@ -73,4 +73,28 @@ returns : tie.Need-returns
 returns c = search (needs, one-by-one)
 
 pub partition-spec : {M : Type 1} → statement M
-partition-spec = tie.close (tie.spec mul-words slice-write-words add-words mul-words-2 slice-write-words-2 add-words-2 mul-words-3 slice-write-words-3 add-words-3 mul-words-4 slice-write-words-4 add-words-4 mul-words-5 slice-write-words-5 add-words-5 mul-words-6 slice-write-words-6 add-words-6 mul-words-7 slice-write-words-7 same-length returns)
+partition-spec =
+    tie.close
+    (tie.spec
+    mul-words
+    slice-write-words
+    add-words
+    mul-words-2
+    slice-write-words-2
+    add-words-2
+    mul-words-3
+    slice-write-words-3
+    add-words-3
+    mul-words-4
+    slice-write-words-4
+    add-words-4
+    mul-words-5
+    slice-write-words-5
+    add-words-5
+    mul-words-6
+    slice-write-words-6
+    add-words-6
+    mul-words-7
+    slice-write-words-7
+    same-length
+    returns)

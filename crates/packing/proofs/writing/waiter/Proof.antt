@@ -55,4 +55,22 @@ returns : tie.Need-returns
 returns c = search (needs, one-by-one)
 
 pub waiter-spec : {M : Type 1} → statement M
-waiter-spec = tie.close (tie.spec mul-words slice-write-words add-words mul-words-2 slice-write-words-2 add-words-2 mul-words-3 slice-write-words-3 add-words-3 mul-words-4 slice-write-words-4 add-words-4 mul-words-5 slice-write-words-5 same-length returns)
+waiter-spec =
+    tie.close
+    (tie.spec
+    mul-words
+    slice-write-words
+    add-words
+    mul-words-2
+    slice-write-words-2
+    add-words-2
+    mul-words-3
+    slice-write-words-3
+    add-words-3
+    mul-words-4
+    slice-write-words-4
+    add-words-4
+    mul-words-5
+    slice-write-words-5
+    same-length
+    returns)

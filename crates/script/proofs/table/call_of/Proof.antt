@@ -60,4 +60,23 @@ returns-8 c =
     let e : branch .before .args .k ≡ 6 = last-arm 6 0 _ zero-le (branch .if1 .left) (c .match .rest) in rw e
 
 pub call-of-spec : {M : Type 1} → statement M
-call-of-spec = tie.close (tie.spec memory-call-requires returns element-copy-out-id element-copy-out-name element-copy-out-start element-copy-out-length element-copy-out-t20 element-copy-out-order-of order-of-requires element-copy-out-t27 returns-2 returns-3 returns-4 returns-5 returns-6 returns-7 returns-8)
+call-of-spec =
+    tie.close
+    (tie.spec
+    memory-call-requires
+    returns
+    element-copy-out-id
+    element-copy-out-name
+    element-copy-out-start
+    element-copy-out-length
+    element-copy-out-t20
+    element-copy-out-order-of
+    order-of-requires
+    element-copy-out-t27
+    returns-2
+    returns-3
+    returns-4
+    returns-5
+    returns-6
+    returns-7
+    returns-8)

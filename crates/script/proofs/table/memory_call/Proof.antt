@@ -56,4 +56,22 @@ returns-7 c =
     let e : start .args .k ≡ 13 = last-arm 6 7 _ (start .pre .0) (start .pre .1) (c .match .rest) in rw e
 
 pub memory-call-spec : {M : Type 1} → statement M
-memory-call-spec = tie.close (tie.spec element-copy-out-id element-copy-out-address element-copy-out-t13 element-copy-out-wait-of wait-of-requires element-copy-out-t20 element-copy-out-t23 element-copy-out-t26 element-copy-out-t29 returns returns-2 returns-3 returns-4 returns-5 returns-6 returns-7)
+memory-call-spec =
+    tie.close
+    (tie.spec
+    element-copy-out-id
+    element-copy-out-address
+    element-copy-out-t13
+    element-copy-out-wait-of
+    wait-of-requires
+    element-copy-out-t20
+    element-copy-out-t23
+    element-copy-out-t26
+    element-copy-out-t29
+    returns
+    returns-2
+    returns-3
+    returns-4
+    returns-5
+    returns-6
+    returns-7)

@@ -46,4 +46,16 @@ returns-3 : tie.Need-returns-3
 returns-3 c = search (needs, reaching)
 
 pub reach-at-spec : {M : Type 1} → statement M
-reach-at-spec = tie.close (tie.spec mul-pages shared-slice-read-pages cast-next add-next returns mul-follower shared-slice-read-follower returns-2 add-result returns-3)
+reach-at-spec =
+    tie.close
+    (tie.spec
+    mul-pages
+    shared-slice-read-pages
+    cast-next
+    add-next
+    returns
+    mul-follower
+    shared-slice-read-follower
+    returns-2
+    add-result
+    returns-3)

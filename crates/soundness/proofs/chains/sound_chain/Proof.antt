@@ -68,4 +68,25 @@ returns-4 : tie.Need-returns-4 Inv-loop μ-loop
 returns-4 c = search (needs, walking)
 
 pub sound-chain-spec : {M : Type 1} → statement M
-sound-chain-spec = tie.close (tie.spec Inv-loop μ-loop rem-bytes sub-bytes loop-holds is-buffer-requires returns cast-at add-if2 mul-if2 shared-slice-read-if2 returns-2 sub-left mul-a shared-slice-read-a loop-less loop-again returns-3 returns-4)
+sound-chain-spec =
+    tie.close
+    (tie.spec
+    Inv-loop
+    μ-loop
+    rem-bytes
+    sub-bytes
+    loop-holds
+    is-buffer-requires
+    returns
+    cast-at
+    add-if2
+    mul-if2
+    shared-slice-read-if2
+    returns-2
+    sub-left
+    mul-a
+    shared-slice-read-a
+    loop-less
+    loop-again
+    returns-3
+    returns-4)

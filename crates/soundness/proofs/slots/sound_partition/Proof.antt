@@ -7,7 +7,6 @@ use Rattle.soundness.proofs.slots.sound_partition.Statement.{statement}
 use Rattle.soundness.proofs.slots.sound_partition.Tie as tie
 
 empty-partition-requires : tie.Need-empty-partition-requires
-unfolding soundPartition livePartition
 empty-partition-requires c κs = search needs
 
 returns : tie.Need-returns
@@ -15,7 +14,6 @@ unfolding soundPartition livePartition
 returns c = search (needs, choices, tests)
 
 is-inside-requires : tie.Need-is-inside-requires
-unfolding soundPartition livePartition
 is-inside-requires c κs = search needs
 
 returns-2 : tie.Need-returns-2
@@ -27,7 +25,6 @@ unfolding soundPartition livePartition
 returns-3 c = search (needs, choices, tests)
 
 sound-size-requires : tie.Need-sound-size-requires
-unfolding soundPartition livePartition
 sound-size-requires c κs = search needs
 
 returns-4 : tie.Need-returns-4
@@ -45,4 +42,15 @@ unfolding soundPartition livePartition
 returns-5 c = search (needs, choices, tests)
 
 pub sound-partition-spec : {M : Type 1} → statement M
-sound-partition-spec = tie.close (tie.spec empty-partition-requires returns is-inside-requires returns-2 returns-3 sound-size-requires returns-4 sound-chain-requires returns-5)
+sound-partition-spec =
+    tie.close
+    (tie.spec
+    empty-partition-requires
+    returns
+    is-inside-requires
+    returns-2
+    returns-3
+    sound-size-requires
+    returns-4
+    sound-chain-requires
+    returns-5)
