@@ -8,9 +8,9 @@ use native.Mathlib.Nat.{div-zero}
 use lib.ListN.{length, getD, set, List·getD-eq-default}
 use lib.Seq.{set-out}
 use lib.Dec.{eqb, leb, ltb}
-use borrow.Author.Tests.{eq-eqb, ne-eqb, le-ltb, le-leb, lt-leb, not-true, not-false}
+use borrow.Author.Tests.{eq-eqb, ne-eqb, le-ltb, le-leb, lt-leb}
 use Rattle.manager.specs.Lists.{any}
-use Rattle.manager.specs.Partition.{isBuffer, nextOf, beforeOf, setNext, setBefore, link, follow, linked, afterGet, afterReturn}
+use Rattle.manager.specs.Partition.{isBuffer, nextOf, setNext, setBefore, link, follow, afterGet, afterReturn}
 use Rattle.manager.specs.declared.Partition.{Partition}
 
 -- words past the memory
@@ -65,34 +65,7 @@ module _ (m : List ℕ) (a : ℕ) where
   meet-none zero at h = refl
   meet-none (suc n) at h = absurd (omega arith)
 
--- the walk along the chain
-module _ (m : List ℕ) (p : Partition) where
-  pub walk-strange : (n before at : ℕ) → 0 < n → isBuffer p at ≡ false → false ≡ linked n m p before at
-  unfolding linked
-  walk-strange zero before at h e = absurd (omega arith)
-  walk-strange (suc n) before at h e = rw e
-
-  pub walk-crossed : (n before at : ℕ) → 0 < n → isBuffer p at ≡ true → (beforeOf m at ≡ before → ⊥) → false ≡ linked n m p before at
-  unfolding linked
-  walk-crossed zero before at h e f = absurd (omega arith)
-  walk-crossed (suc n) before at h e f = rw (e, ne-eqb _ _ f)
-
-  pub walk-next : (n before at : ℕ) → 0 < n → isBuffer p at ≡ true → beforeOf m at ≡ before → linked (n - 1) m p at (nextOf m at) ≡ linked n m p before at
-  unfolding linked
-  walk-next zero before at h e f = absurd (omega arith)
-  walk-next (suc n) before at h e f = let z : suc n - 1 ≡ n = omega arith in rw (z, e, eq-eqb _ _ f)
-
-  pub walk-open : (n before at : ℕ) → n ≤ 0 → (at ≡ 0 → ⊥) → false ≡ linked n m p before at
-  unfolding linked
-  walk-open zero before at h e = rw (ne-eqb _ _ e)
-  walk-open (suc n) before at h e = absurd (omega arith)
-
-  pub walk-ends : (n before at : ℕ) → n ≤ 0 → at ≡ 0 → eqb before (p .rear) ≡ linked n m p before at
-  unfolding linked
-  walk-ends zero before at h e = rw (eq-eqb _ _ e)
-  walk-ends (suc n) before at h e = absurd (omega arith)
-
--- what is left of the search and of the walk answers for the whole
+-- what is left of the search answers for the whole
 pub record Seeking (m : List ℕ) (a n₀ at₀ n at : ℕ) : Type 0 where
   pub rest : meets m a n at ≡ meets m a n₀ at₀
 
@@ -111,33 +84,6 @@ module _ (m : List ℕ) (a n₀ at₀ : ℕ) where
     seek-none h = meet-none m a n at h ∙ v .rest
 
 pub ruleset seeking = (seek-start, seek-found, seek-next, seek-none)
-
-pub record Walking (m : List ℕ) (p : Partition) (n₀ before₀ at₀ n before at : ℕ) : Type 0 where
-  pub rest : linked n m p before at ≡ linked n₀ m p before₀ at₀
-
-module _ (m : List ℕ) (p : Partition) (n₀ before₀ at₀ : ℕ) where
-  pub walking-start : Walking m p n₀ before₀ at₀ n₀ before₀ at₀
-  walking-start = record { rest = refl }
-
-  module _ (n before at : ℕ) (v : Walking m p n₀ before₀ at₀ n before at) where
-    pub walking-open : n ≤ 0 → (at ≡ 0 → ⊥) → false ≡ linked n₀ m p before₀ at₀
-    walking-open h e = walk-open m p n before at h e ∙ v .rest
-
-    pub walking-ends : n ≤ 0 → at ≡ 0 → eqb before (p .rear) ≡ linked n₀ m p before₀ at₀
-    walking-ends h e = walk-ends m p n before at h e ∙ v .rest
-
-    module _ (b : Bool) (q : b ≡ isBuffer p at) (h : 0 < n) where
-      pub walking-strange : b ≡ false → false ≡ linked n₀ m p before₀ at₀
-      walking-strange e = walk-strange m p n before at h (sym q ∙ e) ∙ v .rest
-
-      module _ (e : b ≡ true) (w : ℕ) (s : w ≡ beforeOf m at) where
-        pub walking-crossed : (w ≡ before → ⊥) → false ≡ linked n₀ m p before₀ at₀
-        walking-crossed f = walk-crossed m p n before at h (sym q ∙ e) (λ x. f (s ∙ x)) ∙ v .rest
-
-        pub walking-next : w ≡ before → (next : ℕ) → next ≡ nextOf m at → Walking m p n₀ before₀ at₀ (n - 1) at next
-        walking-next f next t = record { rest = rw t (walk-next m p n before at h (sym q ∙ e) (sym s ∙ f) ∙ v .rest) }
-
-pub ruleset walking = (walking-start, walking-open, walking-ends, walking-strange, walking-crossed, walking-next, not-true, not-false)
 
 -- the stores
 module _ (m : List ℕ) (p : Partition) where

@@ -4,10 +4,10 @@ use manager::Partition;
 ghost use mathlib.Core.Path.{_≡_};
 ghost use Prim.Native.Nat.{_+_, _/_};
 ghost use lib.ListN.{getD, set};
-ghost use Rattle.manager.specs.Partition.{isBuffer, nextOf, beforeOf, setNext, setBefore, link, isFree, soundChain, afterGet, afterReturn};
+ghost use Rattle.manager.specs.Partition.{isBuffer, nextOf, setNext, setBefore, link, isFree, afterGet, afterReturn};
 
 // A word of the memory.
-pub fn read_word(mem: &[u32], at: usize) -> u32
+fn read_word(mem: &[u32], at: usize) -> u32
     ensures { λ r. ⌜ r ≡ getD (now (mem .entry)) at 0 ⌝ }
 {
     if at < mem.len() {
@@ -17,7 +17,7 @@ pub fn read_word(mem: &[u32], at: usize) -> u32
 }
 
 // The memory with another word.
-pub fn write_word(mem: &mut [u32], at: usize, value: u32)
+fn write_word(mem: &mut [u32], at: usize, value: u32)
     ensures { λ r. ⌜ now (mem .exit) ≡ set (now (mem .entry)) at value ⌝ }
 {
     if at < mem.len() {
@@ -32,20 +32,14 @@ pub fn next_of(mem: &[u32], a: u32) -> u32
     read_word(mem, (a / 4) as usize)
 }
 
-// Word 1 of a buffer: the one before it.
-pub fn before_of(mem: &[u32], a: u32) -> u32
-    ensures { λ r. ⌜ r ≡ beforeOf (now (mem .entry)) a ⌝ }
-{
-    read_word(mem, (a / 4) as usize + 1)
-}
-
-pub fn set_next(mem: &mut [u32], a: u32, value: u32)
+// Its two links stored, one by one.
+fn set_next(mem: &mut [u32], a: u32, value: u32)
     ensures { λ r. ⌜ now (mem .exit) ≡ setNext (now (mem .entry)) a value ⌝ }
 {
     write_word(mem, (a / 4) as usize, value);
 }
 
-pub fn set_before(mem: &mut [u32], a: u32, value: u32)
+fn set_before(mem: &mut [u32], a: u32, value: u32)
     ensures { λ r. ⌜ now (mem .exit) ≡ setBefore (now (mem .entry)) a value ⌝ }
 {
     write_word(mem, (a / 4) as usize + 1, value);
@@ -92,30 +86,6 @@ pub fn is_free(mem: &[u32], p: Partition, a: u32) -> bool
         at = next_of(mem, at);
     }
     false
-}
-
-// Whether the chain is sound: real buffers, links agreeing both ways, up to the kept rear, in the kept count.
-pub fn is_linked(mem: &[u32], p: Partition) -> bool
-    ensures { λ r. ⌜ r ≡ soundChain (now (mem .entry)) p ⌝ }
-{
-    let mut left = p.free;
-    let mut before: u32 = 0;
-    let mut at = p.front;
-    while left > 0 {
-        left = left - 1;
-        if !is_buffer(p, at) {
-            return false;
-        }
-        if before_of(mem, at) != before {
-            return false;
-        }
-        before = at;
-        at = next_of(mem, at);
-    }
-    if at != 0 {
-        return false;
-    }
-    before == p.rear
 }
 
 // Get takes the front and leaves 0 in both its links; the next buffer, if any, is the front then.

@@ -19,7 +19,7 @@ use Rattle.manager.specs.Queue.{enqueue}
 use Rattle.manager.proofs.Laws.Appended.{by-case, some-append}
 use Rattle.manager.specs.Region.{dead, pagesOf, firstPageOf, pageAt, addressOf, segments, withSegments, heldAt, pagesAsked, placed, taken}
 use Rattle.manager.specs.Serve.{serve}
-use Rattle.manager.specs.Sound.{sound}
+use Rattle.manager.specs.Sound.{sound, LaidPartition}
 use Rattle.manager.proofs.Laws.Sound.{sited}
 use Rattle.manager.specs.Regions.{newRegion, regionNamed, unplaced, createRegion, identRegion, deleteRegion, getSegment, returnSegment, segmentSize, resizeSegment, regionInformation, tick}
 use Rattle.manager.specs.declared.Manager.{Manager}
@@ -35,7 +35,7 @@ use Rattle.manager.specs.declared.Status.the-variants.{Unsatisfied, InternalErr
 use Rattle.manager.proofs.Laws.Distinct.{on-in, either, on-head}
 use Rattle.manager.proofs.Laws.Result.{Passed}
 use Rattle.manager.specs.Partition.{deadPartition, buffers, bufferAt, isBuffer, isFree, chain, soundChain, linkAll, afterGet, afterReturn, returned}
-use Rattle.manager.proofs.Laws.Partition.Buffers.{Laid, buffer-at, of-buffer}
+use Rattle.manager.proofs.Laws.Partition.Buffers.{buffer-at, of-buffer}
 use Rattle.manager.proofs.Laws.Partition.Created.{Created, all-clear, all-length, create-sound}
 use Rattle.manager.proofs.Laws.Partition.Repeats.{all-free}
 use Rattle.manager.proofs.Laws.Partition.Live.{new-laid, new-created, live-laid, live-chain, sound-live}
@@ -195,7 +195,7 @@ module _ (m : List ℕ) (d : Manager) where
   delete-partition id = effects m d (DeletePartition id) _ _ refl refl (λ ok p. acts m d (DeletePartition id) ok _ refl refl (λ w. unchanged))
 
   -- a get
-  get-words : (p : Partition) → Laid m p → soundChain m p ≡ true → 0 < p .free → Only (LinkWord m p) m (afterGet m p)
+  get-words : (p : Partition) → LaidPartition m p → soundChain m p ≡ true → 0 < p .free → Only (LinkWord m p) m (afterGet m p)
   get-words p g e h = record { size = get-length m p; same = λ j n. get-only m p (g .shaped) e j (not-links m p j n) h }
 
   get-buffer : (id : ℕ) → CallEffects m d (GetBuffer id) (getBuffer m d id)
@@ -209,7 +209,7 @@ module _ (m : List ℕ) (d : Manager) where
       get-words p (live-laid m p v) (live-chain m p v) (omega arith)))
 
   -- a return: the chain afterwards is the one before with the buffer behind it
-  return-words : (p : Partition) → Laid m p → soundChain m p ≡ true → (a : ℕ) → isBuffer p a ≡ true → isFree m p a ≡ false
+  return-words : (p : Partition) → LaidPartition m p → soundChain m p ≡ true → (a : ℕ) → isBuffer p a ≡ true → isFree m p a ≡ false
       → Only (LinkWord (afterReturn m p a) (returned p a)) m (afterReturn m p a)
   return-words p g e a b f =
       let c = return-chain m p g e a b f in
@@ -236,7 +236,7 @@ module _ (m : List ℕ) (d : Manager) where
       (return-words p (live-laid m p v) (live-chain m p v) a (not-false (isBuffer p a) (c .1 .0)) (c .1 .1 .0))))
 
   -- a create
-  new-words : (p : Partition) → Laid m p → Created p → Only (LinkWord (linkAll (buffers p) m p 0) p) m (linkAll (buffers p) m p 0)
+  new-words : (p : Partition) → LaidPartition m p → Created p → Only (LinkWord (linkAll (buffers p) m p 0) p) m (linkAll (buffers p) m p 0)
   new-words p g c =
       let M = linkAll (buffers p) m p 0 in
       record {

@@ -1,5 +1,5 @@
 -- Rules 10 (the paper's sound books): what a sound manager record over a memory is, clause by clause. Assumes nothing.
-use Prim.Native.Nat.{ℕ, _+_, _*_, _%_, _≤_}
+use Prim.Native.Nat.{ℕ, _+_, _*_, _%_, _≤_, _<_}
 use mathlib.Core.Path.{_≡_}
 use mathlib.Core.Bool.{Bool, true, false, cond, not, _&&_, _||_}
 use mathlib.Core.List.{List}
@@ -109,7 +109,7 @@ sound m d =
     && (every (soundPartition m) (d .partitions)
     && (soundAreas d && soundQueue m d)))
 
--- ---- what the functions of a directive ask of the region that they act on
+-- ---- what the functions of a directive ask of the region or the partition that they act on
 
 -- a region whose map and pages lie in a memory
 pub record Laid (m : List ℕ) (r : Region) : Type 0 where
@@ -123,3 +123,14 @@ pub record Laid (m : List ℕ) (r : Region) : Type 0 where
 pub record Sited (m : List ℕ) (r : Region) : Type 0 where
   pub laid : Laid m r
   pub sound : soundMap (kind r .proper) (mapWords m r) ≡ true
+
+-- a partition as create allows it, and one whose buffers lie in a memory
+pub record Shaped (p : Partition) : Type 0 where
+  pub start-in : 0 < p .start
+  pub aligned : p .start % 4 ≡ 0
+  pub whole : p .size % 4 ≡ 0
+  pub big : 8 ≤ p .size
+
+pub record LaidPartition (m : List ℕ) (p : Partition) : Type 0 where
+  pub shaped : Shaped p
+  pub inside : p .start + p .length ≤ 4 * length m

@@ -86,7 +86,7 @@ pub fn any_held(map: &[u32]) -> bool
 
 // The pages that word p of a map says, where it is marked as held; else 0. In a sound map that is the held segment which starts there,
 // and no other word has to be read.
-pub fn held_word(map: &[u32], p: usize) -> u32
+fn held_word(map: &[u32], p: usize) -> u32
     ensures { λ r. ⌜ r ≡ heldWord (now (map .entry)) p ⌝ }
 {
     if map.len() <= p {

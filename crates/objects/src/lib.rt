@@ -124,7 +124,7 @@ pub fn past_memory(words: usize, start: u32, bytes: u32) -> bool
 }
 
 // Whether two areas have a byte in common.
-pub fn overlap(a: Area, b: Area) -> bool
+fn overlap(a: Area, b: Area) -> bool
     ensures { λ r. ⌜ r ≡ overlap a b ⌝ }
 {
     let end = b.start as u64 + b.length as u64;

@@ -30,7 +30,7 @@ pub fn no_notices() -> [Notice; Manager::TASKS]
 }
 
 // The six values of a call that gives none.
-pub fn no_information() -> Information
+fn no_information() -> Information
     ensures { λ r. ⌜ r ≡ noInformation ⌝ }
 {
     Information {

@@ -26,7 +26,7 @@ fn wide(x: u8) -> u64
 }
 
 // The number that the bytes spell.
-pub fn number(text: &[u8]) -> Num
+fn number(text: &[u8]) -> Num
     ensures { λ r. ⌜ r ≡ numberOf (now (text .entry)) ⌝ }
 {
     if text.len() == 0 {
@@ -58,7 +58,7 @@ pub fn number(text: &[u8]) -> Num
 }
 
 // Where the line that starts at `at` ends: it has at most 64 bytes with its newline.
-pub fn line_end(src: &[u8], at: usize) -> Line
+fn line_end(src: &[u8], at: usize) -> Line
     ensures { λ r. ⌜ r ≡ lineAt (now (src .entry)) at ⌝ }
 {
     let mut i = at;

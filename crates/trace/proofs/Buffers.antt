@@ -13,10 +13,10 @@ use borrow.Author.Tests.{eqb-true, eqb-false, eq-eqb}
 use Rattle.manager.specs.Lists.{any, In, Distinct}
 use Rattle.manager.specs.Partition.{buffers, isBuffer, chain}
 use Rattle.manager.proofs.Laws.Distinct.{either, on-off, on-in, distinct-is}
-use Rattle.manager.proofs.Laws.Partition.Buffers.{Shaped, buffer-of, of-buffer}
+use Rattle.manager.proofs.Laws.Partition.Buffers.{buffer-of, of-buffer}
 use Rattle.manager.proofs.Laws.Partition.Repeats.{chain-distinct}
 use Rattle.manager.proofs.Laws.Partition.Live.{live-laid, live-chain}
-use Rattle.manager.specs.Sound.{livePartition}
+use Rattle.manager.specs.Sound.{livePartition, Shaped}
 use Rattle.manager.specs.declared.Partition.{Partition}
 use Rattle.trace.specs.Receipts.{buffersFrom, strike}
 

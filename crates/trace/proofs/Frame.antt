@@ -18,11 +18,11 @@ use Rattle.manager.proofs.Laws.Lists.{and-first, and-second}
 use Rattle.manager.specs.Region.{pagesOf, mapAt, mapWords}
 use Rattle.manager.specs.Partition.{isBuffer, chain}
 use Rattle.manager.proofs.Laws.Distinct.{On, same-or-not, on-in}
-use Rattle.manager.proofs.Laws.Partition.Buffers.{Shaped, Laid, Buffer, buffer-of, Placed, placed, apart}
+use Rattle.manager.proofs.Laws.Partition.Buffers.{Buffer, buffer-of, Placed, placed, apart}
 use Rattle.manager.proofs.Laws.Partition.Chain.{linked-on}
 use Rattle.manager.proofs.Laws.Partition.Links.{Same, follow-same, linked-same}
 use Rattle.manager.proofs.Laws.Partition.Live.{live-laid, live-size, live-chain, live-made}
-use Rattle.manager.specs.Sound.{inside}
+use Rattle.manager.specs.Sound.{inside, Shaped, LaidPartition}
 use Rattle.manager.specs.declared.Region.{Region}
 use Rattle.manager.specs.declared.Partition.{Partition}
 use Rattle.manager.specs.Lists.{In}
@@ -194,7 +194,7 @@ whole-times k n z =
 
 -- what a live partition's entry says of its buffers
 module _ (m : List ℕ) (p : Partition) (e : PartitionEntry) (is : PartitionIs m p e) where
-  pub partition-laid : Laid m p
+  pub partition-laid : LaidPartition m p
   partition-laid = live-laid m p (is .sound)
 
   pub partition-shaped : Shaped p

@@ -17,7 +17,6 @@ use Rattle.manager.specs.Lists as lists
 use Rattle.manager.specs.Region.{areaOf}
 use Rattle.manager.specs.Regions.{overlaps}
 use Rattle.manager.specs.Partition.{bufferAt, linkAll}
-use Rattle.manager.proofs.Laws.Partition.Buffers.{Shaped}
 use Rattle.manager.proofs.Laws.Partition.Created.{addresses, all-length, all-clear, create-chain}
 use Rattle.manager.proofs.Laws.Partition.Area.{create-outside}
 use Rattle.manager.proofs.Laws.Partition.Live.{new-laid, new-created, live-new}
@@ -39,6 +38,7 @@ use Rattle.trace.proofs.Regions.Queue.{sound-inv}
 use Rattle.trace.proofs.Partitions.Slot.{keeping, put-keeps, outside, kept-done}
 use Rattle.trace.proofs.Replies.Checks.{same, test, acted, agree, answers}
 use Rattle.trace.proofs.Replies.Ids.{past-slots, new-partition, area-asked}
+use Rattle.manager.specs.Sound.{Shaped}
 
 -- the addresses of buffers, by number and one after the other
 addresses-from : (n : ℕ) (p : Partition) (k a : ℕ) → bufferAt p k ≡ a → addresses n p k ≡ buffersFrom n (p .size) a

@@ -14,7 +14,6 @@ use Rattle.manager.specs.Record.{slotOf, idOf, regionOf, partitionOf, withParti
 use Rattle.manager.specs.Result.{done}
 use Rattle.manager.specs.Region.{areaOf}
 use Rattle.manager.specs.Partition.{deadPartition, buffers}
-use Rattle.manager.proofs.Laws.Partition.Buffers.{Shaped}
 use Rattle.manager.proofs.Laws.Partition.Area.{Outside}
 use Rattle.manager.proofs.Laws.Partition.Repeats.{chain-length}
 use Rattle.manager.proofs.Laws.Partition.Live.{live-chain}
@@ -36,6 +35,7 @@ use Rattle.trace.proofs.Clients.{Stays}
 use Rattle.trace.proofs.Regions.Checks.{Kept, note-done}
 use Rattle.trace.proofs.Regions.Picture.{words-same}
 use Rattle.trace.proofs.Disjoint.{Clear}
+use Rattle.manager.specs.Sound.{Shaped}
 
 -- ---- what stands in a slot
 

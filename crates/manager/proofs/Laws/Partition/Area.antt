@@ -13,11 +13,12 @@ use Rattle.manager.specs.Lists.{any}
 use Rattle.manager.specs.Partition.{buffers, bufferAt, isBuffer, nextOf, setNext, link, follow, isFree, linked, soundChain, linkAll, afterGet, afterReturn}
 use Rattle.manager.proofs.Laws.Distinct.{On, same-or-not, on-head, on-tail}
 use Rattle.manager.specs.declared.Partition.{Partition}
-use Rattle.manager.proofs.Laws.Partition.Buffers.{Shaped, Buffer, buffer-of, buffer-at, placed}
+use Rattle.manager.proofs.Laws.Partition.Buffers.{Buffer, buffer-of, buffer-at, placed}
 use Rattle.manager.proofs.Laws.Partition.Chain.{linked-rest, linked-last, rear-on}
 use Rattle.manager.proofs.Laws.Partition.Repeats.{chain-buffer}
 use Rattle.manager.proofs.Laws.Partition.Links.{chain-front, after-last, after-get, return-first, return-behind}
 use Rattle.manager.proofs.Laws.Partition.Created.{link-length, all-clear}
+use Rattle.manager.specs.Sound.{Shaped}
 
 -- a word that is not wholly within the partition's area
 abbrev pub Outside : Partition → ℕ → Type 0

@@ -2,7 +2,6 @@
 use Prim.Native.Nat.{ℕ, _+_, _-_, _*_, _/_, _%_, _≤_, _<_}
 use mathlib.Core.Path.{_≡_, refl, ap, sym, _∙_}
 use mathlib.Core.Bool.{true, false}
-use mathlib.Core.List.{List}
 use mathlib.Core.Logic.{_⊎_, inl, inr, ⊎-elim}
 use native.Mathlib.Omega.{arith}
 use native.Mathlib.Nat.{div-add-mod', div-mul-le-self, mul-le-mul-right, mul-mod-left, mul-div-cancel, mul-assoc}
@@ -12,19 +11,8 @@ use borrow.Author.Tests.{eqb-true, leb-true, ltb-true, ltb-false, eq-eqb, le-leb
 use Rattle.manager.proofs.Laws.Lists.{and-first, and-second}
 use Rattle.manager.specs.Partition.{buffers, bufferAt, isBuffer}
 use Rattle.manager.proofs.Laws.Distinct.{either, same-or-not}
-use Rattle.manager.specs.Sound.{inside}
+use Rattle.manager.specs.Sound.{Shaped}
 use Rattle.manager.specs.declared.Partition.{Partition}
-
--- a partition as create allows it, and one that lies in the memory
-pub record Shaped (p : Partition) : Type 0 where
-  pub start-in : 0 < p .start
-  pub aligned : p .start % 4 ≡ 0
-  pub whole : p .size % 4 ≡ 0
-  pub big : 8 ≤ p .size
-
-pub record Laid (m : List ℕ) (p : Partition) : Type 0 where
-  pub shaped : Shaped p
-  pub inside : p .start + p .length ≤ 4 * length m
 
 -- a buffer: its number, and where it lies
 pub record Buffer (p : Partition) (a : ℕ) : Type 0 where

@@ -11,9 +11,9 @@ use lib.Dec.{eqb}
 use borrow.Author.Tests.{ne-eqb}
 use Rattle.manager.specs.Partition.{buffers, bufferAt, isBuffer, nextOf, beforeOf, setNext, link, follow, chain, linked, soundChain, linkAll}
 use Rattle.manager.proofs.Laws.Distinct.{same-or-not, few}
-use Rattle.manager.specs.Sound.{inside}
+use Rattle.manager.specs.Sound.{inside, Shaped, LaidPartition}
 use Rattle.manager.specs.declared.Partition.{Partition}
-use Rattle.manager.proofs.Laws.Partition.Buffers.{Shaped, Laid, Buffer, of-buffer, buffer-at, placed, further, words-cross, words-apart}
+use Rattle.manager.proofs.Laws.Partition.Buffers.{Buffer, of-buffer, buffer-at, placed, further, words-cross, words-apart}
 use Rattle.manager.proofs.Laws.Partition.Chain.{linked-more, linked-end}
 
 -- the links of buffer k of n, by address, and where the chain of the last n of them starts
@@ -116,7 +116,7 @@ pub record Created (p : Partition) : Type 0 where
   pub free : p .free ≡ buffers p
   pub some-in : 0 < buffers p
 
-module _ (m : List ℕ) (p : Partition) (g : Laid m p) (c : Created p) where
+module _ (m : List ℕ) (p : Partition) (g : LaidPartition m p) (c : Created p) where
   all-from : (n k : ℕ) → k + n ≡ buffers p
       → (linked n (linkAll (buffers p) m p 0) p (beforeAddress p k) (startsAt p n k) ≡ true)
       × (follow n (linkAll (buffers p) m p 0) (startsAt p n k) ≡ addresses n p k)

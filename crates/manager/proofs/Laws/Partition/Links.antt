@@ -12,9 +12,9 @@ use lib.Dec.{eqb}
 use borrow.Author.Tests.{eq-eqb, ne-eqb}
 use Rattle.manager.specs.Partition.{isBuffer, nextOf, beforeOf, setNext, setBefore, link, follow, chain, isFree, linked, soundChain, afterGet, gotten, afterReturn, returned}
 use Rattle.manager.proofs.Laws.Distinct.{On, Off, on-off, on-nil, on-head, on-tail, on-cases, distinct, distinct-head, distinct-tail}
-use Rattle.manager.specs.Sound.{inside}
+use Rattle.manager.specs.Sound.{inside, LaidPartition}
 use Rattle.manager.specs.declared.Partition.{Partition}
-use Rattle.manager.proofs.Laws.Partition.Buffers.{Laid, Buffer, buffer-of, placed, words-cross, words-apart, not-zero}
+use Rattle.manager.proofs.Laws.Partition.Buffers.{Buffer, buffer-of, placed, words-cross, words-apart, not-zero}
 use Rattle.manager.proofs.Laws.Partition.Chain.{linked-buffer, linked-before, linked-rest, linked-last, linked-rear, linked-more, linked-end, linked-on, rear-on}
 use Rattle.manager.proofs.Laws.Partition.Repeats.{none, no-repeats}
 
@@ -109,7 +109,7 @@ unfolding afterReturn
 return-behind m p a e = rw (ne-eqb _ _ e)
 
 -- reading links after stores
-module _ (m : List ℕ) (p : Partition) (g : Laid m p) where
+module _ (m : List ℕ) (p : Partition) (g : LaidPartition m p) where
   pub word-in : (a : ℕ) → Buffer p a → a / 4 + 1 < length m
   word-in a b = let q = placed p (g .shaped) a b in omega (arith, q .high, g .inside, g .shaped .big)
 

@@ -15,16 +15,15 @@ use Rattle.manager.proofs.Laws.Lists.{and-first, and-second}
 use Rattle.manager.specs.Partition.{buffers, isBuffer, isFree, soundChain, linkAll, afterGet, gotten, afterReturn, returned}
 use Rattle.manager.proofs.Laws.Distinct.{same-or-not}
 use Rattle.manager.specs.Partitions.{newPartition}
-use Rattle.manager.specs.Sound.{soundLength, inside, soundSize, livePartition, soundRegion, soundPartition, sound}
+use Rattle.manager.specs.Sound.{soundLength, inside, soundSize, livePartition, soundRegion, soundPartition, sound, LaidPartition}
 use Rattle.manager.specs.declared.Manager.{Manager}
 use Rattle.manager.specs.declared.Partition.{Partition}
-use Rattle.manager.proofs.Laws.Partition.Buffers.{Laid}
 use Rattle.manager.proofs.Laws.Partition.Links.{get-sound, return-sound}
 use Rattle.manager.proofs.Laws.Partition.Created.{all-length, Created, create-sound}
 use Rattle.manager.proofs.Laws.Partition.Area.{get-length, return-length}
 
 module _ (m : List ℕ) (p : Partition) where
-  pub live-laid : livePartition m p ≡ true → Laid m p
+  pub live-laid : livePartition m p ≡ true → LaidPartition m p
   unfolding livePartition
   live-laid e =
       let i = and-first (inside m (p .start) (p .length)) _ e in
@@ -56,14 +55,14 @@ module _ (m : List ℕ) (p : Partition) where
       let r = and-second (inside m (p .start) (p .length)) _ e in
       and-second (soundSize (p .length) (p .size)) _ (and-second (eqb (p .start % 4) 0) _ r)
 
-  pub live-made : Laid m p → p .size ≤ p .length → soundChain m p ≡ true → livePartition m p ≡ true
+  pub live-made : LaidPartition m p → p .size ≤ p .length → soundChain m p ≡ true → livePartition m p ≡ true
   unfolding livePartition
   live-made g h e =
       let z : p .start ≡ 0 → ⊥ = λ q. omega (arith, g .shaped .start-in) in
       rw (ne-eqb _ _ z, le-leb _ _ (g .inside), eq-eqb _ _ (g .shaped .aligned), le-leb _ _ h, eq-eqb _ _ (g .shaped .whole), le-leb _ _ (g .shaped .big), e)
 
 -- the same area and size, over a memory of the same length
-laid-too : (m m′ : List ℕ) (p p′ : Partition) → p′ .start ≡ p .start → p′ .length ≡ p .length → p′ .size ≡ p .size → length m′ ≡ length m → Laid m p → Laid m′ p′
+laid-too : (m m′ : List ℕ) (p p′ : Partition) → p′ .start ≡ p .start → p′ .length ≡ p .length → p′ .size ≡ p .size → length m′ ≡ length m → LaidPartition m p → LaidPartition m′ p′
 laid-too m m′ p p′ a b c d g =
     let s = g .shaped in
     record {
@@ -98,7 +97,7 @@ some-buffer p z h =
 
 module _ (m : List ℕ) (name start bytes size : ℕ) (a : start ≡ 0 → ⊥) (b : start % 4 ≡ 0) (c : start + bytes ≤ 4 * length m) (d : size ≤ bytes)
     (e : size % 4 ≡ 0) (f : 8 ≤ size) where
-  pub new-laid : Laid m (newPartition name start bytes size)
+  pub new-laid : LaidPartition m (newPartition name start bytes size)
   new-laid =
       record {
         shaped =

@@ -10,8 +10,9 @@ use lib.ListN.{length}
 use Rattle.manager.specs.Partition.{buffers, bufferAt, isBuffer, nextOf, beforeOf, follow, chain, isFree, linked, soundChain}
 use Rattle.manager.proofs.Laws.Distinct.{On, Off, either, on-off, on-nil, off-nil, on-head, on-tail, on-cases, off-head, off-tail, off-by, distinct, distinct-cons, few}
 use Rattle.manager.specs.declared.Partition.{Partition}
-use Rattle.manager.proofs.Laws.Partition.Buffers.{Shaped, Buffer, buffer-of, not-zero}
+use Rattle.manager.proofs.Laws.Partition.Buffers.{Buffer, buffer-of, not-zero}
 use Rattle.manager.proofs.Laws.Partition.Chain.{linked-buffer, linked-before, linked-rest, linked-on, follow-length}
+use Rattle.manager.specs.Sound.{Shaped}
 
 -- the buffers passed, the last one first: each leads back to the one behind it on this list, the last to 0
 abbrev latest : List ℕ → ℕ
