@@ -26,7 +26,7 @@ perform m d (ReturnBuffer id address) = returnBuffer m d id address
 perform m d Tick = tick m d
 
 -- A CALL IN PARTS, which tell it from others: its directive's number, the id that it names, and its size, address or name; 0 for what it
--- has not
+-- has not. No statement and no contract rests on it: wrong managers are made by it
 pub record Asked : Type 0 where
   pub directive : ℕ
   pub id : ℕ

@@ -1,4 +1,4 @@
--- WRONG ANSWERS: the managers 1 to 31, each of which breaks one rule (those that it shuts out by name and those of its slips
+-- WRONG ANSWERS: the managers 1 to 31 and 49, each of which breaks one rule (those that it shuts out by name and those of its slips
 -- among them), and for each a list of calls of which the last is not answered as the receipts say. So none of them meets demand 3. The
 -- managers 32 to 46, which don't meet demand 1, are in Effects. Assumes nothing.
 use mathlib.Core.Path.{refl}
@@ -328,3 +328,14 @@ refusesWrites = record { call = perform; read = readSegment; write = λ m d id a
 not-refusesWrites : ¬ Demand3 refusesWrites
 unfolding everything
 not-refusesWrites = differs refusesWrites (create ∷ get 64 ∷ write 1 64 0 (7 ∷ []) ∷ []) refl
+
+-- 49. PAGES ARE COUNTED FROM THE REGION'S FIRST ONE: a get answers how far its segment is from there, with the memory as it should be
+abbrev countsFromFirst : Implementation
+countsFromFirst =
+    but segment-get 0 λ m d c a.
+    let r = regionOf d (asked c .id) in
+    valued a (a .value - addressOf r (firstPageOf r))
+
+not-countsFromFirst : ¬ Demand3 countsFromFirst
+unfolding everything
+not-countsFromFirst = differs countsFromFirst (create ∷ get 64 ∷ []) refl
