@@ -2,15 +2,14 @@
 use mathlib.Core.Path.{_≡_, refl, sym, _∙_, subst, ap}
 use mathlib.Core.Bool.{true, false, cond, false≢true}
 use mathlib.Core.List.{List, [], _∷_}
-use mathlib.Core.Logic.{inl, inr, ⊎-elim}
+use mathlib.Core.Logic.{inl, inr}
 use Prim.Native.Nat.{ℕ, _*_, _+_, _/_, _%_, _<_}
 use native.Mathlib.Omega.{arith}
-use lib.Seq.{getD-set-same}
-use lib.Dec.{leb, eqb, ltb}
-use lib.ListN.{length, List·getD-eq-default}
-use borrow.Author.Tests.{leb-true, leb-false, eqb-true, eqb-false, ltb-true, ltb-false, not-false}
+use lib.Dec.{leb, eqb}
+use lib.ListN.{length}
+use borrow.Author.Tests.{leb-true, leb-false, eqb-true, eqb-false, ltb-false, not-false}
 use Rattle.manager.specs.Lists.{every, any}
-use Rattle.manager.specs.Record.{slots, tasks, noRegion, regionOf, idOf, withRegion, noPartition, slotOf, partitionOf}
+use Rattle.manager.specs.Record.{slots, tasks, noRegion, regionOf, idOf, withRegion, noPartition, slotOf, generationOf, partitionOf, withPartition}
 use Rattle.manager.specs.Result.{Result, done, replied}
 use Rattle.manager.specs.Map.{total}
 use Rattle.manager.specs.Paged.{free+, allocate, paged, reachFrom, changeFrom, onPlace}
@@ -21,7 +20,7 @@ use Rattle.manager.specs.Region.{dead, pagesOf, firstPageOf, pageAt, addressOf,
 use Rattle.manager.specs.Serve.{serve}
 use Rattle.manager.specs.Sound.{sound, LaidPartition}
 use Rattle.manager.proofs.Laws.Sound.{sited}
-use Rattle.manager.specs.Regions.{newRegion, regionNamed, unplaced, createRegion, identRegion, deleteRegion, getSegment, returnSegment, segmentSize, resizeSegment, regionInformation, tick}
+use Rattle.manager.specs.Regions.{unspentRegion, regionGeneration, newRegion, unplaced, createRegion, identRegion, deleteRegion, getSegment, returnSegment, segmentSize, resizeSegment, regionInformation, tick}
 use Rattle.manager.specs.declared.Manager.{Manager}
 use Rattle.manager.specs.declared.Region.{Region}
 use Rattle.manager.specs.declared.Waiter.{Waiter}
@@ -32,7 +31,8 @@ use Rattle.manager.specs.declared.Wait.{Wait}
 use Rattle.manager.specs.declared.Wait.the-variants.{No, Yes}
 use Rattle.manager.specs.declared.Call.the-variants.{CreateRegion, IdentRegion, DeleteRegion, GetSegment, ReturnSegment, SegmentSize, ResizeSegment, RegionInformation, Tick, CreatePartition, IdentPartition, DeletePartition, GetBuffer, ReturnBuffer}
 use Rattle.manager.specs.declared.Status.the-variants.{Unsatisfied, InternalError, Waiting}
-use Rattle.manager.proofs.Laws.Distinct.{on-in, either, on-head}
+use Rattle.manager.proofs.Laws.Distinct.{on-in, on-head}
+use Rattle.manager.proofs.Laws.Ids.{id-back, live-object, live-within, put-there}
 use Rattle.manager.proofs.Laws.Result.{Passed}
 use Rattle.manager.specs.Partition.{deadPartition, buffers, bufferAt, isBuffer, isFree, chain, soundChain, linkAll, afterGet, afterReturn, returned}
 use Rattle.manager.proofs.Laws.Partition.Buffers.{buffer-at, of-buffer}
@@ -41,7 +41,7 @@ use Rattle.manager.proofs.Laws.Partition.Repeats.{all-free}
 use Rattle.manager.proofs.Laws.Partition.Live.{new-laid, new-created, live-laid, live-chain, sound-live}
 use Rattle.manager.proofs.Laws.Partition.Area.{get-only, get-length, return-only, return-length}
 use Rattle.manager.proofs.Laws.Partition.Links.{return-chain}
-use Rattle.manager.specs.Partitions.{newPartition, partitionNamed, createPartition, identPartition, deletePartition, getBuffer, returnBuffer}
+use Rattle.manager.specs.Partitions.{unspentPartition, partitionGeneration, newPartition, createPartition, identPartition, deletePartition, getBuffer, returnBuffer}
 use Rattle.manager.specs.declared.Partition.{Partition}
 use Rattle.manager.specs.Perform.{perform, defined}
 use Rattle.manager.specs.declared.Call.{Call}
@@ -57,9 +57,11 @@ new-pages : (n : ℕ) → total (free+ n []) ≡ n
 unfolding total
 new-pages n = total-free n [] ∙ omega arith
 
--- a new region stands in its slot
-new-there : (d : Manager) (w : Whole d) (slot : ℕ) (r : Region) → leb slots slot ≡ false → regionOf (withRegion d slot r) (idOf slot) ≡ r
-new-there d w slot r h = getD-set-same (d .regions) slot r noRegion (omega (arith, w .regions, leb-false slots slot h))
+-- a new region stands in its slot, under its id
+new-there : (d : Manager) (w : Whole d) (slot : ℕ) (r : Region) → leb slots slot ≡ false → ¬ (r .name ≡ 0) → regionOf (withRegion d slot r) (idOf slot (r .generation)) ≡ r
+new-there d w slot r h n =
+    let u = leb-false slots slot h in
+    put-there (λ r. r .name) (λ r. r .generation) noRegion (d .regions) slot u (omega (arith, w .regions)) r (r .generation) n refl
 
 module _ (m : List ℕ) (d : Manager) where
   -- a live region of sound records
@@ -70,11 +72,11 @@ module _ (m : List ℕ) (d : Manager) where
       → CallEffects m d (CreateRegion name start bytes page order) (createRegion m d name start bytes page order)
   unfolding createRegion every any Passed
   create-region name start bytes page order =
-      let r = newRegion name start bytes page order in
-      let slot = regionNamed d 0 in
+      let slot = unspentRegion d in
+      let r = newRegion (regionGeneration d slot) name start bytes page order in
       effects m d (CreateRegion name start bytes page order) _ _ refl refl (λ ok p.
       acts m d (CreateRegion name start bytes page order) ok _ refl refl (λ w.
-      subst (λ (x : Region). Only (MapWord x) m (withSegments m r (free+ (pagesOf r) []))) (sym (new-there d w slot r (p .1 .1 .1 .1 .1 .1 .1 .0)))
+      subst (λ (x : Region). Only (MapWord x) m (withSegments m r (free+ (pagesOf r) []))) (sym (new-there d w slot r (p .1 .1 .1 .1 .1 .1 .1 .0) (eqb-false name 0 (p .0))))
       (drawn-only m r (free+ (pagesOf r) []) (new-pages (pagesOf r)))))
 
   -- these change no word
@@ -175,14 +177,17 @@ module _ (m : List ℕ) (d : Manager) where
 not-links : (m : List ℕ) (p : Partition) (j : ℕ) → ¬ LinkWord m p j → (x : ℕ) → isFree m p x ≡ true → (j ≡ x / 4 → ⊥) × (j ≡ x / 4 + 1 → ⊥)
 not-links m p j h x f = (λ e. h (x, f, inl e), λ e. h (x, f, inr e))
 
--- what an id names that is not dead is in a slot
-live-slot : (d : Manager) (id : ℕ) → deadPartition (partitionOf d id) ≡ false → slotOf id < length (d .partitions)
-live-slot d id live =
-    ⊎-elim (λ (e : ltb (slotOf id) (length (d .partitions)) ≡ true). ltb-true (slotOf id) (length (d .partitions)) e)
-    (λ (e : ltb (slotOf id) (length (d .partitions)) ≡ false).
-    let z = List·getD-eq-default (d .partitions) noPartition (ltb-false (slotOf id) (length (d .partitions)) e) in
-    absurd (eqb-false (partitionOf d id .name) 0 live (ap (λ (p : Partition). p .name) z)))
-    (either (ltb (slotOf id) (length (d .partitions))))
+-- another state of what an id names stands in its slot, under that id
+still-there : (d : Manager) (w : Whole d) (id : ℕ) (p : Partition) → deadPartition (partitionOf d id) ≡ false → p .name ≡ partitionOf d id .name
+    → p .generation ≡ partitionOf d id .generation → partitionOf (withPartition d (slotOf id) p) id ≡ p
+still-there d w id p live e g =
+    let n = eqb-false (partitionOf d id .name) 0 live in
+    let v = live-object (λ p. p .name) (λ p. p .generation) noPartition (d .partitions) refl id n in
+    let u = live-within (λ p. p .name) (λ p. p .generation) noPartition (d .partitions) refl id v in
+    let h : slotOf id < slots = omega (arith, w .partitions) in
+    ap (partitionOf (withPartition d (slotOf id) p)) (sym (id-back id h))
+    ∙ put-there (λ p. p .name) (λ p. p .generation) noPartition (d .partitions) (slotOf id) h u p (generationOf id) (λ z. n (sym e ∙ z))
+    (g ∙ ap (λ (q : Partition). q .generation) (v .is) ∙ v .same)
 
 module _ (m : List ℕ) (d : Manager) where
   -- these change no word
@@ -231,7 +236,7 @@ module _ (m : List ℕ) (d : Manager) where
       effects m d (ReturnBuffer id a) _ _ refl refl (λ ok c.
       acts m d (ReturnBuffer id a) ok _ refl refl (λ w.
       let v = sound-live m d ok id (eqb-false (p .name) 0 (c .0)) in
-      let there = getD-set-same (d .partitions) (slotOf id) (returned p a) noPartition (live-slot d id (c .0)) in
+      let there = still-there d w id (returned p a) (c .0) refl refl in
       subst (λ (x : Partition). Only (LinkWord (afterReturn m p a) x) m (afterReturn m p a)) (sym there)
       (return-words p (live-laid m p v) (live-chain m p v) a (not-false (isBuffer p a) (c .1 .0)) (c .1 .1 .0))))
 
@@ -250,8 +255,9 @@ module _ (m : List ℕ) (d : Manager) where
   create-partition : (name start bytes size : ℕ) → CallEffects m d (CreatePartition name start bytes size) (createPartition m d name start bytes size)
   unfolding createPartition every any Passed
   create-partition name start bytes size =
-      let p = newPartition name start bytes size in
-      let slot = partitionNamed d 0 in
+      let slot = unspentPartition d in
+      let g = partitionGeneration d slot in
+      let p = newPartition g name start bytes size in
       effects m d (CreatePartition name start bytes size) _ _ refl refl (λ ok c.
       acts m d (CreatePartition name start bytes size) ok _ refl refl (λ w.
       let n = eqb-false start 0 (c .1 .0) in
@@ -261,9 +267,10 @@ module _ (m : List ℕ) (d : Manager) where
       let v = eqb-true (size % 4) 0 (not-false (eqb (size % 4) 0) (c .1 .1 .1 .1 .1 .1 .1 .0)) in
       let b = ltb-false size 8 (c .1 .1 .1 .1 .1 .1 .1 .1 .0) in
       let s = leb-false slots slot (c .1 .1 .1 .1 .1 .1 .1 .1 .1 .1 .0) in
-      let there = getD-set-same (d .partitions) slot p noPartition (omega (arith, w .partitions, s)) in
+      let there =
+      put-there (λ p. p .name) (λ p. p .generation) noPartition (d .partitions) slot s (omega (arith, w .partitions)) p g (eqb-false name 0 (c .0)) refl in
       subst (λ (x : Partition). Only (LinkWord (linkAll (buffers p) m p 0) x) m (linkAll (buffers p) m p 0)) (sym there)
-      (new-words p (new-laid m name start bytes size n a u l v b) (new-created m name start bytes size n a u l v b))))
+      (new-words p (new-laid m g name start bytes size n a u l v b) (new-created m g name start bytes size n a u l v b))))
 
 -- ---- EVERY CALL
 

@@ -23,7 +23,8 @@ use Rattle.trace.specs.Trace.{State, ClientsWrite, Runs, start, after}
 use Rattle.trace.specs.Trace as trace
 use Rattle.trace.proofs.Invariant.{Inv}
 use Rattle.trace.proofs.Start.{start-inv}
-use Rattle.trace.proofs.Theorem.{runs, theorem}
+use Rattle.trace.proofs.Runs.{runs}
+use Rattle.trace.proofs.Theorem.{theorem}
 use Rattle.trace.proofs.Access.{writes}
 use Rattle.trace.proofs.Regions.Queue.{sound-inv}
 use Rattle.trace.proofs.Queue.Waiters.{line-fits}

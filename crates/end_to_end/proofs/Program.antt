@@ -14,7 +14,8 @@ use Rattle.trace.specs.Receipts.{replyOf}
 use Rattle.trace.specs.Replies.{byReceipts, note}
 use Rattle.trace.specs.Trace.{State, Ask, call, after, Runs, end, ask, clients, start}
 use Rattle.trace.proofs.Start.{start-inv}
-use Rattle.trace.proofs.Theorem.{runs, theorem}
+use Rattle.trace.proofs.Runs.{runs}
+use Rattle.trace.proofs.Theorem.{theorem}
 use Rattle.script.specs.Table.{rowOf}
 use Rattle.script.specs.Reading.{readAll}
 use Rattle.effects.proofs.Theorem.{calls as effects}

@@ -2,6 +2,7 @@
 -- directives. An example unfolds these names. Assumes nothing.
 use Prim.Native.Nat.{_+_}
 use Rattle.arith.specs.Layout.{largest, pageCount}
+use Rattle.manager.specs.Record.{slotOf, generationOf, idOf, objectOf}
 use Rattle.manager.specs.Result.{checked}
 use Rattle.manager.specs.Lists.{every, any, indexOf, pairwise, adjacent}
 use Rattle.manager.specs.Map.{draw, decode, tiledFrom, tiled, soundMap, freeSizes, heldSizes, largestOf, sumOf, total}
@@ -21,7 +22,7 @@ unfolding largest pageCount checked every any indexOf pairwise adjacent draw dec
 maps = tt
 
 unfoldable pub records : Unit {0}
-unfolding regionAreas partitionAreas goesBefore push insert removeAt enqueue dequeue staying leaving afterTick serveUpTo serve follow linked linkAll afterGet afterReturn liveRegion livePartition soundRegion soundPartition soundWaiter soundPlace soundQueue sound
+unfolding slotOf generationOf idOf objectOf regionAreas partitionAreas goesBefore push insert removeAt enqueue dequeue staying leaving afterTick serveUpTo serve follow linked linkAll afterGet afterReturn liveRegion livePartition soundRegion soundPartition soundWaiter soundPlace soundQueue sound
 records = tt
 
 unfoldable pub directives : Unit {0}

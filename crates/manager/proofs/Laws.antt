@@ -2,6 +2,7 @@
 pub mod Lists
 pub mod Appended
 pub mod Distinct
+pub mod Ids
 pub mod Result
 pub mod Map
 pub mod Apart

@@ -7,12 +7,12 @@ use lib.ListN.{replicate}
 use lib.Dec.{eqb}
 use Rattle.arith.specs.Layout.{pageCount, firstPage}
 use Rattle.manager.specs.Status.{numberOf}
-use Rattle.manager.specs.Record.{mostWords, fresh, regionOf}
+use Rattle.manager.specs.Record.{slots, tasks, mostWords, emptiedRegion, emptiedPartition, noWaiter, fresh, regionOf}
 use Rattle.manager.specs.Result.{Result}
 use Rattle.manager.specs.Region.{mapWords}
 use Rattle.manager.specs.Perform.{perform}
 use Rattle.manager.specs.declared.Call.{Call}
-use Rattle.manager.specs.declared.Call.the-variants.{CreateRegion, GetSegment, ReturnSegment, CreatePartition, GetBuffer, ReturnBuffer}
+use Rattle.manager.specs.declared.Call.the-variants.{CreateRegion, IdentRegion, DeleteRegion, GetSegment, ReturnSegment, CreatePartition, DeletePartition, GetBuffer, ReturnBuffer, Tick}
 use Rattle.manager.specs.declared.Order.the-variants.{Fifo}
 use Rattle.manager.specs.declared.Wait.the-variants.{No, Yes}
 use Rattle.manager.specs.declared.Manager.{Manager}
@@ -22,12 +22,13 @@ use Rattle.manager.specs.declared.Notice.{Notice}
 pub data Step : Type 0 where
   step : Call → ℕ → ℕ → List ℕ → Step
 
--- A row: an area and its page size, with its page count, first page and last byte; calls from a fresh start, with their answers; and
--- such calls with the words of region 1's map after them
+-- A row: an area and its page size, with its page count, first page and last byte; calls from a fresh start, with their answers; such
+-- calls with the words of region 1's map after them; and calls from a start where every slot was deleted so often
 pub data Row : Type 0 where
   layout : ℕ → ℕ → ℕ → ℕ → ℕ → ℕ → Row
   calls : List Step → Row
   words : List Step → List ℕ → Row
+  later : ℕ → List Step → Row
 
 abbrev pub same : List ℕ → List ℕ → Bool
 same [] [] = true
@@ -49,15 +50,29 @@ follows m d (step c status value notices ∷ ss) after =
     let s = perform m d c in
     right s status value notices && follows (s .memory) (s .manager) ss after
 
+-- no object, and every slot of a generation
+abbrev pub atGeneration : ℕ → Manager
+atGeneration g = record { regions = replicate slots (emptiedRegion g); partitions = replicate slots (emptiedPartition g); waiters = replicate tasks noWaiter }
+
 abbrev pub holds : Row → Bool
 holds (layout start bytes page n first last) =
     eqb (pageCount start bytes page) n && (eqb (firstPage start page n * page) first && eqb (first + n * page) (last + 1))
 holds (calls ss) = follows (replicate mostWords 0) fresh ss (λ m d. true)
 holds (words ss ws) = follows (replicate mostWords 0) fresh ss (λ m d. same (mapWords m (regionOf d 1)) ws)
+holds (later g ss) = follows (replicate mostWords 0) (atGeneration g) ss (λ m d. true)
 
 -- the calls of the examples
 abbrev pub a : Step
 a = step (CreateRegion 1 4 1020 64 Fifo) 0 1 []
+
+abbrev pub again : ℕ → Step
+again id = step (CreateRegion 1 4 1020 64 Fifo) 0 id []
+
+abbrev pub remove : ℕ → ℕ → Step
+remove id status = step (DeleteRegion id) status 0 []
+
+abbrev pub divide : ℕ → Step
+divide id = step (CreatePartition 1 4 100 24) 0 id []
 
 abbrev pub get : ℕ → ℕ → ℕ → Step
 get size status value = step (GetSegment 1 size No 0 0 0) status value []
@@ -109,4 +124,23 @@ table =
     ∷ [])
     -- 10. A partition at start 1,020, length 24, size 24, beside A: 9.
     ∷ calls (a ∷ step (CreatePartition 1 1020 24 24) 9 0 [] ∷ [])
+    -- Request 1. A, made again after its delete, has id 17; id 1 is 4, and ident answers 17.
+    ∷ calls (a ∷ remove 1 0 ∷ again 17 ∷ get 65 4 0 ∷ remove 1 4 ∷ step (IdentRegion 1) 0 17 [] ∷ step (GetSegment 17 65 No 0 0 0) 0 64 [] ∷ [])
+    -- The notices of a tick go by slots: region 17 in slot 1 comes before region 2.
+    ∷ calls
+    (a
+    ∷ remove 1 0
+    ∷ again 17
+    ∷ step (CreateRegion 2 1024 1020 64 Fifo) 0 2 []
+    ∷ step (GetSegment 17 960 No 0 0 0) 0 64 []
+    ∷ step (GetSegment 2 896 No 0 0 0) 0 1088 []
+    ∷ step (GetSegment 2 64 Yes 1 1 1) 255 0 []
+    ∷ step (GetSegment 17 64 Yes 2 1 1) 255 0 []
+    ∷ step Tick 0 0 (2 ∷ 6 ∷ 0 ∷ 1 ∷ 6 ∷ 0 ∷ [])
+    ∷ [])
+    -- The last generation of slot 1 is 65,535. Deleted then, the slot is spent, and the next create takes slot 2.
+    ∷ later 65535 (again 1048561 ∷ remove 1048561 0 ∷ again 1048562 ∷ remove 1048561 4 ∷ [])
+    ∷ later 65535 (divide 1048561 ∷ step (DeletePartition 1048561) 0 0 [] ∷ divide 1048562 ∷ [])
+    -- With every slot spent there is none: 5.
+    ∷ later 65536 (step (CreateRegion 1 4 1020 64 Fifo) 5 0 [] ∷ step (CreatePartition 1 4 100 24) 5 0 [] ∷ [])
     ∷ []

@@ -75,7 +75,16 @@ afterGet m p =
 abbrev pub gotten : List ℕ → Partition → Partition
 gotten m p =
     let n = nextOf m (p .front) in
-    record { name = p .name; start = p .start; length = p .length; size = p .size; front = n; rear = cond (eqb n 0) 0 (p .rear); free = p .free - 1 }
+    record {
+      name = p .name;
+      generation = p .generation;
+      start = p .start;
+      length = p .length;
+      size = p .size;
+      front = n;
+      rear = cond (eqb n 0) 0 (p .rear);
+      free = p .free - 1;
+    }
 
 -- return adds at the rear
 unfoldable pub afterReturn : List ℕ → Partition → ℕ → List ℕ
@@ -83,4 +92,13 @@ afterReturn m p a = cond (eqb (p .free) 0) (link m a 0 0) (link (setNext m (p .r
 
 abbrev pub returned : Partition → ℕ → Partition
 returned p a =
-    record { name = p .name; start = p .start; length = p .length; size = p .size; front = cond (eqb (p .free) 0) a (p .front); rear = a; free = p .free + 1 }
+    record {
+      name = p .name;
+      generation = p .generation;
+      start = p .start;
+      length = p .length;
+      size = p .size;
+      front = cond (eqb (p .free) 0) a (p .front);
+      rear = a;
+      free = p .free + 1;
+    }

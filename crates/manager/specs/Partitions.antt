@@ -1,9 +1,10 @@
 -- Rules 12: the directives on partitions. Each has its checks in the order of "Order of checks". Assumes nothing.
-use Prim.Native.Nat.{ℕ, _-_, _%_}
+use Prim.Native.Nat.{ℕ, _+_, _-_, _%_}
 use mathlib.Core.Bool.{not}
 use mathlib.Core.List.{List, [], _∷_}
+use lib.ListN.{getD}
 use lib.Dec.{eqb, leb, ltb}
-use Rattle.manager.specs.Record.{slots, noPartition, partitionOf, slotOf, idOf, withPartition}
+use Rattle.manager.specs.Record.{slots, noPartition, emptiedPartition, unspent, partitionOf, slotOf, idOf, withPartition}
 use Rattle.manager.specs.Result.{Result, check, done}
 use Rattle.manager.specs.Lists.{indexOf}
 use Rattle.manager.specs.Partition.{deadPartition, buffers, bufferAt, isBuffer, isFree, linkAll, afterGet, gotten, afterReturn, returned}
@@ -13,22 +14,41 @@ use Rattle.manager.specs.declared.Manager.{Manager}
 use Rattle.manager.specs.declared.Partition.{Partition}
 use Rattle.manager.specs.declared.Status.the-variants.{InvalidName, InvalidId, TooMany, InvalidSize, InvalidAddress, ResourceInUse, Unsatisfied}
 
--- Create takes the lowest empty slot, ident the lowest with the name
+-- Create takes the lowest empty slot that isn't spent, ident the lowest with the name
+abbrev pub unspentPartition : Manager → ℕ
+unspentPartition d = indexOf (λ p. unspent (p .name) (p .generation)) (d .partitions)
+
 abbrev pub partitionNamed : Manager → ℕ → ℕ
 partitionNamed d name = indexOf (λ p. eqb (p .name) name) (d .partitions)
 
+-- the generation of a slot, and the id of what is in it
+abbrev pub partitionGeneration : Manager → ℕ → ℕ
+partitionGeneration d i = getD (d .partitions) i noPartition .generation
+
+abbrev pub partitionId : Manager → ℕ → ℕ
+partitionId d i = idOf i (partitionGeneration d i)
+
 -- the new partition: every buffer is free, in the order of their addresses
-abbrev pub newPartition : ℕ → ℕ → ℕ → ℕ → Partition
-newPartition name start bytes size =
-    let p : Partition = record { name = name; start = start; length = bytes; size = size; front = 0; rear = 0; free = 0 } in
-    record { name = name; start = start; length = bytes; size = size; front = start; rear = bufferAt p (buffers p - 1); free = buffers p }
+abbrev pub newPartition : ℕ → ℕ → ℕ → ℕ → ℕ → Partition
+newPartition generation name start bytes size =
+    let p : Partition = record { name = name; generation = generation; start = start; length = bytes; size = size; front = 0; rear = 0; free = 0 } in
+    record {
+      name = name;
+      generation = generation;
+      start = start;
+      length = bytes;
+      size = size;
+      front = start;
+      rear = bufferAt p (buffers p - 1);
+      free = buffers p;
+    }
 
 -- create partition: 3, start 9, alignment 9, past memory 9, length or size 0 (8), length below size 8, size not a multiple of 4 or
 -- below 8 (8), overlap 9, 5
 unfoldable pub createPartition : List ℕ → Manager → ℕ → ℕ → ℕ → ℕ → Result
 createPartition m d name start bytes size =
-    let p = newPartition name start bytes size in
-    let slot = partitionNamed d 0 in
+    let slot = unspentPartition d in
+    let p = newPartition (partitionGeneration d slot) name start bytes size in
     answered (sound m d) m d
     (check (eqb name 0) InvalidName
     ∷ check (eqb start 0) InvalidAddress
@@ -42,7 +62,7 @@ createPartition m d name start bytes size =
     ∷ check (overlaps d (record { start = start; length = bytes })) InvalidAddress
     ∷ check (leb slots slot) TooMany
     ∷ [])
-    (done (linkAll (buffers p) m p 0) (withPartition d slot p) (idOf slot))
+    (done (linkAll (buffers p) m p 0) (withPartition d slot p) (partitionId d slot))
 
 -- ident: 3
 unfoldable pub identPartition : List ℕ → Manager → ℕ → Result
@@ -51,9 +71,9 @@ identPartition m d name =
     (check (eqb name 0) InvalidName
     ∷ check (leb slots (partitionNamed d name)) InvalidName
     ∷ [])
-    (done m d (idOf (partitionNamed d name)))
+    (done m d (partitionId d (partitionNamed d name)))
 
--- delete: 4, 12; it changes no word of memory
+-- delete: 4, 12; it changes no word of memory, and the generation rises by one
 unfoldable pub deletePartition : List ℕ → Manager → ℕ → Result
 deletePartition m d id =
     let p = partitionOf d id in
@@ -61,7 +81,7 @@ deletePartition m d id =
     (check (deadPartition p) InvalidId
     ∷ check (not (eqb (p .free) (buffers p))) ResourceInUse
     ∷ [])
-    (done m (withPartition d (slotOf id) noPartition) 0)
+    (done m (withPartition d (slotOf id) (emptiedPartition (p .generation + 1))) 0)
 
 -- get of a buffer: 4, 13; the front of the chain
 unfoldable pub getBuffer : List ℕ → Manager → ℕ → Result

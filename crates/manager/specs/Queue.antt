@@ -1,11 +1,11 @@
--- Rules 7: the wait queue. The record keeps one array of waiters, by region and within a region in the
+-- Rules 7: the wait queue. The record keeps one array of waiters, by the regions' slots and within a region in the
 -- order in which they are served; unused places are at the end. Assumes nothing.
 use Prim.Native.Nat.{ℕ, _-_}
 use mathlib.Core.Bool.{Bool, true, false, cond, not, _&&_, _||_}
 use mathlib.Core.List.{List, [], _∷_, _++_}
 use lib.ListN.{take, drop}
 use lib.Dec.{ltb, eqb}
-use Rattle.manager.specs.Record.{tasks, noWaiter, regionOf, withQueue}
+use Rattle.manager.specs.Record.{tasks, noWaiter, slotOf, regionOf, withQueue}
 use Rattle.manager.specs.Result.{pad}
 use Rattle.manager.specs.Lists.{any, indexOf}
 use Rattle.manager.specs.declared.Manager.{Manager}
@@ -24,9 +24,13 @@ byPriority Priority = true
 abbrev pub urgent : Order → ℕ → ℕ → Bool
 urgent o p q = byPriority o && ltb p q
 
--- whether a waiter w of a region of order o goes before x: x is an unused place, of a later region, or less urgent
+-- whether a waiter w of a region of order o goes before x: x is an unused place, of a region in a later slot, or less urgent. A region is
+-- lower than another where its slot is, whatever their generations
 unfoldable pub goesBefore : Order → Waiter → Waiter → Bool
-goesBefore o w x = eqb (x .task) 0 || (ltb (w .region) (x .region) || (eqb (w .region) (x .region) && urgent o (w .priority) (x .priority)))
+goesBefore o w x =
+    eqb (x .task) 0
+    || (ltb (slotOf (w .region)) (slotOf (x .region))
+    || (eqb (slotOf (w .region)) (slotOf (x .region)) && urgent o (w .priority) (x .priority)))
 
 -- w at the front, and each other one place later; the last falls off
 unfoldable pub push : Waiter → List Waiter → List Waiter

@@ -2,10 +2,10 @@
 use Prim.Native.Nat.{ℕ, _+_, _*_}
 use mathlib.Core.Bool.{Bool, cond, not}
 use mathlib.Core.List.{List, [], _∷_}
-use lib.ListN.{length}
+use lib.ListN.{length, getD}
 use lib.Dec.{eqb, leb, ltb}
 use Rattle.arith.specs.Round.{roundUp}
-use Rattle.manager.specs.Record.{slots, tasks, noRegion, noInformation, regionOf, slotOf, idOf, withRegion}
+use Rattle.manager.specs.Record.{slots, tasks, noRegion, emptiedRegion, noInformation, unspent, regionOf, slotOf, idOf, withRegion}
 use Rattle.manager.specs.Result.{Result, Check, check, checked, refused, done, replied}
 use Rattle.manager.specs.Lists.{any, indexOf}
 use Rattle.manager.specs.Map.{largestOf, sumOf}
@@ -36,18 +36,29 @@ overlaps d a = any (overlap a) (areas d)
 abbrev pub pastMemory : List ℕ → ℕ → ℕ → Bool
 pastMemory m start bytes = ltb (4 * length m) (start + bytes)
 
--- Create takes the lowest empty slot, ident the lowest with the name
+-- Create takes the lowest empty slot that isn't spent, ident the lowest with the name
+abbrev pub unspentRegion : Manager → ℕ
+unspentRegion d = indexOf (λ r. unspent (r .name) (r .generation)) (d .regions)
+
 abbrev pub regionNamed : Manager → ℕ → ℕ
 regionNamed d name = indexOf (λ r. eqb (r .name) name) (d .regions)
 
+-- the generation of a slot, and the id of what is in it
+abbrev pub regionGeneration : Manager → ℕ → ℕ
+regionGeneration d i = getD (d .regions) i noRegion .generation
+
+abbrev pub regionId : Manager → ℕ → ℕ
+regionId d i = idOf i (regionGeneration d i)
+
 -- create region: 3, start 9, past memory 9, page 8, area 8, overlap 9, 5
-abbrev pub newRegion : ℕ → ℕ → ℕ → ℕ → Order → Region
-newRegion name start bytes page order = record { name = name; start = start; length = bytes; page = roundUp page 8; order = order }
+abbrev pub newRegion : ℕ → ℕ → ℕ → ℕ → ℕ → Order → Region
+newRegion generation name start bytes page order =
+    record { name = name; generation = generation; start = start; length = bytes; page = roundUp page 8; order = order }
 
 unfoldable pub createRegion : List ℕ → Manager → ℕ → ℕ → ℕ → ℕ → Order → Result
 createRegion m d name start bytes page order =
-    let r = newRegion name start bytes page order in
-    let slot = regionNamed d 0 in
+    let slot = unspentRegion d in
+    let r = newRegion (regionGeneration d slot) name start bytes page order in
     answered (sound m d) m d
     (check (eqb name 0) InvalidName
     ∷ check (eqb start 0) InvalidAddress
@@ -58,7 +69,7 @@ createRegion m d name start bytes page order =
     ∷ check (overlaps d (record { start = start; length = bytes })) InvalidAddress
     ∷ check (leb slots slot) TooMany
     ∷ [])
-    (done (opened m r) (withRegion d slot r) (idOf slot))
+    (done (opened m r) (withRegion d slot r) (regionId d slot))
 
 -- ident: 3
 unfoldable pub identRegion : List ℕ → Manager → ℕ → Result
@@ -67,9 +78,9 @@ identRegion m d name =
     (check (eqb name 0) InvalidName
     ∷ check (leb slots (regionNamed d name)) InvalidName
     ∷ [])
-    (done m d (idOf (regionNamed d name)))
+    (done m d (regionId d (regionNamed d name)))
 
--- delete: 4, 12; it changes no word of memory
+-- delete: 4, 12; it changes no word of memory, and the generation rises by one
 unfoldable pub deleteRegion : List ℕ → Manager → ℕ → Result
 deleteRegion m d id =
     let r = regionOf d id in
@@ -77,7 +88,7 @@ deleteRegion m d id =
     (check (dead r) InvalidId
     ∷ check (anyHeld m r) ResourceInUse
     ∷ [])
-    (done m (withRegion d (slotOf id) noRegion) 0)
+    (done m (withRegion d (slotOf id) (emptiedRegion (r .generation + 1))) 0)
 
 -- get: size 0 (8), 4, size too large 8; if waiting is allowed 10, 19, 14; then the search
 abbrev pub waitChecks : Manager → Wait → ℕ → ℕ → List Check

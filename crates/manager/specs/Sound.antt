@@ -1,11 +1,11 @@
 -- Rules 10 (the paper's sound books): what a sound manager record over a memory is, clause by clause. Assumes nothing.
-use Prim.Native.Nat.{ℕ, _+_, _*_, _%_, _≤_, _<_}
+use Prim.Native.Nat.{ℕ, _+_, _-_, _*_, _%_, _≤_, _<_}
 use mathlib.Core.Path.{_≡_}
 use mathlib.Core.Bool.{Bool, true, false, cond, not, _&&_, _||_}
 use mathlib.Core.List.{List}
 use lib.ListN.{length}
 use lib.Dec.{eqb, leb}
-use Rattle.manager.specs.Record.{tasks, mostWords, regionOf}
+use Rattle.manager.specs.Record.{tasks, mostWords, generations, regionOf}
 use Rattle.manager.specs.Lists.{every, pairwise, adjacent}
 use Rattle.manager.specs.Map.{soundMap}
 use Rattle.manager.specs.Region.{dead, kind, pagesOf, mapWords, anyHeld, pagesAsked, servable, areas, overlap}
@@ -38,7 +38,7 @@ abbrev pub isFifo : Order → Bool
 isFifo Fifo = true
 isFifo Priority = false
 
--- "empty slots zero"
+-- "empty slots zero", but for the generation
 abbrev pub emptyRegion : Region → Bool
 emptyRegion r = eqb (r .start) 0 && (eqb (r .length) 0 && (eqb (r .page) 0 && isFifo (r .order)))
 
@@ -56,12 +56,16 @@ unfoldable pub livePartition : List ℕ → Partition → Bool
 livePartition m p =
     inside m (p .start) (p .length) && (eqb (p .start % 4) 0 && (soundSize (p .length) (p .size) && soundChain m p))
 
+-- a live slot's generation is at most 65,535, an empty one's at most 65,536
+abbrev pub soundGeneration : ℕ → ℕ → Bool
+soundGeneration name generation = leb generation (cond (eqb name 0) generations (generations - 1))
+
 -- "live names not 0": a slot without a name is empty
 unfoldable pub soundRegion : List ℕ → Region → Bool
-soundRegion m r = cond (dead r) (emptyRegion r) (liveRegion m r)
+soundRegion m r = soundGeneration (r .name) (r .generation) && cond (dead r) (emptyRegion r) (liveRegion m r)
 
 unfoldable pub soundPartition : List ℕ → Partition → Bool
-soundPartition m p = cond (deadPartition p) (emptyPartition p) (livePartition m p)
+soundPartition m p = soundGeneration (p .name) (p .generation) && cond (deadPartition p) (emptyPartition p) (livePartition m p)
 
 -- "no two overlapping (the whole asked area counts)"
 abbrev pub soundAreas : Manager → Bool

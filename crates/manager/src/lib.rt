@@ -1,7 +1,7 @@
 // The types of the memory manager. What each directive does is said in specs/; this crate makes only the fresh record and the
 // numbers of the answers.
 ghost use mathlib.Core.Path.{_≡_};
-ghost use Rattle.manager.specs.Record.{fresh};
+ghost use Rattle.manager.specs.Record.{fresh, emptiedRegion, emptiedPartition};
 ghost use Rattle.manager.specs.Status.{numberOf};
 
 // The discipline of a region's wait queue: by arrival, or by priority.
@@ -34,18 +34,20 @@ pub enum Status {
     Waiting,
 }
 
-// A region: its area as asked for, its page size, rounded, and its queue's discipline. An empty slot has name 0.
+// A region: its slot's generation, its area as asked for, its page size, rounded, and its queue's discipline. An empty slot has name 0.
 pub struct Region {
     pub name: u32,
+    pub generation: u32,
     pub start: u32,
     pub length: u32,
     pub page: u32,
     pub order: Order,
 }
 
-// A partition: its area as asked for, its buffer size, and the ends and the length of the chain of free buffers.
+// A partition: its slot's generation, its area as asked for, its buffer size, and the ends and the length of the chain of free buffers.
 pub struct Partition {
     pub name: u32,
+    pub generation: u32,
     pub start: u32,
     pub length: u32,
     pub size: u32,
@@ -169,32 +171,55 @@ pub enum Call {
     Tick,
 }
 
-impl Manager {
-    // Slots for each kind of object, and tasks that may wait.
-    pub const SLOTS: usize = 8;
-
-    pub const TASKS: usize = 16;
-
-    // The manager with no object and no waiter.
-    pub fn new() -> Manager
-        ensures { λ r. ⌜ r ≡ fresh ⌝ }
+impl Region {
+    // An empty slot of a generation.
+    pub fn emptied(generation: u32) -> Region
+        ensures { λ r. ⌜ r ≡ emptiedRegion generation ⌝ }
     {
-        let region = Region {
+        Region {
             name: 0,
+            generation,
             start: 0,
             length: 0,
             page: 0,
             order: Order::Fifo,
-        };
-        let partition = Partition {
+        }
+    }
+}
+
+impl Partition {
+    // An empty slot of a generation.
+    pub fn emptied(generation: u32) -> Partition
+        ensures { λ r. ⌜ r ≡ emptiedPartition generation ⌝ }
+    {
+        Partition {
             name: 0,
+            generation,
             start: 0,
             length: 0,
             size: 0,
             front: 0,
             rear: 0,
             free: 0,
-        };
+        }
+    }
+}
+
+impl Manager {
+    // Slots for each kind of object, and tasks that may wait.
+    pub const SLOTS: usize = 8;
+
+    pub const TASKS: usize = 16;
+
+    // Generations of a slot: one of this generation is spent.
+    pub const GENERATIONS: u32 = 65536;
+
+    // The manager with no object and no waiter.
+    pub fn new() -> Manager
+        ensures { λ r. ⌜ r ≡ fresh ⌝ }
+    {
+        let region = Region::emptied(0);
+        let partition = Partition::emptied(0);
         let waiter = Waiter {
             task: 0,
             region: 0,

@@ -1,7 +1,6 @@
 // Finding objects and areas in the manager record. Every function is total, and nothing but the record is read.
 use manager::Area;
 use manager::Manager;
-use manager::Order;
 use manager::Partition;
 use manager::Region;
 ghost use mathlib.Core.Path.{_≡_};
@@ -9,22 +8,56 @@ ghost use mathlib.Core.Bool.{not, cond};
 ghost use Prim.Native.Nat.{_+_, _*_, _<_, _≤_};
 ghost use lib.Dec.{ltb};
 ghost use lib.ListN.{drop, take};
-ghost use Rattle.manager.specs.Record.{slots, slotOf, regionOf, partitionOf, withRegion, withPartition};
+ghost use Rattle.manager.specs.Record.{slots, slotOf, generationOf, idOf, hasId, unspent, regionOf, partitionOf, withRegion, withPartition};
 ghost use Rattle.manager.specs.Lists.{every};
 ghost use Rattle.manager.specs.Region.{regionAreas, areas, overlap};
-ghost use Rattle.manager.specs.Regions.{overlaps, regionNamed};
-ghost use Rattle.manager.specs.Partitions.{partitionNamed};
+ghost use Rattle.manager.specs.Regions.{overlaps, unspentRegion, regionNamed};
+ghost use Rattle.manager.specs.Partitions.{unspentPartition, partitionNamed};
 ghost use Rattle.manager.specs.Sound.{soundAreas};
 ghost use Rattle.objects.specs.Areas.{areaPlaces, nowhere, Gathers};
 
-// The place of an id in its array; past the end for id 0.
+// An id is slot + 16 x generation: its low part is the slot's number, from 1 on. Nothing but the three functions below knows this.
+const NUMBERS: u32 = 16;
+
+// The place of an id's slot in its array: one below the slot's number, and past the end for number 0.
 pub fn slot_of(id: u32) -> usize
     ensures { λ r. ⌜ r ≡ slotOf id ⌝ }
 {
-    if id == 0 {
-        return Manager::SLOTS;
+    ((id % NUMBERS + (NUMBERS - 1)) % NUMBERS) as usize
+}
+
+// The generation of an id.
+fn generation_of(id: u32) -> u32
+    ensures { λ r. ⌜ r ≡ generationOf id ⌝ }
+{
+    id / NUMBERS
+}
+
+// The id of what is in a slot of a generation.
+pub fn id_of(slot: u32, generation: u32) -> u64
+    ensures { λ r. ⌜ r ≡ idOf slot generation ⌝ }
+{
+    slot as u64 + 1 + NUMBERS as u64 * generation as u64
+}
+
+// Whether what is in an id's slot has that id: it has a name, and the id's generation.
+pub fn has_id(name: u32, generation: u32, id: u32) -> bool
+    ensures { λ r. ⌜ r ≡ hasId name generation id ⌝ }
+{
+    if name == 0 {
+        return false;
     }
-    (id - 1) as usize
+    generation == generation_of(id)
+}
+
+// Whether create may take a slot: it is empty, and not spent.
+fn unspent(name: u32, generation: u32) -> bool
+    ensures { λ r. ⌜ r ≡ unspent name generation ⌝ }
+{
+    if name != 0 {
+        return false;
+    }
+    generation < Manager::GENERATIONS
 }
 
 // The region of an id; an empty slot where it has none.
@@ -32,16 +65,14 @@ pub fn region_of(d: Manager, id: u32) -> Region
     ensures { λ r. ⌜ r ≡ regionOf d id ⌝ }
 {
     let i = slot_of(id);
-    if i < Manager::SLOTS {
-        return d.regions[i];
+    if Manager::SLOTS <= i {
+        return Region::emptied(0);
     }
-    Region {
-        name: 0,
-        start: 0,
-        length: 0,
-        page: 0,
-        order: Order::Fifo,
+    let x = d.regions[i];
+    if has_id(x.name, x.generation, id) {
+        return x;
     }
+    Region::emptied(0)
 }
 
 // The partition of an id; an empty slot where it has none.
@@ -49,18 +80,44 @@ pub fn partition_of(d: Manager, id: u32) -> Partition
     ensures { λ r. ⌜ r ≡ partitionOf d id ⌝ }
 {
     let i = slot_of(id);
-    if i < Manager::SLOTS {
-        return d.partitions[i];
+    if Manager::SLOTS <= i {
+        return Partition::emptied(0);
     }
-    Partition {
-        name: 0,
-        start: 0,
-        length: 0,
-        size: 0,
-        front: 0,
-        rear: 0,
-        free: 0,
+    let x = d.partitions[i];
+    if has_id(x.name, x.generation, id) {
+        return x;
     }
+    Partition::emptied(0)
+}
+
+// The lowest slot that a new region may take; the number of slots where there is none.
+pub fn unspent_region(d: Manager) -> usize
+    ensures { λ r. ⌜ r ≡ unspentRegion d ⌝ }
+{
+    let mut i: usize = 0;
+    while i < Manager::SLOTS {
+        let x = d.regions[i];
+        if unspent(x.name, x.generation) {
+            return i;
+        }
+        i = i + 1;
+    }
+    i
+}
+
+// The lowest slot that a new partition may take; the number of slots where there is none.
+pub fn unspent_partition(d: Manager) -> usize
+    ensures { λ r. ⌜ r ≡ unspentPartition d ⌝ }
+{
+    let mut k: usize = 0;
+    while k < Manager::SLOTS {
+        let x = d.partitions[k];
+        if unspent(x.name, x.generation) {
+            return k;
+        }
+        k = k + 1;
+    }
+    k
 }
 
 // The slot of the first region with a name; the number of slots where none has it.

@@ -18,8 +18,8 @@ use Rattle.manager.specs.declared.Partition.{Partition}
 use Rattle.manager.specs.declared.Waiter.{Waiter}
 use Rattle.manager.specs.declared.Order.{Order}
 use Rattle.manager.specs.declared.Order.the-variants.{Fifo, Priority}
-use Rattle.packing.specs.Packing.{orderWord, orderAt, regionWords, partitionWords, waiterWords, allWords, allAt, choices, regionAt, partitionAt, waiterAt, partitionsAt, waitersAt, recordWords, pack, unpack, wellFormed}
-use Rattle.packing.proofs.Laws.{all-length, five-words}
+use Rattle.packing.specs.Packing.{regionSize, partitionSize, waiterSize, orderWord, orderAt, regionWords, partitionWords, waiterWords, allWords, allAt, choices, regionAt, partitionAt, waiterAt, partitionsAt, waitersAt, recordWords, pack, unpack, wellFormed}
+use Rattle.packing.proofs.Laws.{all-length, region-size}
 
 -- A CHOICE
 order-of-word : (o : Order) → orderAt (orderWord o) ≡ o
@@ -61,12 +61,12 @@ module _ (pre post : List ℕ) where
   unfolding regionAt regionWords
   region-back r =
       let ws = regionWords r ++ post in
-      rw (here (r .name) _, at-place ws 1, at-place ws 2, at-place ws 3, at-place ws 4, order-of-word (r .order))
+      rw (here (r .name) _, at-place ws 1, at-place ws 2, at-place ws 3, at-place ws 4, at-place ws 5, order-of-word (r .order))
 
   partition-back : (p : Partition) → partitionAt (pre ++ (partitionWords p ++ post)) (length pre) ≡ p
   partition-back p =
       let ws = partitionWords p ++ post in
-      rw (here (p .name) _, at-place ws 1, at-place ws 2, at-place ws 3, at-place ws 4, at-place ws 5, at-place ws 6)
+      rw (here (p .name) _, at-place ws 1, at-place ws 2, at-place ws 3, at-place ws 4, at-place ws 5, at-place ws 6, at-place ws 7)
 
   waiter-back : (q : Waiter) → waiterAt (pre ++ (waiterWords q ++ post)) (length pre) ≡ q
   waiter-back q = let ws = waiterWords q ++ post in rw (here (q .task) _, at-place ws 1, at-place ws 2, at-place ws 3, at-place ws 4)
@@ -77,13 +77,13 @@ unfolding choices allWords regionWords
 choices-back [] n i pre post e p = rw (sym e)
 choices-back (x ∷ l) zero i pre post e p = absurd (omega arith)
 choices-back (x ∷ l) (suc n) i pre post e p =
-    let next : length (pre ++ regionWords x) ≡ i + 5 = omega (arith, length-append pre (regionWords x), five-words x) in
+    let next : length (pre ++ regionWords x) ≡ i + regionSize = omega (arith, length-append pre (regionWords x), region-size x) in
     let shift : pre ++ (regionWords x ++ (allWords regionWords l ++ post)) ≡ (pre ++ regionWords x) ++ (allWords regionWords l ++ post)
     = sym (append-assoc pre (regionWords x) (allWords regionWords l ++ post)) in
-    let word : getD (pre ++ (regionWords x ++ (allWords regionWords l ++ post))) (i + 4) 0 ≡ orderWord (x .order)
-    = rw (← p) (at-place pre post (regionWords x ++ (allWords regionWords l ++ post)) 4) in
-    let rest : choices n (pre ++ (regionWords x ++ (allWords regionWords l ++ post))) (i + 5) ≡ true
-    = rw shift (choices-back l n (i + 5) (pre ++ regionWords x) post (omega arith) next) in
+    let word : getD (pre ++ (regionWords x ++ (allWords regionWords l ++ post))) (i + 5) 0 ≡ orderWord (x .order)
+    = rw (← p) (at-place pre post (regionWords x ++ (allWords regionWords l ++ post)) 5) in
+    let rest : choices n (pre ++ (regionWords x ++ (allWords regionWords l ++ post))) (i + regionSize) ≡ true
+    = rw shift (choices-back l n (i + regionSize) (pre ++ regionWords x) post (omega arith) next) in
     rw (word, le-leb _ _ (choice-word (x .order))) rest
 
 module _ (d : Manager) (h₁ : length (d .regions) ≡ slots) (h₂ : length (d .partitions) ≡ slots) (h₃ : length (d .waiters) ≡ tasks) where
@@ -98,15 +98,15 @@ module _ (d : Manager) (h₁ : length (d .regions) ≡ slots) (h₂ : length (d 
 
   so-many-regions : length rs ≡ partitionsAt
   unfolding rs
-  so-many-regions = all-length regionWords 5 slots five-words (d .regions) h₁
+  so-many-regions = all-length regionWords regionSize slots region-size (d .regions) h₁
 
-  so-many-partitions : length ps ≡ (7 * slots)
+  so-many-partitions : length ps ≡ (partitionSize * slots)
   unfolding ps
-  so-many-partitions = all-length partitionWords 7 slots (λ p. refl) (d .partitions) h₂
+  so-many-partitions = all-length partitionWords partitionSize slots (λ p. refl) (d .partitions) h₂
 
-  so-many-waiters : length qs ≡ (5 * tasks)
+  so-many-waiters : length qs ≡ (waiterSize * tasks)
   unfolding qs
-  so-many-waiters = all-length waiterWords 5 tasks (λ q. refl) (d .waiters) h₃
+  so-many-waiters = all-length waiterWords waiterSize tasks (λ q. refl) (d .waiters) h₃
 
   pub pack-length : length (pack d) ≡ recordWords
   unfolding pack rs ps qs
@@ -121,14 +121,14 @@ module _ (d : Manager) (h₁ : length (d .regions) ≡ slots) (h₂ : length (d 
   pub unpack-pack : unpack (pack d) ≡ d
   unfolding pack unpack rs ps qs
   unpack-pack =
-      let e₁ : allAt regionAt 5 slots (rs ++ (ps ++ qs)) 0 ≡ d .regions
-      = all-back regionWords regionAt 5 five-words (λ x pre post. region-back pre post x) (d .regions) slots 0 [] (ps ++ qs) h₁ refl in
-      let e₂ : allAt partitionAt 7 slots (rs ++ (ps ++ qs)) partitionsAt ≡ d .partitions
-      = all-back partitionWords partitionAt 7 (λ p. refl) (λ x pre post. partition-back pre post x) (d .partitions) slots partitionsAt rs qs h₂ so-many-regions in
+      let e₁ : allAt regionAt regionSize slots (rs ++ (ps ++ qs)) 0 ≡ d .regions
+      = all-back regionWords regionAt regionSize region-size (λ x pre post. region-back pre post x) (d .regions) slots 0 [] (ps ++ qs) h₁ refl in
+      let e₂ : allAt partitionAt partitionSize slots (rs ++ (ps ++ qs)) partitionsAt ≡ d .partitions
+      = all-back partitionWords partitionAt partitionSize (λ p. refl) (λ x pre post. partition-back pre post x) (d .partitions) slots partitionsAt rs qs h₂ so-many-regions in
       let last : (rs ++ ps) ++ (qs ++ []) ≡ rs ++ (ps ++ qs) = append-assoc rs ps (qs ++ []) ∙ rw (append-nil qs) in
       let before : length (rs ++ ps) ≡ waitersAt = omega (arith, length-append rs ps, so-many-regions, so-many-partitions) in
-      let e₃ : allAt waiterAt 5 tasks (rs ++ (ps ++ qs)) waitersAt ≡ d .waiters
-      = rw (← last) (all-back waiterWords waiterAt 5 (λ p. refl) (λ x pre post. waiter-back pre post x) (d .waiters) tasks waitersAt (rs ++ ps) [] h₃ before) in
+      let e₃ : allAt waiterAt waiterSize tasks (rs ++ (ps ++ qs)) waitersAt ≡ d .waiters
+      = rw (← last) (all-back waiterWords waiterAt waiterSize (λ p. refl) (λ x pre post. waiter-back pre post x) (d .waiters) tasks waitersAt (rs ++ ps) [] h₃ before) in
       rw (e₁, e₂, e₃)
 
 -- PACKING WHAT WAS READ
@@ -145,30 +145,41 @@ module _ (ws : List ℕ) where
       let e₄ : i + 3 + 1 ≡ i + 4 = omega arith in
       rw (words-from i 4 h, words-from (i + 1) 3 (omega arith), e₂, words-from (i + 2) 2 (omega arith), e₃, words-from (i + 3) 1 (omega arith), e₄, words-from (i + 4) 0 (omega arith))
 
-  seven-from : (i : ℕ) → i + 7 ≤ length ws
-      → take 7 (drop i ws) ≡ getD ws i 0 ∷ getD ws (i + 1) 0 ∷ getD ws (i + 2) 0 ∷ getD ws (i + 3) 0 ∷ getD ws (i + 4) 0 ∷ getD ws (i + 5) 0 ∷ getD ws (i + 6) 0 ∷ []
-  seven-from i h =
+  six-from : (i : ℕ) → i + 6 ≤ length ws
+      → take 6 (drop i ws) ≡ getD ws i 0 ∷ getD ws (i + 1) 0 ∷ getD ws (i + 2) 0 ∷ getD ws (i + 3) 0 ∷ getD ws (i + 4) 0 ∷ getD ws (i + 5) 0 ∷ []
+  six-from i h =
+      let e₁ : i + 1 + 1 ≡ i + 2 = omega arith in
+      let e₂ : i + 1 + 2 ≡ i + 3 = omega arith in
+      let e₃ : i + 1 + 3 ≡ i + 4 = omega arith in
+      let e₄ : i + 1 + 4 ≡ i + 5 = omega arith in
+      rw (words-from i 5 h, five-from (i + 1) (omega arith), e₁, e₂, e₃, e₄)
+
+  eight-from : (i : ℕ) → i + 8 ≤ length ws
+      → take 8 (drop i ws)
+      ≡ getD ws i 0 ∷ getD ws (i + 1) 0 ∷ getD ws (i + 2) 0 ∷ getD ws (i + 3) 0 ∷ getD ws (i + 4) 0 ∷ getD ws (i + 5) 0 ∷ getD ws (i + 6) 0 ∷ getD ws (i + 7) 0 ∷ []
+  eight-from i h =
+      let e₁ : i + 1 + 1 ≡ i + 2 = omega arith in
       let e₂ : i + 2 + 1 ≡ i + 3 = omega arith in
       let e₃ : i + 2 + 2 ≡ i + 4 = omega arith in
       let e₄ : i + 2 + 3 ≡ i + 5 = omega arith in
       let e₅ : i + 2 + 4 ≡ i + 6 = omega arith in
-      let e₁ : i + 1 + 1 ≡ i + 2 = omega arith in
-      rw (words-from i 6 h, words-from (i + 1) 5 (omega arith), e₁, five-from (i + 2) (omega arith), e₂, e₃, e₄, e₅)
+      let e₆ : i + 2 + 5 ≡ i + 7 = omega arith in
+      rw (words-from i 7 h, words-from (i + 1) 6 (omega arith), e₁, six-from (i + 2) (omega arith), e₂, e₃, e₄, e₅, e₆)
 
-  choice-at : (n i k : ℕ) → choices n ws i ≡ true → k < n → getD ws (i + 5 * k + 4) 0 ≤ 1
+  choice-at : (n i k : ℕ) → choices n ws i ≡ true → k < n → getD ws (i + regionSize * k + 5) 0 ≤ 1
   unfolding choices
   choice-at zero i k e h = absurd (omega arith)
-  choice-at (suc n) i zero e h = let at : i + 5 * 0 ≡ i = omega arith in rw at (leb-true _ _ (and-first (leb (getD ws (i + 4) 0) 1) (choices n ws (i + 5)) e))
-  choice-at (suc n) i (suc k) e h = let at : i + 5 * suc k ≡ i + 5 + 5 * k = omega arith in rw at (choice-at n (i + 5) k (and-second (leb (getD ws (i + 4) 0) 1) _ e) (omega arith))
+  choice-at (suc n) i zero e h = let at : i + regionSize * 0 ≡ i = omega arith in rw at (leb-true _ _ (and-first (leb (getD ws (i + 5) 0) 1) (choices n ws (i + regionSize)) e))
+  choice-at (suc n) i (suc k) e h = let at : i + regionSize * suc k ≡ i + regionSize + regionSize * k = omega arith in rw at (choice-at n (i + regionSize) k (and-second (leb (getD ws (i + 5) 0) 1) _ e) (omega arith))
 
-  region-again : (i : ℕ) → i + 5 ≤ length ws → getD ws (i + 4) 0 ≤ 1 → regionWords (regionAt ws i) ≡ take 5 (drop i ws)
+  region-again : (i : ℕ) → i + regionSize ≤ length ws → getD ws (i + 5) 0 ≤ 1 → regionWords (regionAt ws i) ≡ take regionSize (drop i ws)
   unfolding regionAt regionWords
-  region-again i h c = rw (five-from i h, word-of-order _ c)
+  region-again i h c = rw (six-from i h, word-of-order _ c)
 
-  partition-again : (i : ℕ) → i + 7 ≤ length ws → partitionWords (partitionAt ws i) ≡ take 7 (drop i ws)
-  partition-again i h = sym (seven-from i h)
+  partition-again : (i : ℕ) → i + partitionSize ≤ length ws → partitionWords (partitionAt ws i) ≡ take partitionSize (drop i ws)
+  partition-again i h = sym (eight-from i h)
 
-  waiter-again : (i : ℕ) → i + 5 ≤ length ws → waiterWords (waiterAt ws i) ≡ take 5 (drop i ws)
+  waiter-again : (i : ℕ) → i + waiterSize ≤ length ws → waiterWords (waiterAt ws i) ≡ take waiterSize (drop i ws)
   waiter-again i h = sym (five-from i h)
 
   module _ {A : Type 0} (f : A → List ℕ) (g : List ℕ → ℕ → A) (size : ℕ) where
@@ -190,16 +201,16 @@ module _ (ws : List ℕ) where
   pack-unpack w =
       let l : length ws ≡ recordWords = eqb-true (length ws) recordWords (and-first (eqb (length ws) recordWords) (choices slots ws 0) w) in
       let c : choices slots ws 0 ≡ true = and-second (eqb (length ws) recordWords) (choices slots ws 0) w in
-      let e₁ : allWords regionWords (allAt regionAt 5 slots ws 0) ≡ take partitionsAt ws
-      = all-again regionWords regionAt 5 slots 0 (λ k h. region-again (0 + 5 * k) (omega arith) (choice-at slots 0 k c h)) in
-      let e₂ : allWords partitionWords (allAt partitionAt 7 slots ws partitionsAt) ≡ take (7 * slots) (drop partitionsAt ws)
-      = all-again partitionWords partitionAt 7 slots partitionsAt (λ k h. partition-again (partitionsAt + 7 * k) (omega arith)) in
-      let e₃ : allWords waiterWords (allAt waiterAt 5 tasks ws waitersAt) ≡ take (5 * tasks) (drop waitersAt ws)
-      = all-again waiterWords waiterAt 5 tasks waitersAt (λ k h. waiter-again (waitersAt + 5 * k) (omega arith)) in
+      let e₁ : allWords regionWords (allAt regionAt regionSize slots ws 0) ≡ take partitionsAt ws
+      = all-again regionWords regionAt regionSize slots 0 (λ k h. region-again (0 + regionSize * k) (omega arith) (choice-at slots 0 k c h)) in
+      let e₂ : allWords partitionWords (allAt partitionAt partitionSize slots ws partitionsAt) ≡ take (partitionSize * slots) (drop partitionsAt ws)
+      = all-again partitionWords partitionAt partitionSize slots partitionsAt (λ k h. partition-again (partitionsAt + partitionSize * k) (omega arith)) in
+      let e₃ : allWords waiterWords (allAt waiterAt waiterSize tasks ws waitersAt) ≡ take (waiterSize * tasks) (drop waitersAt ws)
+      = all-again waiterWords waiterAt waiterSize tasks waitersAt (λ k h. waiter-again (waitersAt + waiterSize * k) (omega arith)) in
       rw (e₁, e₂, e₃) (joined l)
     where
-      joined : length ws ≡ recordWords → take partitionsAt ws ++ (take (7 * slots) (drop partitionsAt ws) ++ take (5 * tasks) (drop waitersAt ws)) ≡ ws
+      joined : length ws ≡ recordWords → take partitionsAt ws ++ (take (partitionSize * slots) (drop partitionsAt ws) ++ take (waiterSize * tasks) (drop waitersAt ws)) ≡ ws
       joined l =
-          let a : take waitersAt ws ≡ take partitionsAt ws ++ take (7 * slots) (drop partitionsAt ws) = take-add partitionsAt (7 * slots) ws in
-          let b : take recordWords ws ≡ take waitersAt ws ++ take (5 * tasks) (drop waitersAt ws) = take-add waitersAt (5 * tasks) ws in
-          sym (append-assoc (take partitionsAt ws) (take (7 * slots) (drop partitionsAt ws)) (take (5 * tasks) (drop waitersAt ws))) ∙ rw (← a, ← b) (take-all recordWords ws (omega arith))
+          let a : take waitersAt ws ≡ take partitionsAt ws ++ take (partitionSize * slots) (drop partitionsAt ws) = take-add partitionsAt (partitionSize * slots) ws in
+          let b : take recordWords ws ≡ take waitersAt ws ++ take (waiterSize * tasks) (drop waitersAt ws) = take-add waitersAt (waiterSize * tasks) ws in
+          sym (append-assoc (take partitionsAt ws) (take (partitionSize * slots) (drop partitionsAt ws)) (take (waiterSize * tasks) (drop waitersAt ws))) ∙ rw (← a, ← b) (take-all recordWords ws (omega arith))

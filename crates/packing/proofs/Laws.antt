@@ -18,7 +18,7 @@ use Rattle.manager.specs.declared.Partition.{Partition}
 use Rattle.manager.specs.declared.Waiter.{Waiter}
 use Rattle.manager.specs.declared.Order.{Order}
 use Rattle.manager.specs.declared.Order.the-variants.{Fifo, Priority}
-use Rattle.packing.specs.Packing.{orderWord, orderAt, regionWords, partitionWords, waiterWords, allWords, allAt, choices, regionAt, partitionAt, waiterAt, partitionsAt, waitersAt, recordWords, pack, packed, unpack, unpacked}
+use Rattle.packing.specs.Packing.{regionSize, partitionSize, waiterSize, orderWord, orderAt, regionWords, partitionWords, waiterWords, allWords, allAt, choices, regionAt, partitionAt, waiterAt, partitionsAt, waitersAt, recordWords, pack, packed, unpack, unpacked}
 
 -- the first part starts at 0
 pub at-first : (n : ℕ) → n ≡ 0 + n
@@ -61,34 +61,34 @@ module _ (w : ℕ) where
   second-choice h = rw (ne-eqb w 0 h)
 
 -- a region read, its choice by itself
-pub region-read : (ws : List ℕ) (at : ℕ) (o : Order) → o ≡ orderAt (getD ws (at + 4) 0)
-    → record { name = getD ws at 0; start = getD ws (at + 1) 0; length = getD ws (at + 2) 0; page = getD ws (at + 3) 0; order = o } ≡ regionAt ws at
+pub region-read : (ws : List ℕ) (at : ℕ) (o : Order) → o ≡ orderAt (getD ws (at + 5) 0)
+    → record { name = getD ws at 0; generation = getD ws (at + 1) 0; start = getD ws (at + 2) 0; length = getD ws (at + 3) 0; page = getD ws (at + 4) 0; order = o } ≡ regionAt ws at
 unfolding regionAt
 region-read ws at o e = rw e
 
 -- choices looked at: those of the regions up to k
 pub record Choosing (n : ℕ) (ws : List ℕ) (k : ℕ) : Type 0 where
   pub within : k ≤ n
-  pub rest : choices (n - k) ws (5 * k) ≡ choices n ws 0
+  pub rest : choices (n - k) ws (regionSize * k) ≡ choices n ws 0
 
 module _ (n : ℕ) (ws : List ℕ) where
   pub choose-start : Choosing n ws 0
   choose-start = let a : n - 0 ≡ n = omega arith in record { within = omega arith; rest = rw a }
 
-  module _ (k at : ℕ) (v : Choosing n ws k) (h : k < n) (e : at ≡ 5 * k) where
+  module _ (k at : ℕ) (v : Choosing n ws k) (h : k < n) (e : at ≡ regionSize * k) where
     left : n - k ≡ suc (n - (k + 1))
     left = omega arith
 
-    pub choose-next : getD ws (at + 4) 0 ≤ 1 → Choosing n ws (k + 1)
+    pub choose-next : getD ws (at + 5) 0 ≤ 1 → Choosing n ws (k + 1)
     unfolding choices
     choose-next c =
-        let next : 5 * (k + 1) ≡ 5 * k + 5 = omega arith in
-        let here : getD ws (5 * k + 4) 0 ≤ 1 = rw (← e) c in
+        let next : regionSize * (k + 1) ≡ regionSize * k + regionSize = omega arith in
+        let here : getD ws (regionSize * k + 5) 0 ≤ 1 = rw (← e) c in
         record { within = omega arith; rest = rw next (rw (left, le-leb _ _ here) at (v .rest)) }
 
-    pub choose-none : 1 < getD ws (at + 4) 0 → false ≡ choices n ws 0
+    pub choose-none : 1 < getD ws (at + 5) 0 → false ≡ choices n ws 0
     unfolding choices
-    choose-none c = let here : 1 < getD ws (5 * k + 4) 0 = rw (← e) c in rw (left, lt-leb _ _ here) at (v .rest)
+    choose-none c = let here : 1 < getD ws (regionSize * k + 5) 0 = rw (← e) c in rw (left, lt-leb _ _ here) at (v .rest)
 
   pub choose-end : (k : ℕ) → Choosing n ws k → n ≤ k → true ≡ choices n ws 0
   unfolding choices
@@ -155,7 +155,10 @@ module _ {A : Type 0} (f : A → List ℕ) (size n base : ℕ) (l : List A) (ws�
 
 -- the words of one element, stored one by one
 module _ (ws : List ℕ) (at a b c d e : ℕ) where
-  store-five : set (set (set (set (set ws at a) (at + 1) b) (at + 2) c) (at + 3) d) (at + 4) e ≡ sets ws at (a ∷ b ∷ c ∷ d ∷ e ∷ [])
+  abbrev five : List ℕ
+  five = set (set (set (set (set ws at a) (at + 1) b) (at + 2) c) (at + 3) d) (at + 4) e
+
+  store-five : five ≡ sets ws at (a ∷ b ∷ c ∷ d ∷ e ∷ [])
   store-five =
       let i₁ : at + 1 ≡ suc at = omega arith in
       let i₂ : at + 2 ≡ suc (suc at) = omega arith in
@@ -163,28 +166,28 @@ module _ (ws : List ℕ) (at a b c d e : ℕ) where
       let i₄ : at + 4 ≡ suc (suc (suc (suc at))) = omega arith in
       rw (i₁, i₂, i₃, i₄)
 
-  store-seven : (f g : ℕ)
-      → set (set (set (set (set (set (set ws at a) (at + 1) b) (at + 2) c) (at + 3) d) (at + 4) e) (at + 5) f) (at + 6) g
-      ≡ sets ws at (a ∷ b ∷ c ∷ d ∷ e ∷ f ∷ g ∷ [])
-  store-seven f g =
-      let i₁ : at + 1 ≡ suc at = omega arith in
-      let i₂ : at + 2 ≡ suc (suc at) = omega arith in
-      let i₃ : at + 3 ≡ suc (suc (suc at)) = omega arith in
-      let i₄ : at + 4 ≡ suc (suc (suc (suc at))) = omega arith in
+  store-six : (f : ℕ) → set five (at + 5) f ≡ sets ws at (a ∷ b ∷ c ∷ d ∷ e ∷ f ∷ [])
+  store-six f =
       let i₅ : at + 5 ≡ suc (suc (suc (suc (suc at)))) = omega arith in
+      rw (store-five, i₅)
+
+  store-eight : (f g h : ℕ) → set (set (set five (at + 5) f) (at + 6) g) (at + 7) h ≡ sets ws at (a ∷ b ∷ c ∷ d ∷ e ∷ f ∷ g ∷ h ∷ [])
+  store-eight f g h =
       let i₆ : at + 6 ≡ suc (suc (suc (suc (suc (suc at))))) = omega arith in
-      rw (i₁, i₂, i₃, i₄, i₅, i₆)
+      let i₇ : at + 7 ≡ suc (suc (suc (suc (suc (suc (suc at)))))) = omega arith in
+      rw (store-six f, i₆, i₇)
 
 -- a region put, its choice by itself
 pub region-put : (ws : List ℕ) (at : ℕ) (r : Region) (w : ℕ) → w ≡ orderWord (r .order)
-    → set (set (set (set (set ws at (r .name)) (at + 1) (r .start)) (at + 2) (r .length)) (at + 3) (r .page)) (at + 4) w ≡ sets ws at (regionWords r)
+    → set (set (set (set (set (set ws at (r .name)) (at + 1) (r .generation)) (at + 2) (r .start)) (at + 3) (r .length)) (at + 4) (r .page)) (at + 5) w
+    ≡ sets ws at (regionWords r)
 unfolding regionWords
-region-put ws at r w e = rw (← e) (store-five ws at (r .name) (r .start) (r .length) (r .page) w)
+region-put ws at r w e = rw (← e) (store-six ws at (r .name) (r .generation) (r .start) (r .length) (r .page) w)
 
 pub partition-put : (ws : List ℕ) (at : ℕ) (p : Partition)
-    → set (set (set (set (set (set (set ws at (p .name)) (at + 1) (p .start)) (at + 2) (p .length)) (at + 3) (p .size)) (at + 4) (p .front)) (at + 5) (p .rear)) (at + 6) (p .free)
+    → set (set (set (set (set (set (set (set ws at (p .name)) (at + 1) (p .generation)) (at + 2) (p .start)) (at + 3) (p .length)) (at + 4) (p .size)) (at + 5) (p .front)) (at + 6) (p .rear)) (at + 7) (p .free)
     ≡ sets ws at (partitionWords p)
-partition-put ws at p = store-seven ws at (p .name) (p .start) (p .length) (p .size) (p .front) (p .rear) (p .free)
+partition-put ws at p = store-eight ws at (p .name) (p .generation) (p .start) (p .length) (p .size) (p .front) (p .rear) (p .free)
 
 pub waiter-put : (ws : List ℕ) (at : ℕ) (w : Waiter)
     → set (set (set (set (set ws at (w .task)) (at + 1) (w .region)) (at + 2) (w .size)) (at + 3) (w .priority)) (at + 4) (w .ticks) ≡ sets ws at (waiterWords w)
@@ -194,24 +197,24 @@ waiter-put ws at w = store-five ws at (w .task) (w .region) (w .size) (w .priori
 pub as-many : (ws ws′ vs : List ℕ) (i n : ℕ) → ws′ ≡ sets ws i vs → length ws ≡ n → length ws′ ≡ n
 as-many ws ws′ vs i n e h = ap length e ∙ length-sets ws i vs ∙ h
 
-pub five-words : (r : Region) → length (regionWords r) ≡ 5
+pub region-size : (r : Region) → length (regionWords r) ≡ regionSize
 unfolding regionWords
-five-words r = refl
+region-size r = refl
 
 pub ruleset one-by-one = (region-put, partition-put, waiter-put)
 
-pub ruleset packing = (unmapped, at-first, choose-start, choose-next, choose-none, choose-end, copy-start, copy-next, copy-end, copy-full, put-start, put-next, put-end, five-words)
+pub ruleset packing = (unmapped, at-first, choose-start, choose-next, choose-none, choose-end, copy-start, copy-next, copy-end, copy-full, put-start, put-next, put-end, region-size)
 
 -- an array that starts as the fresh record's
 module _ (ws : List ℕ) (d : Manager) (e : d ≡ fresh) where
-  pub take-regions : Taking regionAt noRegion 5 slots 0 ws (d .regions) 0
-  take-regions = rw e (take-start regionAt noRegion 5 slots 0 ws)
+  pub take-regions : Taking regionAt noRegion regionSize slots 0 ws (d .regions) 0
+  take-regions = rw e (take-start regionAt noRegion regionSize slots 0 ws)
 
-  pub take-partitions : Taking partitionAt noPartition 7 slots partitionsAt ws (d .partitions) 0
-  take-partitions = rw e (take-start partitionAt noPartition 7 slots partitionsAt ws)
+  pub take-partitions : Taking partitionAt noPartition partitionSize slots partitionsAt ws (d .partitions) 0
+  take-partitions = rw e (take-start partitionAt noPartition partitionSize slots partitionsAt ws)
 
-  pub take-waiters : Taking waiterAt noWaiter 5 tasks waitersAt ws (d .waiters) 0
-  take-waiters = rw e (take-start waiterAt noWaiter 5 tasks waitersAt ws)
+  pub take-waiters : Taking waiterAt noWaiter waiterSize tasks waitersAt ws (d .waiters) 0
+  take-waiters = rw e (take-start waiterAt noWaiter waiterSize tasks waitersAt ws)
 
 pub ruleset taking = (unmapped, at-first, take-regions, take-partitions, take-waiters, take-next, take-end)
 
@@ -227,7 +230,7 @@ module _ (ws : List ℕ) (d : Manager) (e : d ≡ fresh) where
 
 -- and those that say one
 pub record-read : (ws : List ℕ) → length ws ≡ recordWords → (b : Bool) → b ≡ choices slots ws 0 → not b ≡ false → (rs : List Region) (ps : List Partition) (qs : List Waiter)
-    → rs ≡ allAt regionAt 5 slots ws 0 → ps ≡ allAt partitionAt 7 slots ws partitionsAt → qs ≡ allAt waiterAt 5 tasks ws waitersAt
+    → rs ≡ allAt regionAt regionSize slots ws 0 → ps ≡ allAt partitionAt partitionSize slots ws partitionsAt → qs ≡ allAt waiterAt waiterSize tasks ws waitersAt
     → record { ok = true; manager = record { regions = rs; partitions = ps; waiters = qs } } ≡ unpacked ws
 unfolding unpack
 record-read ws h b g f rs ps qs e₁ e₂ e₃ = rw (e₁, e₂, e₃, eq-eqb (length ws) recordWords h, ← g, not-false b f)
@@ -255,9 +258,9 @@ module _ (d : Manager) (ws : List ℕ) where
       let rs = allWords regionWords (d .regions) in
       let ps = allWords partitionWords (d .partitions) in
       let qs = allWords waiterWords (d .waiters) in
-      let l₁ : length rs ≡ partitionsAt = all-length regionWords 5 slots five-words (d .regions) h₁ in
-      let l₂ : length ps ≡ (7 * slots) = all-length partitionWords 7 slots (λ p. refl) (d .partitions) h₂ in
-      let l₃ : length qs ≡ (5 * tasks) = all-length waiterWords 5 tasks (λ q. refl) (d .waiters) h₃ in
+      let l₁ : length rs ≡ partitionsAt = all-length regionWords regionSize slots region-size (d .regions) h₁ in
+      let l₂ : length ps ≡ (partitionSize * slots) = all-length partitionWords partitionSize slots (λ p. refl) (d .partitions) h₂ in
+      let l₃ : length qs ≡ (waiterSize * tasks) = all-length waiterWords waiterSize tasks (λ q. refl) (d .waiters) h₃ in
       let l : length (rs ++ (ps ++ qs)) ≡ length ws = omega (arith, length-append rs (ps ++ qs), length-append ps qs) in
       let whole : sets ws 0 (rs ++ (ps ++ qs)) ≡ rs ++ (ps ++ qs) = whole-set (rs ++ (ps ++ qs)) ws l in
       let j₁ : sets ws 0 (rs ++ (ps ++ qs)) ≡ sets ws₁ partitionsAt (ps ++ qs) = rw e₁ (rw l₁ at (sets-append rs (ps ++ qs) ws 0)) in

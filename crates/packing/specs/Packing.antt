@@ -14,15 +14,25 @@ use Rattle.manager.specs.declared.Order.{Order}
 use Rattle.manager.specs.declared.Order.the-variants.{Fifo, Priority}
 use Rattle.packing.specs.declared.Unpacked.{Unpacked}
 
--- how many words, and where the partitions and the waiters start
+-- how many words an element of each kind has
+abbrev pub regionSize : ℕ
+regionSize = 6
+
+abbrev pub partitionSize : ℕ
+partitionSize = 8
+
+abbrev pub waiterSize : ℕ
+waiterSize = 5
+
+-- where the partitions and the waiters start, and how many words a record has
 abbrev pub partitionsAt : ℕ
-partitionsAt = 5 * slots
+partitionsAt = regionSize * slots
 
 abbrev pub waitersAt : ℕ
-waitersAt = partitionsAt + 7 * slots
+waitersAt = partitionsAt + partitionSize * slots
 
 abbrev pub recordWords : ℕ
-recordWords = waitersAt + 5 * tasks
+recordWords = waitersAt + waiterSize * tasks
 
 -- a choice as a word, and back; a word above 1 is no choice
 abbrev pub orderWord : Order → ℕ
@@ -33,10 +43,10 @@ abbrev pub orderAt : ℕ → Order
 orderAt w = cond (eqb w 0) Fifo Priority
 
 unfoldable pub regionWords : Region → List ℕ
-regionWords r = r .name ∷ r .start ∷ r .length ∷ r .page ∷ orderWord (r .order) ∷ []
+regionWords r = r .name ∷ r .generation ∷ r .start ∷ r .length ∷ r .page ∷ orderWord (r .order) ∷ []
 
 abbrev pub partitionWords : Partition → List ℕ
-partitionWords p = p .name ∷ p .start ∷ p .length ∷ p .size ∷ p .front ∷ p .rear ∷ p .free ∷ []
+partitionWords p = p .name ∷ p .generation ∷ p .start ∷ p .length ∷ p .size ∷ p .front ∷ p .rear ∷ p .free ∷ []
 
 abbrev pub waiterWords : Waiter → List ℕ
 waiterWords w = w .task ∷ w .region ∷ w .size ∷ w .priority ∷ w .ticks ∷ []
@@ -57,18 +67,26 @@ pack d = allWords regionWords (d .regions) ++ (allWords partitionWords (d .parti
 
 unfoldable pub regionAt : List ℕ → ℕ → Region
 regionAt ws i =
-    record { name = getD ws i 0; start = getD ws (i + 1) 0; length = getD ws (i + 2) 0; page = getD ws (i + 3) 0; order = orderAt (getD ws (i + 4) 0) }
+    record {
+      name = getD ws i 0;
+      generation = getD ws (i + 1) 0;
+      start = getD ws (i + 2) 0;
+      length = getD ws (i + 3) 0;
+      page = getD ws (i + 4) 0;
+      order = orderAt (getD ws (i + 5) 0);
+    }
 
 abbrev pub partitionAt : List ℕ → ℕ → Partition
 partitionAt ws i =
     record {
       name = getD ws i 0;
-      start = getD ws (i + 1) 0;
-      length = getD ws (i + 2) 0;
-      size = getD ws (i + 3) 0;
-      front = getD ws (i + 4) 0;
-      rear = getD ws (i + 5) 0;
-      free = getD ws (i + 6) 0;
+      generation = getD ws (i + 1) 0;
+      start = getD ws (i + 2) 0;
+      length = getD ws (i + 3) 0;
+      size = getD ws (i + 4) 0;
+      front = getD ws (i + 5) 0;
+      rear = getD ws (i + 6) 0;
+      free = getD ws (i + 7) 0;
     }
 
 abbrev pub waiterAt : List ℕ → ℕ → Waiter
@@ -78,7 +96,7 @@ waiterAt ws i =
 -- the words say a record: their number is right, and each choice is one
 unfoldable pub choices : ℕ → List ℕ → ℕ → Bool
 choices zero ws i = true
-choices (suc n) ws i = leb (getD ws (i + 4) 0) 1 && choices n ws (i + 5)
+choices (suc n) ws i = leb (getD ws (i + 5) 0) 1 && choices n ws (i + regionSize)
 
 abbrev pub wellFormed : List ℕ → Bool
 wellFormed ws = eqb (length ws) recordWords && choices slots ws 0
@@ -86,9 +104,9 @@ wellFormed ws = eqb (length ws) recordWords && choices slots ws 0
 unfoldable pub unpack : List ℕ → Manager
 unpack ws =
     record {
-      regions = allAt regionAt 5 slots ws 0;
-      partitions = allAt partitionAt 7 slots ws partitionsAt;
-      waiters = allAt waiterAt 5 tasks ws waitersAt;
+      regions = allAt regionAt regionSize slots ws 0;
+      partitions = allAt partitionAt partitionSize slots ws partitionsAt;
+      waiters = allAt waiterAt waiterSize tasks ws waitersAt;
     }
 
 -- what the words say; a fresh record where they say none

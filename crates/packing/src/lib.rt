@@ -40,12 +40,19 @@ pub struct Unpacked {
     pub manager: Manager,
 }
 
+// How many words a region, a partition and a waiter have.
+pub(crate) const REGION_SIZE: usize = 6;
+
+pub(crate) const PARTITION_SIZE: usize = 8;
+
+pub(crate) const WAITER_SIZE: usize = 5;
+
 // Where the words of the partitions and of the waiters start, and how many words a record has.
-pub(crate) const PARTITIONS_AT: usize = 5 * Manager::SLOTS;
+pub(crate) const PARTITIONS_AT: usize = REGION_SIZE * Manager::SLOTS;
 
-pub(crate) const WAITERS_AT: usize = PARTITIONS_AT + 7 * Manager::SLOTS;
+pub(crate) const WAITERS_AT: usize = PARTITIONS_AT + PARTITION_SIZE * Manager::SLOTS;
 
-pub const RECORD_WORDS: usize = WAITERS_AT + 5 * Manager::TASKS;
+pub const RECORD_WORDS: usize = WAITERS_AT + WAITER_SIZE * Manager::TASKS;
 
 // The record that the words say; not ok where their number is wrong or a choice is none.
 pub fn unpack(words: &[u32]) -> Unpacked

@@ -1,5 +1,8 @@
 // Reading the parts of a record from its words.
+use crate::PARTITION_SIZE;
 use crate::PARTITIONS_AT;
+use crate::REGION_SIZE;
+use crate::WAITER_SIZE;
 use crate::WAITERS_AT;
 use crate::order_at;
 use manager::Manager;
@@ -10,7 +13,7 @@ ghost use mathlib.Core.Path.{_≡_};
 ghost use Prim.Native.Nat.{_+_, _≤_};
 ghost use lib.ListN.{length};
 ghost use Rattle.manager.specs.Record.{slots, tasks};
-ghost use Rattle.packing.specs.Packing.{recordWords, partitionsAt, waitersAt, choices, allAt, regionAt, partitionAt, waiterAt};
+ghost use Rattle.packing.specs.Packing.{regionSize, partitionSize, waiterSize, recordWords, partitionsAt, waitersAt, choices, allAt, regionAt, partitionAt, waiterAt};
 
 // Whether each region's choice is one.
 pub(crate) fn choices(words: &[u32]) -> bool
@@ -19,9 +22,9 @@ pub(crate) fn choices(words: &[u32]) -> bool
 {
     let mut k: usize = 0;
     while k < Manager::SLOTS {
-        let at = 5 * k;
+        let at = REGION_SIZE * k;
         k = k + 1;
-        if 1 < words[at + 4] {
+        if 1 < words[at + 5] {
             return false;
         }
     }
@@ -30,38 +33,40 @@ pub(crate) fn choices(words: &[u32]) -> bool
 
 // The region whose words start at a place.
 fn region(words: &[u32], at: usize) -> Region
-    requires { ⌜ at + 5 ≤ length (now words) ⌝ }
+    requires { ⌜ at + regionSize ≤ length (now words) ⌝ }
     ensures { λ r. ⌜ r ≡ regionAt (now (words .entry)) at ⌝ }
 {
-    let o = order_at(words[at + 4]);
+    let o = order_at(words[at + 5]);
     Region {
         name: words[at],
-        start: words[at + 1],
-        length: words[at + 2],
-        page: words[at + 3],
+        generation: words[at + 1],
+        start: words[at + 2],
+        length: words[at + 3],
+        page: words[at + 4],
         order: o,
     }
 }
 
 // The partition whose words start at a place.
 fn partition(words: &[u32], at: usize) -> Partition
-    requires { ⌜ at + 7 ≤ length (now words) ⌝ }
+    requires { ⌜ at + partitionSize ≤ length (now words) ⌝ }
     ensures { λ r. ⌜ r ≡ partitionAt (now (words .entry)) at ⌝ }
 {
     Partition {
         name: words[at],
-        start: words[at + 1],
-        length: words[at + 2],
-        size: words[at + 3],
-        front: words[at + 4],
-        rear: words[at + 5],
-        free: words[at + 6],
+        generation: words[at + 1],
+        start: words[at + 2],
+        length: words[at + 3],
+        size: words[at + 4],
+        front: words[at + 5],
+        rear: words[at + 6],
+        free: words[at + 7],
     }
 }
 
 // The waiter whose words start at a place.
 fn waiter(words: &[u32], at: usize) -> Waiter
-    requires { ⌜ at + 5 ≤ length (now words) ⌝ }
+    requires { ⌜ at + waiterSize ≤ length (now words) ⌝ }
     ensures { λ r. ⌜ r ≡ waiterAt (now (words .entry)) at ⌝ }
 {
     Waiter {
@@ -75,13 +80,13 @@ fn waiter(words: &[u32], at: usize) -> Waiter
 
 pub(crate) fn regions(words: &[u32]) -> [Region; Manager::SLOTS]
     requires { ⌜ length (now words) ≡ recordWords ⌝ }
-    ensures { λ r. ⌜ r ≡ allAt regionAt 5 slots (now (words .entry)) 0 ⌝ }
+    ensures { λ r. ⌜ r ≡ allAt regionAt regionSize slots (now (words .entry)) 0 ⌝ }
 {
     let d = Manager::new();
     let mut all = d.regions;
     let mut k: usize = 0;
     while k < Manager::SLOTS {
-        let x = region(words, 5 * k);
+        let x = region(words, REGION_SIZE * k);
         all[k] = x;
         k = k + 1;
     }
@@ -90,13 +95,13 @@ pub(crate) fn regions(words: &[u32]) -> [Region; Manager::SLOTS]
 
 pub(crate) fn partitions(words: &[u32]) -> [Partition; Manager::SLOTS]
     requires { ⌜ length (now words) ≡ recordWords ⌝ }
-    ensures { λ r. ⌜ r ≡ allAt partitionAt 7 slots (now (words .entry)) partitionsAt ⌝ }
+    ensures { λ r. ⌜ r ≡ allAt partitionAt partitionSize slots (now (words .entry)) partitionsAt ⌝ }
 {
     let d = Manager::new();
     let mut all = d.partitions;
     let mut k: usize = 0;
     while k < Manager::SLOTS {
-        let x = partition(words, PARTITIONS_AT + 7 * k);
+        let x = partition(words, PARTITIONS_AT + PARTITION_SIZE * k);
         all[k] = x;
         k = k + 1;
     }
@@ -105,13 +110,13 @@ pub(crate) fn partitions(words: &[u32]) -> [Partition; Manager::SLOTS]
 
 pub(crate) fn waiters(words: &[u32]) -> [Waiter; Manager::TASKS]
     requires { ⌜ length (now words) ≡ recordWords ⌝ }
-    ensures { λ r. ⌜ r ≡ allAt waiterAt 5 tasks (now (words .entry)) waitersAt ⌝ }
+    ensures { λ r. ⌜ r ≡ allAt waiterAt waiterSize tasks (now (words .entry)) waitersAt ⌝ }
 {
     let d = Manager::new();
     let mut all = d.waiters;
     let mut k: usize = 0;
     while k < Manager::TASKS {
-        let x = waiter(words, WAITERS_AT + 5 * k);
+        let x = waiter(words, WAITERS_AT + WAITER_SIZE * k);
         all[k] = x;
         k = k + 1;
     }

@@ -1,5 +1,8 @@
 // Writing the parts of a record into its words.
+use crate::PARTITION_SIZE;
 use crate::PARTITIONS_AT;
+use crate::REGION_SIZE;
+use crate::WAITER_SIZE;
 use crate::WAITERS_AT;
 use manager::Manager;
 use manager::Order;
@@ -10,7 +13,7 @@ ghost use mathlib.Core.Path.{_≡_};
 ghost use Prim.Native.Nat.{_+_, _≤_};
 ghost use lib.ListN.{length};
 ghost use lib.Seq.{sets};
-ghost use Rattle.packing.specs.Packing.{recordWords, partitionsAt, waitersAt, allWords, regionWords, partitionWords, waiterWords, orderWord};
+ghost use Rattle.packing.specs.Packing.{regionSize, partitionSize, waiterSize, recordWords, partitionsAt, waitersAt, allWords, regionWords, partitionWords, waiterWords, orderWord};
 
 fn order(o: Order) -> u32
     ensures { λ r. ⌜ r ≡ orderWord o ⌝ }
@@ -23,35 +26,37 @@ fn order(o: Order) -> u32
 
 // The words of a region from a place on.
 fn region(words: &mut [u32], at: usize, r: Region)
-    requires { ⌜ at + 5 ≤ length (now words) ⌝ }
+    requires { ⌜ at + regionSize ≤ length (now words) ⌝ }
     ensures { λ _. ⌜ now (words .exit) ≡ sets (now (words .entry)) at (regionWords r) ⌝ }
 {
     let o = r.order;
     let choice = order(o);
     words[at] = r.name;
-    words[at + 1] = r.start;
-    words[at + 2] = r.length;
-    words[at + 3] = r.page;
-    words[at + 4] = choice;
+    words[at + 1] = r.generation;
+    words[at + 2] = r.start;
+    words[at + 3] = r.length;
+    words[at + 4] = r.page;
+    words[at + 5] = choice;
 }
 
 // The words of a partition from a place on.
 fn partition(words: &mut [u32], at: usize, p: Partition)
-    requires { ⌜ at + 7 ≤ length (now words) ⌝ }
+    requires { ⌜ at + partitionSize ≤ length (now words) ⌝ }
     ensures { λ _. ⌜ now (words .exit) ≡ sets (now (words .entry)) at (partitionWords p) ⌝ }
 {
     words[at] = p.name;
-    words[at + 1] = p.start;
-    words[at + 2] = p.length;
-    words[at + 3] = p.size;
-    words[at + 4] = p.front;
-    words[at + 5] = p.rear;
-    words[at + 6] = p.free;
+    words[at + 1] = p.generation;
+    words[at + 2] = p.start;
+    words[at + 3] = p.length;
+    words[at + 4] = p.size;
+    words[at + 5] = p.front;
+    words[at + 6] = p.rear;
+    words[at + 7] = p.free;
 }
 
 // The words of a waiter from a place on.
 fn waiter(words: &mut [u32], at: usize, w: Waiter)
-    requires { ⌜ at + 5 ≤ length (now words) ⌝ }
+    requires { ⌜ at + waiterSize ≤ length (now words) ⌝ }
     ensures { λ _. ⌜ now (words .exit) ≡ sets (now (words .entry)) at (waiterWords w) ⌝ }
 {
     words[at] = w.task;
@@ -68,7 +73,7 @@ pub(crate) fn regions(words: &mut [u32], all: [Region; Manager::SLOTS])
     let mut k: usize = 0;
     while k < Manager::SLOTS {
         let x = all[k];
-        let at = 5 * k;
+        let at = REGION_SIZE * k;
         region(words, at, x);
         k = k + 1;
     }
@@ -81,7 +86,7 @@ pub(crate) fn partitions(words: &mut [u32], all: [Partition; Manager::SLOTS])
     let mut k: usize = 0;
     while k < Manager::SLOTS {
         let x = all[k];
-        let at = PARTITIONS_AT + 7 * k;
+        let at = PARTITIONS_AT + PARTITION_SIZE * k;
         partition(words, at, x);
         k = k + 1;
     }
@@ -94,7 +99,7 @@ pub(crate) fn waiters(words: &mut [u32], all: [Waiter; Manager::TASKS])
     let mut k: usize = 0;
     while k < Manager::TASKS {
         let x = all[k];
-        let at = WAITERS_AT + 5 * k;
+        let at = WAITERS_AT + WAITER_SIZE * k;
         waiter(words, at, x);
         k = k + 1;
     }

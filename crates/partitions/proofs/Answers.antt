@@ -1,26 +1,30 @@
 -- What each directive on partitions gives over sound records, exit by exit: the tests that led there, in their order, give its result.
 -- Then a reply, and a store where there is one, perform it. Assumes nothing.
-use Prim.Native.Nat.{ℕ, suc, _+_, _-_, _*_, _/_, _%_, _≤_, _<_}
+use Prim.Native.Nat.{ℕ, _+_, _-_, _*_, _/_, _%_, _≤_, _<_}
 use mathlib.Core.Path.{_≡_, refl, ap, sym, _∙_}
 use mathlib.Core.Bool.{Bool, true, false, not, cond, _||_}
 use mathlib.Core.List.{List, []}
 use mathlib.Core.Logic.{⊎-elim}
 use native.Mathlib.Omega.{arith}
-use native.Mathlib.Numerals.{add-one}
 use native.Mathlib.Nat.{div-le-self}
 use lib.ListN.{length}
 use lib.Dec.{eqb, ltb}
+use mir.Syntax.{w32}
+use mir.Val.{Fits}
+use borrow.Author.Needs.{fits-under}
 use borrow.Author.Tests.{eq-eqb, ne-eqb, le-leb, lt-leb, ltb-false, eqb-false, not-true, not-false}
 use Rattle.manager.proofs.Laws.Appended.{or-first, or-second}
-use Rattle.manager.specs.Record.{slots, slotOf, noPartition, partitionOf, withPartition}
+use Rattle.manager.specs.Record.{slots, generations, slotOf, emptiedPartition, partitionOf, withPartition}
 use Rattle.manager.specs.Result.{Result, Performs, checked, answerOf, replied, refused, done}
-use Rattle.manager.specs.Sound.{sound, livePartition}
+use Rattle.manager.specs.Sound.{sound, soundPartition, livePartition}
 use Rattle.manager.specs.Partition.{buffers, isBuffer, isFree, linkAll, afterGet, gotten, afterReturn, returned}
 use Rattle.manager.proofs.Laws.Distinct.{same-or-not}
-use Rattle.manager.proofs.Laws.Partition.Live.{live-laid, live-chain, sound-live, sound-most}
+use Rattle.manager.proofs.Laws.Sound.{generation-live}
+use Rattle.manager.proofs.Laws.Partition.Live.{live-laid, live-chain, partition-generation, sound-slot, sound-live, sound-most, partition-most}
 use Rattle.manager.proofs.Laws.Partition.Repeats.{free-fewer}
 use Rattle.manager.specs.Regions.{overlaps}
-use Rattle.manager.specs.Partitions.{partitionNamed, newPartition, createPartition, identPartition, deletePartition, getBuffer, returnBuffer}
+use Rattle.manager.specs.Partitions.{unspentPartition, partitionNamed, partitionGeneration, partitionId, newPartition, createPartition, identPartition, deletePartition, getBuffer, returnBuffer}
+use Rattle.objects.proofs.Laws.{unmapped}
 use Rattle.partitions.specs.Checks.{sizeRefused}
 use Rattle.partitions.specs.Acts.{makes, handsOut, takesBack}
 use Rattle.manager.specs.declared.Manager.{Manager}
@@ -43,9 +47,10 @@ module _ (t : Result) (m : List ℕ) (a : Answer) where
 
 -- the acts
 module _ (m : List ℕ) (d : Manager) (i : ℕ) (m′ : List ℕ) (a : Answer) (g : Partition) where
-  pub made : (p : Partition) → g ≡ p → m′ ≡ linkAll (buffers g) m g 0 → a ≡ answerOf (replied [] (withPartition d i g) Successful (i + 1)) → Performs (makes m d i p) m′ a
+  pub made : (p : Partition) → g ≡ p → m′ ≡ linkAll (buffers g) m g 0 → (v : ℕ) → v ≡ partitionId d i
+      → a ≡ answerOf (replied [] (withPartition d i g) Successful v) → Performs (makes m d i p) m′ a
   unfolding makes
-  made p e x y = let z : i + 1 ≡ suc i = add-one i in record { memory = x ∙ rw e; answer = y ∙ rw (e, z) }
+  made p e x v z y = record { memory = x ∙ rw e; answer = y ∙ rw (e, z) }
 
   module _ (k : ℕ) (q : i ≡ k) where
     pub handed-out : (p : Partition) → g ≡ gotten m p → m′ ≡ afterGet m p → a ≡ answerOf (replied [] (withPartition d i g) Successful (p .front))
@@ -59,14 +64,14 @@ module _ (m : List ℕ) (d : Manager) (i : ℕ) (m′ : List ℕ) (a : Answer) (
     taken-back p b e x y = record { memory = x; answer = y ∙ rw (e, q) }
 
 -- the new record's numbers, for its chain
-pub linking-some : (name start bytes size : ℕ) (p : Partition) → p ≡ newPartition name start bytes size → 0 < size → 0 < p .size
-linking-some name start bytes size p x h = rw x h
+pub linking-some : (generation name start bytes size : ℕ) (p : Partition) → p ≡ newPartition generation name start bytes size → 0 < size → 0 < p .size
+linking-some generation name start bytes size p x h = rw x h
 
-pub linking-ends : (name start bytes size : ℕ) (p : Partition) → p ≡ newPartition name start bytes size → start + bytes < 4294967296
+pub linking-ends : (generation name start bytes size : ℕ) (p : Partition) → p ≡ newPartition generation name start bytes size → start + bytes < 4294967296
     → p .start + p .length < 4294967296
-linking-ends name start bytes size p x h = rw x h
+linking-ends generation name start bytes size p x h = rw x h
 
-pub ruleset acts = (made, handed-out, taken-back, linking-some, linking-ends)
+pub ruleset acts = (unmapped, partition-most, made, handed-out, taken-back, linking-some, linking-ends)
 
 -- a success that puts a partition into a slot
 pub updates : (d : Manager) (i : ℕ) (p : Partition) (v : ℕ) (e : Manager) (a : Answer) → e ≡ withPartition d i p → a ≡ answerOf (replied [] e Successful v)
@@ -109,13 +114,16 @@ module _ (m : List ℕ) (d : Manager) (name : ℕ) (b : Bool) (q : b ≡ sound m
     unfolding identPartition checked
     ident-none e = rw (← q, s, ne-eqb _ _ h, ← k, le-leb _ _ e)
 
-    pub ident-found : slot < slots → identPartition m d name ≡ done m d (slot + 1)
+    pub ident-found : slot < slots → (v : ℕ) → v ≡ partitionId d slot → identPartition m d name ≡ done m d v
     unfolding identPartition checked
-    ident-found e =
-        let z : slot + 1 ≡ suc slot = add-one slot in
-        rw (← q, s, ne-eqb _ _ h, ← k, lt-leb _ _ e, z)
+    ident-found e v z = rw (z, ← q, s, ne-eqb _ _ h, ← k, lt-leb _ _ e)
 
-pub ruleset first = (performs-refused, performs-done, create-unsound, ident-unsound, delete-unsound, get-unsound, return-unsound, is-so, ident-nameless, ident-none, ident-found, not-true, not-false)
+-- the id that it answers fits
+pub ident-fits : (m : List ℕ) (d : Manager) (b : Bool) → b ≡ sound m d → b ≡ true → length (d .partitions) ≡ slots → (slot : ℕ) → slot < slots
+    → partitionGeneration d slot ≤ generations
+ident-fits m d b q s h slot k = partition-most m d (sym q ∙ s) h slot k
+
+pub ruleset first = (unmapped, performs-refused, performs-done, create-unsound, ident-unsound, delete-unsound, get-unsound, return-unsound, is-so, ident-nameless, ident-none, ident-found, ident-fits, not-true, not-false)
 
 -- what an id names, over sound records
 module _ (m : List ℕ) (d : Manager) (id : ℕ) (s : sound m d ≡ true) (p : Partition) (q : p ≡ partitionOf d id) where
@@ -138,6 +146,12 @@ module _ (m : List ℕ) (d : Manager) (id : ℕ) (s : sound m d ≡ true) (p : P
     lives : livePartition m p ≡ true
     lives = rw q (sound-live m d s id (λ e. l (ap (λ (x : Partition). x .name) q ∙ e)))
 
+    -- the generation can rise
+    pub delete-rises : Fits w32 (p .generation + 1)
+    delete-rises =
+        let t : soundPartition m p ≡ true = rw q (sound-slot m d s id (λ e. l (ap (λ (x : Partition). x .name) q ∙ e))) in
+        fits-under w32 (p .generation + 1) 65537 (omega (arith, generation-live (p .name) (p .generation) (partition-generation m p t) l)) tt
+
     pub size-divides : 0 < p .size
     size-divides = omega (arith, live-laid m p lives .shaped .big)
 
@@ -153,9 +167,10 @@ module _ (m : List ℕ) (d : Manager) (id : ℕ) (s : sound m d ≡ true) (p : P
     unfolding deletePartition checked
     delete-held e = rw (s, ← q, ne-eqb _ _ l, ne-eqb _ _ e)
 
-    pub delete-done : p .free ≡ p .length / p .size → (i : ℕ) → i ≡ slotOf id → deletePartition m d id ≡ done m (withPartition d i noPartition) 0
+    pub delete-done : p .free ≡ p .length / p .size → (i : ℕ) → i ≡ slotOf id → (none : Partition) → none ≡ emptiedPartition (p .generation + 1)
+        → deletePartition m d id ≡ done m (withPartition d i none) 0
     unfolding deletePartition checked
-    delete-done e i z = rw (s, ← q, ne-eqb _ _ l, eq-eqb _ _ e, z)
+    delete-done e i z none y = rw (s, ← q, ne-eqb _ _ l, eq-eqb _ _ e, z, y)
 
     module _ (address : ℕ) (b : Bool) (k : b ≡ isBuffer p address) where
       pub return-strange : b ≡ false → returnBuffer m d id address ≡ refused m d InvalidAddress
@@ -180,7 +195,7 @@ module _ (m : List ℕ) (d : Manager) (id : ℕ) (s : sound m d ≡ true) (p : P
           unfolding returnBuffer checked takesBack
           return-rear = rw (s, ← q, ne-eqb _ _ l, ← k, h, ← o, e)
 
-pub ruleset answers = (performs-refused, performs-done, get-dead, get-none, performs-as, get-front, size-divides, delete-dead, delete-held, delete-done, return-dead, return-strange, return-twice, return-fits, return-rear, not-true, not-false)
+pub ruleset answers = (performs-refused, performs-done, get-dead, get-none, performs-as, get-front, size-divides, delete-dead, delete-rises, delete-held, delete-done, return-dead, return-strange, return-twice, return-fits, return-rear, not-true, not-false)
 
 -- CREATE
 cond-or : {A : Type 0} (a b : Bool) (x y : A) → cond a x (cond b x y) ≡ cond (a || b) x y
@@ -253,12 +268,12 @@ module _ (m : List ℕ) (d : Manager) (name start bytes size : ℕ) (s : sound m
             unfolding createPartition checked
             create-overlaps e = rw (s, ne-eqb _ _ h1, ne-eqb _ _ h2, eq-eqb _ _ h3, ← pq, h4, sizes-one, ← bq, h5, ← mq, e)
 
-            module _ (h6 : meets ≡ false) (slot : ℕ) (sq : slot ≡ partitionNamed d 0) where
+            module _ (h6 : meets ≡ false) (slot : ℕ) (sq : slot ≡ unspentPartition d) where
               pub create-full : slots ≤ slot → createPartition m d name start bytes size ≡ refused m d TooMany
               unfolding createPartition checked
               create-full e = rw (s, ne-eqb _ _ h1, ne-eqb _ _ h2, eq-eqb _ _ h3, ← pq, h4, sizes-one, ← bq, h5, ← mq, h6, ← sq, le-leb _ _ e)
 
-              pub create-makes : slot < slots → createPartition m d name start bytes size ≡ makes m d slot (newPartition name start bytes size)
+              pub create-makes : slot < slots → createPartition m d name start bytes size ≡ makes m d slot (newPartition (partitionGeneration d slot) name start bytes size)
               unfolding createPartition checked makes
               create-makes e = rw (s, ne-eqb _ _ h1, ne-eqb _ _ h2, eq-eqb _ _ h3, ← pq, h4, sizes-one, ← bq, h5, ← mq, h6, ← sq, lt-leb _ _ e)
 

@@ -1,3 +1,3 @@
+pub mod Answers
 pub mod Making
 pub mod Moving
-pub mod Answers

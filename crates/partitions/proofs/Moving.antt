@@ -7,7 +7,7 @@ use Rattle.manager.specs.Partition.{nextOf, gotten, returned}
 use Rattle.manager.specs.declared.Partition.{Partition}
 
 abbrev after : Partition → ℕ → ℕ → ℕ → Partition
-after p front rear free = record { name = p .name; start = p .start; length = p .length; size = p .size; front = front; rear = rear; free = free }
+after p front rear free = record { name = p .name; generation = p .generation; start = p .start; length = p .length; size = p .size; front = front; rear = rear; free = free }
 
 module _ (m : List ℕ) (p : Partition) (n : ℕ) (q : n ≡ nextOf m (p .front)) where
   pub gotten-last : n ≡ 0 → after p n 0 (p .free - 1) ≡ gotten m p

@@ -72,7 +72,7 @@ fn take_back(mem: &mut [u32], d: Manager, id: u32, p: Partition, a: u32) -> Answ
     update(d, objects::slot_of(id), q, 0)
 }
 
-// Delete: 4, 12.
+// Delete: 4, 12. The generation rises by one.
 pub(crate) fn delete(mem: &[u32], d: Manager, id: u32) -> Answer
     requires { ⌜ sound (now mem) d ≡ true ⌝ }
     ensures { λ r. ⌜ Performs (deletePartition (now (mem .entry)) d id) (now (mem .entry)) r ⌝ }
@@ -85,15 +85,7 @@ pub(crate) fn delete(mem: &[u32], d: Manager, id: u32) -> Answer
     if p.free != p.length / size {
         return reply::reply(d, Status::ResourceInUse, 0);
     }
-    let none = Partition {
-        name: 0,
-        start: 0,
-        length: 0,
-        size: 0,
-        front: 0,
-        rear: 0,
-        free: 0,
-    };
+    let none = Partition::emptied(p.generation + 1);
     update(d, objects::slot_of(id), none, 0)
 }
 

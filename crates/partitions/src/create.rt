@@ -1,5 +1,6 @@
 // Making a partition: its record, the chain of all its buffers, and the checks ahead of both.
 use crate::buffers;
+use crate::slots;
 use manager::Answer;
 use manager::Area;
 use manager::Manager;
@@ -13,7 +14,7 @@ ghost use Rattle.manager.specs.Record.{slots};
 ghost use Rattle.manager.specs.Result.{Performs};
 ghost use Rattle.manager.specs.Sound.{sound};
 ghost use Rattle.manager.specs.Partition.{buffers, linkAll};
-ghost use Rattle.manager.specs.Partitions.{newPartition, createPartition};
+ghost use Rattle.manager.specs.Partitions.{partitionGeneration, newPartition, createPartition};
 ghost use Rattle.partitions.specs.Checks.{sizeRefused};
 ghost use Rattle.partitions.specs.Acts.{makes};
 
@@ -65,13 +66,14 @@ fn link_all(mem: &mut [u32], p: Partition)
 }
 
 // The new partition: every buffer is free.
-fn new_partition(name: u32, start: u32, length: u32, size: u32) -> Partition
+fn new_partition(generation: u32, name: u32, start: u32, length: u32, size: u32) -> Partition
     requires { ⌜ (0 < size) × (size ≤ length) × (start + length < 4294967296) ⌝ }
-    ensures { λ r. ⌜ r ≡ newPartition name start length size ⌝ }
+    ensures { λ r. ⌜ r ≡ newPartition generation name start length size ⌝ }
 {
     let count = length / size;
     Partition {
         name,
+        generation,
         start,
         length,
         size,
@@ -81,7 +83,7 @@ fn new_partition(name: u32, start: u32, length: u32, size: u32) -> Partition
     }
 }
 
-// The record in a slot, and the chain.
+// The record in a slot, of the slot's generation, and the chain.
 fn make(
     mem: &mut [u32],
     d: Manager,
@@ -91,12 +93,13 @@ fn make(
     length: u32,
     size: u32,
 ) -> Answer
-    requires { ⌜ (slot < slots) × (0 < size) × (size ≤ length) × (start + length < 4294967296) ⌝ }
-    ensures { λ r. ⌜ Performs (makes (now (mem .entry)) d slot (newPartition name start length size)) (now (mem .exit)) r ⌝ }
+    requires { ⌜ (sound (now mem) d ≡ true) × (slot < slots) × (0 < size) × (size ≤ length) × (start + length < 4294967296) ⌝ }
+    ensures { λ r. ⌜ Performs (makes (now (mem .entry)) d slot (newPartition (partitionGeneration d slot) name start length size)) (now (mem .exit)) r ⌝ }
 {
-    let p = new_partition(name, start, length, size);
+    let old = d.partitions[slot];
+    let p = new_partition(old.generation, name, start, length, size);
     link_all(mem, p);
-    buffers::update(d, slot, p, slot as u32 + 1)
+    buffers::update(d, slot, p, slots::partition_id(d, slot))
 }
 
 // Create, over sound records: the checks in their order, then the chain and the record.
@@ -129,7 +132,7 @@ pub(crate) fn create(
     if objects::overlaps(d, Area { start, length }) {
         return reply::reply(d, Status::InvalidAddress, 0);
     }
-    let slot = objects::partition_named(d, 0);
+    let slot = objects::unspent_partition(d);
     if slot >= Manager::SLOTS {
         return reply::reply(d, Status::TooMany, 0);
     }

@@ -2,6 +2,7 @@
 // is total: any record, memory and numbers have their answer.
 mod buffers;
 mod create;
+mod slots;
 
 use manager::Answer;
 use manager::Manager;
@@ -40,7 +41,7 @@ pub fn ident_partition(mem: &[u32], d: Manager, name: u32) -> Answer
     if slot >= Manager::SLOTS {
         return reply::reply(d, Status::InvalidName, 0);
     }
-    reply::reply(d, Status::Successful, slot as u32 + 1)
+    reply::reply(d, Status::Successful, slots::partition_id(d, slot))
 }
 
 // Deletes a partition whose buffers are all free; no word of the memory changes.

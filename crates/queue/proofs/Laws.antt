@@ -14,35 +14,35 @@ use Rattle.manager.specs.declared.Region.{Region}
 use Rattle.manager.specs.declared.Waiter.{Waiter}
 use Rattle.manager.specs.declared.Order.{Order}
 use Rattle.manager.specs.declared.Order.the-variants.{Fifo, Priority}
-use Rattle.manager.specs.Record.{tasks, noWaiter, regionOf, withQueue}
+use Rattle.manager.specs.Record.{tasks, noWaiter, slotOf, regionOf, withQueue}
 use Rattle.manager.specs.Lists.{any, indexOf}
 use Rattle.manager.proofs.Laws.Lists.{Placing, index-start, index-next, index-here, index-end, Seeking, some-start, some-next, some-here, some-end}
 use Rattle.manager.specs.Queue.{goesBefore, push, insert, pull, removeAt, enqueue, dequeue, waitsFor}
 use Rattle.objects.proofs.Laws.{unmapped}
 
--- the tests of `goes_before`, one after the other
+-- the tests of `goes_before`, one after the other; i and j are the slots of the two
 module _ (o : Order) (w x : Waiter) where
   pub before-empty : x .task ≡ 0 → true ≡ goesBefore o w x
   unfolding goesBefore
   before-empty e = rw (eq-eqb _ _ e)
 
-  module _ (n : x .task ≡ 0 → ⊥) where
-    pub before-later : w .region < x .region → true ≡ goesBefore o w x
+  module _ (n : x .task ≡ 0 → ⊥) (i j : ℕ) (p : i ≡ slotOf (w .region)) (q : j ≡ slotOf (x .region)) where
+    pub before-later : i < j → true ≡ goesBefore o w x
     unfolding goesBefore
-    before-later h = rw (ne-eqb _ _ n, lt-ltb _ _ h)
+    before-later h = rw (ne-eqb _ _ n, ← p, ← q, lt-ltb _ _ h)
 
-    module _ (h : x .region ≤ w .region) where
-      pub before-fifo : w .region ≡ x .region → o ≡ Fifo → false ≡ goesBefore o w x
+    module _ (h : j ≤ i) where
+      pub before-fifo : i ≡ j → o ≡ Fifo → false ≡ goesBefore o w x
       unfolding goesBefore
-      before-fifo e k = rw (ne-eqb _ _ n, le-ltb _ _ h, eq-eqb _ _ e, k)
+      before-fifo e k = rw (ne-eqb _ _ n, ← p, ← q, le-ltb _ _ h, eq-eqb _ _ e, k)
 
-      pub before-priority : w .region ≡ x .region → o ≡ Priority → ltb (w .priority) (x .priority) ≡ goesBefore o w x
+      pub before-priority : i ≡ j → o ≡ Priority → ltb (w .priority) (x .priority) ≡ goesBefore o w x
       unfolding goesBefore
-      before-priority e k = rw (ne-eqb _ _ n, le-ltb _ _ h, eq-eqb _ _ e, k)
+      before-priority e k = rw (ne-eqb _ _ n, ← p, ← q, le-ltb _ _ h, eq-eqb _ _ e, k)
 
-      pub before-not : (w .region ≡ x .region → ⊥) → false ≡ goesBefore o w x
+      pub before-not : (i ≡ j → ⊥) → false ≡ goesBefore o w x
       unfolding goesBefore
-      before-not e = rw (ne-eqb _ _ n, le-ltb _ _ h, ne-eqb _ _ e)
+      before-not e = rw (ne-eqb _ _ n, ← p, ← q, le-ltb _ _ h, ne-eqb _ _ e)
 
 pub ruleset going = (before-empty, before-later, before-fifo, before-priority, before-not)
 

@@ -6,6 +6,7 @@ use manager::Order;
 use manager::Status;
 use manager::Waiter;
 use objects::region_of;
+use objects::slot_of;
 use reply::Noticed;
 ghost use mathlib.Core.Path.{_≡_};
 ghost use mathlib.Core.List.{_++_};
@@ -15,17 +16,19 @@ ghost use Rattle.manager.specs.Queue.{goesBefore, push, removeAt, enqueue, dequ
 ghost use Rattle.manager.specs.Record.{noWaiter};
 ghost use Rattle.reply.specs.Notices.{Notices};
 
-// Whether a waiter w of a region of order o goes before x: x is an unused place, of a later region, or less urgent.
+// Whether a waiter w of a region of order o goes before x: x is an unused place, of a region in a later slot, or less urgent.
 pub fn goes_before(o: Order, w: Waiter, x: Waiter) -> bool
     ensures { λ r. ⌜ r ≡ goesBefore o w x ⌝ }
 {
     if x.task == 0 {
         return true;
     }
-    if w.region < x.region {
+    let mine = slot_of(w.region);
+    let other = slot_of(x.region);
+    if mine < other {
         return true;
     }
-    if w.region == x.region {
+    if mine == other {
         return match o {
             Order::Fifo => false,
             Order::Priority => w.priority < x.priority,

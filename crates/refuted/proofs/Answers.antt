@@ -1,6 +1,6 @@
 -- WRONG ANSWERS: the managers 1 to 31 and 49, each of which breaks one rule (those that it shuts out by name and those of its slips
 -- among them), and for each a list of calls of which the last is not answered as the receipts say. So none of them meets demand 3. The
--- managers 32 to 46, which don't meet demand 1, are in Effects. Assumes nothing.
+-- managers 32 to 46, which don't meet demand 1, are in Effects; those that are wrong about ids are in Ids. Assumes nothing.
 use mathlib.Core.Path.{refl}
 use mathlib.Core.Bool.{Bool, true, cond, not}
 use mathlib.Core.List.{List, [], _∷_, reverse}
@@ -188,7 +188,7 @@ not-servesPast = differs servesPast (create ∷ get 64 ∷ get 128 ∷ wait 3 19
 
 -- 16. EVERY QUEUE IS BY ARRIVAL, whatever was asked for
 abbrev arrived : Region → Region
-arrived r = record { name = r .name; start = r .start; length = r .length; page = r .page; order = Fifo }
+arrived r = record { name = r .name; generation = r .generation; start = r .start; length = r .length; page = r .page; order = Fifo }
 
 abbrev byArrival : Implementation
 byArrival = but region-create 0 λ m d c a. keeping a (withRegion (a .manager) (slotOf (a .value)) (arrived (regionOf (a .manager) (a .value))))
@@ -284,7 +284,17 @@ not-oneBuffer = differs oneBuffer (divide ∷ buffer ∷ buffer ∷ []) refl
 
 -- 27. WHAT CAME BACK LAST GOES OUT FIRST
 abbrev toFront : Partition → ℕ → Partition
-toFront p a = record { name = p .name; start = p .start; length = p .length; size = p .size; front = a; rear = p .rear; free = p .free + 1 }
+toFront p a =
+    record {
+      name = p .name;
+      generation = p .generation;
+      start = p .start;
+      length = p .length;
+      size = p .size;
+      front = a;
+      rear = p .rear;
+      free = p .free + 1;
+    }
 
 abbrev lastReturnedFirst : Implementation
 lastReturnedFirst =

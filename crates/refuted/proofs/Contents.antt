@@ -11,23 +11,11 @@ use Rattle.manager.specs.Perform.{Implementation, perform}
 use Rattle.manager.specs.declared.Order.the-variants.{Fifo}
 use Rattle.trace.specs.Loans.{Loan, loan, Lent}
 use Rattle.trace.specs.Receipts.{RegionEntry}
-use Rattle.trace.specs.Trace.{Ask, State, start, after, Runs, end, ask, region, segment}
-use Rattle.trace.specs.Claims.{Claims, Demand3}
-use Rattle.refuted.proofs.Refute.{words}
+use Rattle.trace.specs.Trace.{start, region, segment}
+use Rattle.trace.specs.Claims.{Demand3}
+use Rattle.refuted.proofs.Refute.{claimed}
 use Rattle.refuted.proofs.Calls.{create, get, everything}
 use Rattle.refuted.proofs.Wrong.{segment-get, but, leaving}
-
--- what demand 3 claims after a list of calls
-abbrev after-all : Implementation → List Ask → State → State
-after-all i [] s = s
-after-all i (a ∷ l) s = after-all i l (after i a s)
-
-ran : (i : Implementation) (l : List Ask) (s : State) → Runs i s (after-all i l s)
-ran i [] s = end
-ran i (a ∷ l) s = ask a (ran i l (after i a s))
-
-claimed : (i : Implementation) → Demand3 i → (l : List Ask) → Claims i (after-all i l (start words))
-claimed i h l = h words (omega arith) (omega arith) _ (ran i l (start words))
 
 -- the region of the lists, with its loans
 abbrev lends : List Loan → RegionEntry

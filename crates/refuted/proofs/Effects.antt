@@ -20,19 +20,15 @@ use Rattle.manager.specs.declared.Manager.{Manager}
 use Rattle.manager.specs.declared.Call.the-variants.{IdentRegion, DeleteRegion, GetSegment, ResizeSegment, GetBuffer}
 use Rattle.manager.specs.declared.Wait.the-variants.{No, Yes}
 use Rattle.manager.specs.declared.Status.the-variants.{Timeout}
-use Rattle.trace.specs.Trace.{Ask, State, start, after}
+use Rattle.trace.specs.Trace.{Ask, State, start}
 use Rattle.effects.specs.Effects.{refusing, Whole, Demand1}
-use Rattle.refuted.proofs.Refute.{words, writes-other, refuses-otherwise, answers-otherwise, passes-unsound}
+use Rattle.refuted.proofs.Refute.{words, after-all, writes-other, refuses-otherwise, answers-otherwise, passes-unsound}
 use Rattle.refuted.proofs.Calls.{create, get, wait, divide, everything}
 use Rattle.refuted.proofs.Wrong.{segment-get, segment-resize, region-delete, buffer-get, answering, but, valued, leaving, keeping, emptied}
 
 -- the memory and the record that the right manager has after a list of calls, over 64 words of 9
-abbrev after-all : List Ask → State → State
-after-all [] s = s
-after-all (a ∷ l) s = after-all l (after defined a s)
-
-abbrev reached : List Ask → State
-reached l = after-all l (start (replicate 64 9))
+abbrev pub reached : List Ask → State
+reached l = after-all defined l (start (replicate 64 9))
 
 -- its slots are all there
 whole : {d : Manager} → length (d .regions) ≡ slots → length (d .partitions) ≡ slots → Whole d

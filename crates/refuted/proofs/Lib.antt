@@ -4,3 +4,4 @@ pub mod Wrong
 pub mod Answers
 pub mod Effects
 pub mod Contents
+pub mod Ids

@@ -52,6 +52,15 @@ agrees i (a ∷ l) s = same (answer i s a) (expected s a) && agrees i l (after i
 abbrev pub words : List ℕ
 words = replicate 64 0
 
+-- what a manager has after a list of calls
+abbrev pub after-all : Implementation → List Ask → State → State
+after-all i [] s = s
+after-all i (a ∷ l) s = after-all i l (after i a s)
+
+pub ran : (i : Implementation) (l : List Ask) (s : State) → Runs i s (after-all i l s)
+ran i [] s = end
+ran i (a ∷ l) s = ask a (ran i l (after i a s))
+
 same-refl : (l : List ℕ) → same l l ≡ true
 same-refl [] = refl
 same-refl (x ∷ l) = rw (eq-eqb x x refl) (same-refl l)
@@ -70,6 +79,10 @@ module _ (i : Implementation) where
   -- A MANAGER OF DEMAND 3 ANSWERS AS THE RECEIPTS SAY along every list; so one that doesn't is none
   pub differs : (l : List Ask) → agrees i l (start words) ≡ false → ¬ Demand3 i
   differs l e h = false≢true (sym e ∙ along l (start words) (h words (omega arith) (omega arith)))
+
+  -- or it fails by what demand 3 claims after a list
+  pub claimed : Demand3 i → (l : List Ask) → Claims i (after-all i l (start words))
+  claimed h l = h words (omega arith) (omega arith) _ (ran i l (start words))
 
 -- DEMAND 1 IS REFUTED BY ONE CALL, over one memory and record: a word that changed and isn't its own; a refusal that differs from what a
 -- refusal is, by a number read off it; a status that isn't the directive's; records that are not sound, and are not called so

@@ -5,7 +5,6 @@ use mathlib.Core.Path.{_≡_, refl, sym, _∙_}
 use mathlib.Core.Bool.{Bool, true, false, cond, _||_}
 use mathlib.Core.List.{List}
 use native.Mathlib.Omega.{arith}
-use native.Mathlib.Numerals.{add-one}
 use native.Mathlib.Nat.{pos-of-ne-zero}
 use lib.ListN.{length}
 use lib.Dec.{eqb, ltb}
@@ -20,14 +19,15 @@ use Rattle.manager.specs.Result.{Result, checked, refused, done}
 use Rattle.manager.proofs.Laws.Result.{performs-by, performs-replied}
 use Rattle.manager.proofs.Laws.Appended.{or-first, or-second}
 use Rattle.manager.specs.Region.{layoutOf, pagesOf, opened}
-use Rattle.manager.specs.Regions.{overlaps, regionNamed, newRegion, createRegion}
+use Rattle.objects.proofs.Laws.{unmapped}
+use Rattle.manager.specs.Regions.{overlaps, unspentRegion, regionGeneration, regionId, newRegion, createRegion}
 use Rattle.manager.specs.Sound.{sound, Laid}
-use Rattle.manager.proofs.Laws.Sound.{sound-words}
+use Rattle.manager.proofs.Laws.Sound.{sound-words, region-most}
 use Rattle.manager.specs.declared.Manager.{Manager}
 use Rattle.arith.specs.declared.Layout.{Layout}
 use Rattle.manager.specs.declared.Region.{Region}
 use Rattle.manager.specs.declared.Order.{Order}
-use Rattle.regions.specs.Entered.{entered}
+use Rattle.regions.specs.Entered.{ofGeneration, entered}
 use Rattle.manager.specs.declared.Status.the-variants.{InvalidName, InvalidAddress, InvalidSize, TooMany, InternalError}
 
 -- ---- 25
@@ -54,7 +54,7 @@ pub rounded-fits : (page v : ℕ) → page ≤ 4096 → v ≡ roundUp page 8 →
 rounded-fits page v h e = fits-under w32 v 4097 (omega (arith, rounded-high page h)) tt
 
 pub new-is : (name start bytes page : ℕ) (order : Order) (v : ℕ) → v ≡ roundUp page 8
-    → _≡_ {A = Region} (record { name = name; start = start; length = bytes; page = v; order = order }) (newRegion name start bytes page order)
+    → _≡_ {A = Region} (record { name = name; generation = 0; start = start; length = bytes; page = v; order = order }) (newRegion 0 name start bytes page order)
 new-is name start bytes page order v e = rw e
 
 pub ruleset rounding = (rounded-fits, new-is)
@@ -110,7 +110,7 @@ module _ (m : List ℕ) (d : Manager) (s : sound m d ≡ true) (name start bytes
         unfolding createRegion checked
         create-page e = rw (s, ne-eqb _ _ n, ne-eqb _ _ z, ← ep, i) (either-refused (eqb page 0) (ltb 4096 page) _ _ (sym ev ∙ e))
 
-        module _ (g : v ≡ false) (r : Region) (er : r ≡ newRegion name start bytes page order) where
+        module _ (g : v ≡ false) (r : Region) (er : r ≡ newRegion 0 name start bytes page order) where
           pub create-entered : Creates ≡ entered m d r
           unfolding createRegion checked entered
           create-entered = rw (er, s, ne-eqb _ _ n, ne-eqb _ _ z, ← ep, i, page-some page v ev g, page-most page v ev g)
@@ -151,14 +151,15 @@ module _ (m : List ℕ) (d : Manager) (r : Region) (l : Layout) (el : l ≡ layo
       unfolding entered checked
       enter-overlaps e = rw (some-page, ← eb, e)
 
-      module _ (h : b ≡ false) (slot : ℕ) (es : slot ≡ regionNamed d 0) where
+      module _ (h : b ≡ false) (slot : ℕ) (es : slot ≡ unspentRegion d) where
         pub enter-full : slots ≤ slot → entered m d r ≡ refused m d TooMany
         unfolding entered checked
         enter-full k = rw (some-page, ← eb, h, ← es, le-leb _ _ k)
 
         -- the map is drawn, and the record has the region
-        pub enter-done : slot < slots → (out : List ℕ) → out ≡ opened m r → (e : Manager) → e ≡ withRegion d slot r → entered m d r ≡ done out e (slot + 1)
+        pub enter-done : slot < slots → (out : List ℕ) → out ≡ opened m r → (e : Manager) → e ≡ withRegion d slot (ofGeneration (regionGeneration d slot) r)
+            → (v : ℕ) → v ≡ regionId d slot → entered m d r ≡ done out e v
         unfolding entered checked
-        enter-done k out x e ee = rw (x, ee, some-page, ← eb, h, ← es, lt-leb _ _ k, add-one slot)
+        enter-done k out x e ee v ev = rw (x, ee, ev, some-page, ← eb, h, ← es, lt-leb _ _ k)
 
-pub ruleset entry = (performs-replied, enter-empty, enter-laid, enter-overlaps, enter-full, enter-done)
+pub ruleset entry = (unmapped, performs-replied, region-most, enter-empty, enter-laid, enter-overlaps, enter-full, enter-done)

@@ -4,19 +4,19 @@ use mathlib.Core.Path.{_≡_, refl, sym, _∙_}
 use mathlib.Core.Bool.{Bool, true, false, not}
 use mathlib.Core.List.{List}
 use native.Mathlib.Omega.{arith}
-use native.Mathlib.Numerals.{add-one}
 use lib.ListN.{length, replicate}
 use borrow.Author.Tests.{eq-eqb, ne-eqb, le-leb, lt-leb, not-true, not-false}
-use Rattle.manager.specs.Record.{slots, tasks, noRegion, noNotice, regionOf, slotOf, withRegion}
+use Rattle.manager.specs.Record.{slots, tasks, generations, emptiedRegion, noNotice, regionOf, slotOf, withRegion}
 use Rattle.manager.specs.Result.{Performs, checked, refused, done}
 use Rattle.manager.proofs.Laws.Result.{performs-replied}
 use Rattle.manager.specs.Map.{decode, tiled, freeSizes, heldSizes}
 use Rattle.manager.specs.Region.{layoutOf, wordsAt, mapWords, anyHeld}
 use Rattle.map.specs.Word.{oneFree}
 use Rattle.map.proofs.Word.{free-told}
-use Rattle.manager.specs.Regions.{regionNamed, identRegion, deleteRegion, regionInformation, informationOf}
-use Rattle.manager.specs.Sound.{sound, Sited}
-use Rattle.manager.proofs.Laws.Sound.{tiled-map, live-sited, map-long, pages-few}
+use Rattle.objects.proofs.Laws.{unmapped}
+use Rattle.manager.specs.Regions.{regionNamed, regionGeneration, regionId, identRegion, deleteRegion, regionInformation, informationOf}
+use Rattle.manager.specs.Sound.{sound, soundRegion, Sited}
+use Rattle.manager.proofs.Laws.Sound.{generation-live, region-generation, sound-slot, tiled-map, live-sited, map-long, pages-few, region-most}
 use Rattle.arith.specs.declared.Layout.{Layout}
 use Rattle.manager.specs.declared.Manager.{Manager}
 use Rattle.manager.specs.declared.Region.{Region}
@@ -41,9 +41,12 @@ module _ (m : List ℕ) (d : Manager) (b : Bool) (eb : b ≡ sound m d) where
         unfolding identRegion checked
         ident-none l = rw (← eb, s, ne-eqb _ _ n, ← es, le-leb _ _ l)
 
-        pub ident-found : slot < slots → identRegion m d name ≡ done m d (slot + 1)
+        pub ident-found : slot < slots → (v : ℕ) → v ≡ regionId d slot → identRegion m d name ≡ done m d v
         unfolding identRegion checked
-        ident-found l = rw (← eb, s, ne-eqb _ _ n, ← es, lt-leb _ _ l, add-one slot)
+        ident-found l v ev = rw (ev, ← eb, s, ne-eqb _ _ n, ← es, lt-leb _ _ l)
+
+  pub ident-fits : b ≡ true → length (d .regions) ≡ slots → (slot : ℕ) → slot < slots → regionGeneration d slot ≤ generations
+  ident-fits s h slot l = region-most m d (sym eb ∙ s) h slot l
 
   -- the region that an id names
   module _ (id : ℕ) where
@@ -64,6 +67,12 @@ module _ (m : List ℕ) (d : Manager) (b : Bool) (eb : b ≡ sound m d) where
       unfolding regionInformation checked
       information-dead e = rw (← eb, s, ← er, eq-eqb _ _ e)
 
+      -- the generation of a live region can rise
+      pub delete-rises : (r .name ≡ 0 → ⊥) → r .generation < generations
+      delete-rises n =
+          let sr : soundRegion m r ≡ true = rw er (sound-slot m d id (sym eb ∙ s) (rw (← er) (ne-eqb (r .name) 0 n))) in
+          generation-live (r .name) (r .generation) (region-generation m r sr) n
+
       module _ (n : r .name ≡ 0 → ⊥) (l : Layout) (el : l ≡ layoutOf r) where
         -- delete
         module _ (c : Bool) (oc : c ≡ oneFree m l) where
@@ -74,9 +83,9 @@ module _ (m : List ℕ) (d : Manager) (b : Bool) (eb : b ≡ sound m d) where
           unfolding deleteRegion checked
           delete-held e = rw (← eb, s, ← er, ne-eqb _ _ n, ← ec, e)
 
-          pub delete-done : not c ≡ false → (i : ℕ) → i ≡ slotOf id → (e : Manager) → e ≡ withRegion d i noRegion → deleteRegion m d id ≡ done m e 0
+          pub delete-done : not c ≡ false → (e : Manager) → e ≡ withRegion d (slotOf id) (emptiedRegion (r .generation + 1)) → deleteRegion m d id ≡ done m e 0
           unfolding deleteRegion checked
-          delete-done g i ei e x = rw (← eb, s, ← er, ne-eqb _ _ n, ← ec, g, x, ei)
+          delete-done g e x = rw (← eb, s, ← er, ne-eqb _ _ n, ← ec, g, x)
 
         -- information: the map of a live region is tiled, and short
         live : Sited m r
@@ -101,8 +110,8 @@ module _ (m : List ℕ) (d : Manager) (b : Bool) (eb : b ≡ sound m d) where
           unfolding regionInformation checked
           information-done i ei ns f = rw (← eb, s, ← er, ne-eqb _ _ n, ei, f, ew) (record { memory = refl; answer = refl })
 
-pub ruleset naming = (performs-replied, ident-unsound, ident-nameless, ident-none, ident-found, not-true, not-false)
+pub ruleset naming = (unmapped, performs-replied, ident-fits, ident-unsound, ident-nameless, ident-none, ident-found, not-true, not-false)
 
-pub ruleset deleting = (performs-replied, delete-unsound, delete-dead, delete-held, delete-done, not-true, not-false)
+pub ruleset deleting = (performs-replied, delete-unsound, delete-dead, delete-rises, delete-held, delete-done, not-true, not-false)
 
 pub ruleset informing = (performs-replied, information-unsound, information-dead, page-small, map-tiled, map-short, information-done, not-true, not-false)

@@ -1,4 +1,5 @@
 // Create, over sound records: the checks, then the record and the map of the new region.
+use crate::slots;
 use arith::Layout;
 use manager::Answer;
 use manager::Area;
@@ -30,14 +31,15 @@ fn page_refused(page: u32) -> bool
     4096 < page
 }
 
-// The record of a new region: its page size is rounded up to a multiple of 8.
+// The record of a new region, before it has a slot: its page size is rounded up to a multiple of 8.
 fn new_region(name: u32, start: u32, length: u32, page: u32, order: Order) -> Region
     requires { ⌜ page ≤ 4096 ⌝ }
-    ensures { λ r. ⌜ r ≡ newRegion name start length page order ⌝ }
+    ensures { λ r. ⌜ r ≡ newRegion 0 name start length page order ⌝ }
 {
     let rounded = arith::round_up(page, 8);
     Region {
         name,
+        generation: 0,
         start,
         length,
         page: rounded as u32,
@@ -70,7 +72,7 @@ fn clear_map(mem: &mut [u32], r: Region, l: Layout)
 
 // The checks on a new region: area 8, overlap 9, 5. Then it enters a slot, and its map is drawn.
 fn enter(mem: &mut [u32], d: Manager, r: Region) -> Answer
-    requires { ⌜ (1 ≤ pagesOf r → Laid (now mem) r) ⌝ }
+    requires { ⌜ (sound (now mem) d ≡ true) × (1 ≤ pagesOf r → Laid (now mem) r) ⌝ }
     ensures { λ a. ⌜ Performs (entered (now (mem .entry)) d r) (now (mem .exit)) a ⌝ }
 {
     let l = map::layout_of(r);
@@ -84,13 +86,13 @@ fn enter(mem: &mut [u32], d: Manager, r: Region) -> Answer
     if objects::overlaps(d, area) {
         return reply::reply(d, Status::InvalidAddress, 0);
     }
-    let slot = objects::region_named(d, 0);
+    let slot = objects::unspent_region(d);
     if Manager::SLOTS <= slot {
         return reply::reply(d, Status::TooMany, 0);
     }
     clear_map(mem, r, l);
-    let e = objects::with_region(d, slot, r);
-    reply::reply(e, Status::Successful, slot as u32 + 1)
+    let e = slots::with_new(d, slot, r);
+    reply::reply(e, Status::Successful, slots::region_id(d, slot))
 }
 
 // Create: 3, start 9, past memory 9, page 8; then what the new region itself is refused for.

@@ -1,12 +1,12 @@
 // The directives on whole regions: rules 11. Each answers 25 first, where the records are not sound. Every function
 // here is total: any record, memory and numbers have their answer.
 mod create;
+mod slots;
 mod tally;
 
 use manager::Answer;
 use manager::Manager;
 use manager::Order;
-use manager::Region;
 use manager::Status;
 ghost use Rattle.manager.specs.Result.{Performs};
 ghost use Rattle.manager.specs.Regions.{createRegion, identRegion, deleteRegion, regionInformation};
@@ -43,7 +43,7 @@ pub fn ident_region(mem: &[u32], d: Manager, name: u32) -> Answer
     if Manager::SLOTS <= slot {
         return reply::reply(d, Status::InvalidName, 0);
     }
-    reply::reply(d, Status::Successful, slot as u32 + 1)
+    reply::reply(d, Status::Successful, slots::region_id(d, slot))
 }
 
 // Deletes a region of which nothing is held; no word of the memory changes. Delete: 4, 12.
@@ -61,14 +61,7 @@ pub fn delete_region(mem: &[u32], d: Manager, id: u32) -> Answer
     if !map::one_free(mem, l) {
         return reply::reply(d, Status::ResourceInUse, 0);
     }
-    let none = Region {
-        name: 0,
-        start: 0,
-        length: 0,
-        page: 0,
-        order: Order::Fifo,
-    };
-    let e = objects::with_region(d, objects::slot_of(id), none);
+    let e = slots::without(d, id, r.generation);
     reply::reply(e, Status::Successful, 0)
 }
 

@@ -12,9 +12,10 @@ use lib.ListN.{length, getD, set, drop, replicate, length-set, drop-of-length-le
 use lib.Seq.{getD-set-same, getD-set-other}
 use Rattle.arith.specs.Layout.{pageCount}
 use Rattle.manager.specs.Lists.{every, pairwise, adjacent}
-use Rattle.manager.proofs.Laws.Lists.{and-first, rest-cons}
+use Rattle.manager.proofs.Laws.Lists.{and-first, and-second, getD-any, rest-cons}
+use Rattle.manager.proofs.Laws.Ids.{first-slot, no-slot, object-there, object-none, object-beyond}
 use Rattle.manager.specs.Queue.{byPriority, urgent, goesBefore}
-use Rattle.manager.specs.Record.{slots, tasks, slotOf, noRegion, regionOf}
+use Rattle.manager.specs.Record.{slots, tasks, slotOf, hasId, noRegion, regionOf}
 use Rattle.manager.specs.Region.{layoutOf, dead, anyHeld}
 use Rattle.arith.specs.declared.Layout.{Layout}
 use Rattle.manager.specs.Sound.{unused, emptyWaiter, soundWaiter, soundPlace, otherTask, inOrder, soundQueue}
@@ -22,7 +23,7 @@ use Rattle.manager.specs.declared.Manager.{Manager}
 use Rattle.manager.specs.declared.Order.{Order}
 use Rattle.manager.specs.declared.Region.{Region}
 use Rattle.manager.specs.declared.Waiter.{Waiter}
-use Rattle.soundness.specs.Waiters.{queueOf, factsOf, noFacts, frontWaiter, soundRequest, soundIn}
+use Rattle.soundness.specs.Waiters.{queueOf, factsOf, noFacts, frontWaiter, soundIn}
 use Rattle.soundness.specs.declared.places.Facts.{Facts}
 use Rattle.objects.proofs.Laws.{unmapped}
 
@@ -167,7 +168,8 @@ module _ (m : List ℕ) (d : Manager) where
   front-order : (x : Waiter) → inOrder d frontWaiter x ≡ true
   unfolding goesBefore
   front-order x =
-      rw (le-ltb (x .region) 0 (omega arith), front-urgent (regionOf d (x .region) .order) (x .priority), and-false (eqb (x .region) 0), or-true (unused x))
+      let i = slotOf (x .region) in
+      rw (first-slot, le-ltb i 0 (omega arith), front-urgent (regionOf d (x .region) .order) (x .priority), and-false (eqb i 0), or-true (unused x))
 
   front-first : (l : List Waiter) → adjacent (inOrder d) (frontWaiter ∷ l) ≡ adjacent (inOrder d) l
   unfolding adjacent
@@ -181,18 +183,39 @@ module _ (m : List ℕ) (d : Manager) where
   unfolding left soundQueue
   left-start = rw (none-first (d .waiters), front-first (d .waiters))
 
+-- what is in the slot of an id
+abbrev inSlot : List Region → ℕ → Region
+inSlot rs id = getD rs (slotOf id) noRegion
+
 -- HOW FAR THE WALK HAS COME: to place i, behind `before`, with the facts of one region kept
 pub record Walk (m : List ℕ) (rs : List Region) (ws : List Waiter) (f : Facts) (before : Waiter) (seen : List Bool) (w : Bool) (i : ℕ) : Type 0 where
   pub places : length ws ≡ tasks
   pub slots-in : length rs ≡ slots
   pub seats : length seen ≡ (tasks + 1)
-  pub kept : f ≡ factsOf m (f .id) (regionOf (queueOf rs ws) (f .id))
+  pub kept : f ≡ factsOf m (f .id) (inSlot rs (f .id))
   pub rest : left m (queueOf rs ws) seen before (drop i ws) ≡ w
 
--- a waiter is sound by the facts of its region
-by-facts : (m : List ℕ) (id : ℕ) (r : Region) (w : Waiter)
-    → soundIn (factsOf m id r) w ≡ (leb (w .task) tasks && (not (dead r) && (anyHeld m r && soundRequest (factsOf m id r) w)))
-by-facts m id r w = ap (λ (v : Bool). leb (w .task) tasks && v) (and-assoc (not (dead r)) (anyHeld m r) (soundRequest (factsOf m id r) w))
+-- a waiter is sound by the facts of what is in its region's slot, which are those of its region or of none
+module _ (m : List ℕ) (d : Manager) (w : Waiter) where
+  abbrev found : Region
+  found = inSlot (d .regions) (w .region)
+
+  abbrev its : Bool
+  its = hasId (found .name) (found .generation) (w .region)
+
+  facts-by : (b : Bool) → its ≡ b → soundIn (factsOf m (w .region) found) w ≡ soundWaiter m d w
+  unfolding soundWaiter
+  facts-by true e = rw (object-there (λ r. r .name) (λ r. r .generation) noRegion (d .regions) (w .region) e, e, and-first (not (dead found)) _ e)
+  facts-by false e = rw (object-none (λ r. r .name) (λ r. r .generation) noRegion (d .regions) (w .region) e, e)
+
+  by-facts : soundIn (factsOf m (w .region) found) w ≡ soundWaiter m d w
+  by-facts = facts-by its refl
+
+  found-region : soundIn (factsOf m (w .region) found) w ≡ true → found ≡ regionOf d (w .region)
+  found-region e =
+      sym
+      (object-there (λ r. r .name) (λ r. r .generation) noRegion (d .regions) (w .region)
+      (and-first its (anyHeld m found) (and-first (its && anyHeld m found) _ (and-second (leb (w .task) tasks) _ e))))
 
 no-facts : (m : List ℕ) → noFacts ≡ factsOf m 0 noRegion
 unfolding pageCount
@@ -203,16 +226,11 @@ pub facts-kept : (m : List ℕ) (kept : Facts) (id : ℕ) (r : Region) → kept 
 facts-kept m kept id r e = rw (eq-eqb (kept .id) id e)
 
 pub facts-new : (m : List ℕ) (kept : Facts) (id : ℕ) (r : Region) (l : Layout) (b : Bool) → (kept .id ≡ id → ⊥) → l ≡ layoutOf r
-    → b ≡ (not (dead r) && anyHeld m r)
+    → b ≡ (hasId (r .name) (r .generation) id && anyHeld m r)
     → record { id = id; region = r; pages = l .pages; held = b } ≡ cond (eqb (kept .id) id) kept (factsOf m id r)
 facts-new m kept id r l b e el eb = rw (ne-eqb (kept .id) id e, el, eb)
 
-getD-any : {A : Type 0} (l : List A) (i : ℕ) (x y : A) → i < length l → getD l i x ≡ getD l i y
-getD-any [] i x y h = absurd (omega arith)
-getD-any (a ∷ l) zero x y h = refl
-getD-any (a ∷ l) (suc i) x y h = getD-any l i x y (omega arith)
-
-no-region : (rs : List Region) (id : ℕ) → length rs ≡ slots → slots ≤ slotOf id → getD rs (slotOf id) noRegion ≡ noRegion
+no-region : (rs : List Region) (id : ℕ) → length rs ≡ slots → slots ≤ slotOf id → inSlot rs id ≡ noRegion
 no-region rs id h g = List·getD-eq-default rs noRegion (omega arith)
 
 module _ (m : List ℕ) (rs : List Region) (ws : List Waiter) where
@@ -224,7 +242,7 @@ module _ (m : List ℕ) (rs : List Region) (ws : List Waiter) where
         places = h;
         slots-in = g;
         seats = refl;
-        kept = rw (no-region rs 0 g (omega arith)) (no-facts m);
+        kept = rw (no-region rs 0 g no-slot) (no-facts m);
         rest = left-start m (queueOf rs ws);
       })
 
@@ -249,28 +267,32 @@ module _ (m : List ℕ) (rs : List Region) (ws : List Waiter) where
       walk-astray slot e g =
           sym
           (left-unsound m (queueOf rs ws) seen before (getD ws i z) (drop (i + 1) ws)
-          (place-by false (rw (no-region rs (getD ws i z .region) (v .slots-in) (omega arith)) (and-false (leb (getD ws i z .task) tasks)))))
+          (place-by false
+          (rw (object-beyond (λ r. r .name) (λ r. r .generation) noRegion rs refl (getD ws i z .region) (omega (arith, v .slots-in)))
+          (and-false (leb (getD ws i z .task) tasks)))))
           ∙ here
 
       -- with the facts of its region, kept or worked out
       module _ (slot : ℕ) (es : slot ≡ slotOf (getD ws i z .region)) (hs : slot < slots) (y : Region) (n : Facts)
           (en : n ≡ cond (eqb (f .id) (getD ws i z .region)) f (factsOf m (getD ws i z .region) (getD rs slot y))) where
-        looked-up : getD rs slot y ≡ regionOf (queueOf rs ws) (getD ws i z .region)
+        looked-up : getD rs slot y ≡ inSlot rs (getD ws i z .region)
         looked-up = getD-any rs slot y noRegion (omega (arith, v .slots-in)) ∙ rw es
 
         renewed-by : (b : Bool) → eqb (f .id) (getD ws i z .region) ≡ b
             → cond b f (factsOf m (getD ws i z .region) (getD rs slot y))
-            ≡ factsOf m (getD ws i z .region) (regionOf (queueOf rs ws) (getD ws i z .region))
+            ≡ factsOf m (getD ws i z .region) (inSlot rs (getD ws i z .region))
         renewed-by true e = rw (← eqb-true (f .id) (getD ws i z .region) e) (v .kept)
         renewed-by false e = rw looked-up
 
-        renewed : n ≡ factsOf m (getD ws i z .region) (regionOf (queueOf rs ws) (getD ws i z .region))
+        renewed : n ≡ factsOf m (getD ws i z .region) (inSlot rs (getD ws i z .region))
         renewed = en ∙ renewed-by (eqb (f .id) (getD ws i z .region)) refl
 
         module _ (b : Bool) (eb : b ≡ soundIn n (getD ws i z)) where
+          told : b ≡ soundIn (factsOf m (getD ws i z .region) (inSlot rs (getD ws i z .region))) (getD ws i z)
+          told = eb ∙ ap (λ (k : Facts). soundIn k (getD ws i z)) renewed
+
           waiter-told : (s : Bool) → b ≡ s → soundPlace m (queueOf rs ws) (getD ws i z) ≡ s
-          unfolding soundWaiter
-          waiter-told s e = place-by s (sym (sym e ∙ eb ∙ ap (λ (k : Facts). soundIn k (getD ws i z)) renewed ∙ by-facts m (getD ws i z .region) (regionOf (queueOf rs ws) (getD ws i z .region)) (getD ws i z)))
+          waiter-told s e = place-by s (sym (by-facts m (queueOf rs ws) (getD ws i z)) ∙ sym told ∙ e)
 
           pub walk-unsound : not b ≡ true → false ≡ w
           walk-unsound g =
@@ -289,7 +311,9 @@ module _ (m : List ℕ) (rs : List Region) (ws : List Waiter) where
 
             module _ (new : getD seen (getD ws i z .task) false ≡ false) (t : Bool) (et : t ≡ goesBefore (getD rs slot y .order) (getD ws i z) before) where
               order-told : inOrder (queueOf rs ws) before (getD ws i z) ≡ not t
-              order-told = rw (ne-eqb (getD ws i z .task) 0 u, et, looked-up)
+              order-told =
+                  let there = found-region m (queueOf rs ws) (getD ws i z) (sym told ∙ not-false b g) in
+                  rw (ne-eqb (getD ws i z .task) 0 u, et, looked-up, there)
 
               pub walk-wrong : t ≡ true → false ≡ w
               walk-wrong e =

@@ -1,11 +1,11 @@
 -- What a sound waiter is, by the facts of the region that it waits in: `soundWaiter` in two parts, a function of the code each. Assumes
 -- nothing.
 use Prim.Native.Nat.{ℕ}
-use mathlib.Core.Bool.{Bool, false, not, _&&_}
+use mathlib.Core.Bool.{Bool, false, _&&_}
 use mathlib.Core.List.{List, []}
 use lib.Dec.{leb}
-use Rattle.manager.specs.Record.{tasks, noRegion}
-use Rattle.manager.specs.Region.{dead, anyHeld, pagesOf, pagesAsked}
+use Rattle.manager.specs.Record.{tasks, noRegion, hasId}
+use Rattle.manager.specs.Region.{anyHeld, pagesOf, pagesAsked}
 use Rattle.manager.specs.declared.Manager.{Manager}
 use Rattle.manager.specs.declared.Region.{Region}
 use Rattle.manager.specs.declared.Waiter.{Waiter}
@@ -15,16 +15,16 @@ use Rattle.soundness.specs.declared.places.Facts.{Facts}
 abbrev pub queueOf : List Region → List Waiter → Manager
 queueOf rs ws = record { regions = rs; partitions = []; waiters = ws }
 
--- what is asked of a region: its pages, and "in a live region with something held"
+-- what is asked of what is in an id's slot: its pages, and "in a live region with something held", which has that id
 abbrev pub factsOf : List ℕ → ℕ → Region → Facts
-factsOf m id r = record { id = id; region = r; pages = pagesOf r; held = not (dead r) && anyHeld m r }
+factsOf m id r = record { id = id; region = r; pages = pagesOf r; held = hasId (r .name) (r .generation) id && anyHeld m r }
 
 abbrev pub noFacts : Facts
 noFacts = record { id = 0; region = noRegion; pages = 0; held = false }
 
--- no waiter goes before this one
+-- no waiter goes before this one: no slot is before that of id 1, and no priority below 0
 abbrev pub frontWaiter : Waiter
-frontWaiter = record { task = 1; region = 0; size = 0; priority = 0; ticks = 0 }
+frontWaiter = record { task = 1; region = 1; size = 0; priority = 0; ticks = 0 }
 
 -- "with a size from 1 that region can hold, a priority from 1 to 255"
 abbrev pub soundRequest : Facts → Waiter → Bool

@@ -2,17 +2,16 @@
 // which they are served. One walk makes all three checks, and only over the used places: behind an unused place all are unused.
 use arith::Layout;
 use manager::Manager;
-use manager::Order;
 use manager::Region;
 use manager::Waiter;
 ghost use mathlib.Core.Path.{_≡_};
-ghost use mathlib.Core.Bool.{cond, not, _&&_};
+ghost use mathlib.Core.Bool.{cond, _&&_};
 ghost use Prim.Native.Nat.{_≤_};
 ghost use lib.Dec.{eqb};
 ghost use lib.ListN.{drop};
 ghost use Rattle.manager.specs.Lists.{every};
-ghost use Rattle.manager.specs.Record.{tasks};
-ghost use Rattle.manager.specs.Region.{layoutOf, dead, anyHeld};
+ghost use Rattle.manager.specs.Record.{tasks, hasId};
+ghost use Rattle.manager.specs.Region.{layoutOf, anyHeld};
 ghost use Rattle.manager.specs.Sound.{emptyWaiter, soundQueue};
 ghost use Rattle.soundness.specs.Waiters.{factsOf, noFacts, frontWaiter, soundRequest, soundIn, queueOf};
 
@@ -38,8 +37,8 @@ fn empty_waiter(w: Waiter) -> bool
     w.ticks == 0
 }
 
-// What the check of a waiter asks of its region, worked out once for the waiters that stand together: how many pages it has, and whether
-// it is live with something held.
+// What the check of a waiter asks of what is in its region's slot, worked out once for the waiters that stand together: how many pages it
+// has, and whether it is the region, live with something held.
 struct Facts {
     id: u32,
     region: Region,
@@ -47,19 +46,19 @@ struct Facts {
     held: bool,
 }
 
-// Whether a region is live with something held.
-fn live_and_held(mem: &[u32], r: Region, l: Layout) -> bool
+// Whether what is in an id's slot is the region of that id, with something held.
+fn live_and_held(mem: &[u32], id: u32, r: Region, l: Layout) -> bool
     requires { ⌜ l ≡ layoutOf r ⌝ }
-    ensures { λ b. ⌜ b ≡ (not (dead r) && anyHeld (now (mem .entry)) r) ⌝ }
+    ensures { λ b. ⌜ b ≡ (hasId (r .name) (r .generation) id && anyHeld (now (mem .entry)) r) ⌝ }
 {
-    if r.name == 0 {
+    if !objects::has_id(r.name, r.generation, id) {
         return false;
     }
     let map = map::map_words(mem, l);
     map::any_held(map)
 }
 
-// The facts of a region; those kept where they are of the same one.
+// The facts of an id, by what is in its slot; those kept where they are of the same one.
 fn facts_of(mem: &[u32], kept: Facts, id: u32, r: Region) -> Facts
     ensures { λ f. ⌜ f ≡ cond (eqb (kept .id) id) kept (factsOf (now (mem .entry)) id r) ⌝ }
 {
@@ -67,7 +66,7 @@ fn facts_of(mem: &[u32], kept: Facts, id: u32, r: Region) -> Facts
         return kept;
     }
     let l = map::layout_of(r);
-    let held = live_and_held(mem, r, l);
+    let held = live_and_held(mem, id, r, l);
     Facts {
         id,
         region: r,
@@ -112,25 +111,19 @@ fn no_facts() -> Facts
 {
     Facts {
         id: 0,
-        region: Region {
-            name: 0,
-            start: 0,
-            length: 0,
-            page: 0,
-            order: Order::Fifo,
-        },
+        region: Region::emptied(0),
         pages: 0,
         held: false,
     }
 }
 
-// A waiter in front of every other: of the region before the first.
+// A waiter in front of every other: of id 1, whose slot is the first, and more urgent than any. Id 0 would stand behind all: it has no slot.
 fn in_front() -> Waiter
     ensures { λ w. ⌜ w ≡ frontWaiter ⌝ }
 {
     Waiter {
         task: 1,
-        region: 0,
+        region: 1,
         size: 0,
         priority: 0,
         ticks: 0,

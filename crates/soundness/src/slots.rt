@@ -1,11 +1,11 @@
-// The slots of the record: each is a sound object, or empty and all zeros.
+// The slots of the record: each is a sound object, or empty and all zeros but for its generation.
 use manager::Manager;
 use manager::Order;
 use manager::Partition;
 use manager::Region;
 ghost use mathlib.Core.Path.{_≡_};
 ghost use Rattle.manager.specs.Lists.{every};
-ghost use Rattle.manager.specs.Sound.{inside, soundPage, soundSize, emptyRegion, emptyPartition, soundRegion, soundPartition};
+ghost use Rattle.manager.specs.Sound.{inside, soundPage, soundSize, soundGeneration, emptyRegion, emptyPartition, liveRegion, livePartition, soundRegion, soundPartition};
 ghost use lib.ListN.{length};
 
 // Whether an area is inside the memory and does not start at 0.
@@ -44,7 +44,17 @@ fn sound_size(bytes: u32, size: u32) -> bool
     8 <= size
 }
 
-// Whether all but the name of an empty slot is 0.
+// Whether a slot's generation is one that it can have: an empty slot may be spent, a live one is not.
+fn sound_generation(name: u32, generation: u32) -> bool
+    ensures { λ b. ⌜ b ≡ soundGeneration name generation ⌝ }
+{
+    if name == 0 {
+        return generation <= Manager::GENERATIONS;
+    }
+    generation < Manager::GENERATIONS
+}
+
+// Whether all but the name and the generation of an empty slot is 0.
 fn empty_region(r: Region) -> bool
     ensures { λ b. ⌜ b ≡ emptyRegion r ⌝ }
 {
@@ -64,13 +74,10 @@ fn empty_region(r: Region) -> bool
     }
 }
 
-// Whether a region slot is empty, or a region whose area, page size and map are sound.
-fn sound_region(mem: &[u32], r: Region) -> bool
-    ensures { λ b. ⌜ b ≡ soundRegion (now (mem .entry)) r ⌝ }
+// Whether a region's area, page size and map are sound.
+fn live_region(mem: &[u32], r: Region) -> bool
+    ensures { λ b. ⌜ b ≡ liveRegion (now (mem .entry)) r ⌝ }
 {
-    if r.name == 0 {
-        return empty_region(r);
-    }
     if !is_inside(mem, r.start, r.length) {
         return false;
     }
@@ -85,7 +92,20 @@ fn sound_region(mem: &[u32], r: Region) -> bool
     map::is_sound(words)
 }
 
-// Whether all but the name of an empty slot is 0.
+// Whether a region slot has a sound generation, and is empty or a sound region.
+fn sound_region(mem: &[u32], r: Region) -> bool
+    ensures { λ b. ⌜ b ≡ soundRegion (now (mem .entry)) r ⌝ }
+{
+    if !sound_generation(r.name, r.generation) {
+        return false;
+    }
+    if r.name == 0 {
+        return empty_region(r);
+    }
+    live_region(mem, r)
+}
+
+// Whether all but the name and the generation of an empty slot is 0.
 fn empty_partition(p: Partition) -> bool
     ensures { λ b. ⌜ b ≡ emptyPartition p ⌝ }
 {
@@ -107,13 +127,10 @@ fn empty_partition(p: Partition) -> bool
     p.free == 0
 }
 
-// Whether a partition slot is empty, or a partition whose area, buffer size and chain are sound.
-fn sound_partition(mem: &[u32], p: Partition) -> bool
-    ensures { λ b. ⌜ b ≡ soundPartition (now (mem .entry)) p ⌝ }
+// Whether a partition's area, buffer size and chain are sound.
+fn live_partition(mem: &[u32], p: Partition) -> bool
+    ensures { λ b. ⌜ b ≡ livePartition (now (mem .entry)) p ⌝ }
 {
-    if p.name == 0 {
-        return empty_partition(p);
-    }
     if !is_inside(mem, p.start, p.length) {
         return false;
     }
@@ -124,6 +141,19 @@ fn sound_partition(mem: &[u32], p: Partition) -> bool
         return false;
     }
     super::chains::sound_chain(mem, p)
+}
+
+// Whether a partition slot has a sound generation, and is empty or a sound partition.
+fn sound_partition(mem: &[u32], p: Partition) -> bool
+    ensures { λ b. ⌜ b ≡ soundPartition (now (mem .entry)) p ⌝ }
+{
+    if !sound_generation(p.name, p.generation) {
+        return false;
+    }
+    if p.name == 0 {
+        return empty_partition(p);
+    }
+    live_partition(mem, p)
 }
 
 // Whether every region slot is sound.

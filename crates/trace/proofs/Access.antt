@@ -72,8 +72,8 @@ module _ (m : List ℕ) (d : Manager) (t : Receipts) (v : Inv m d t) where
   passed : (id a first : ℕ) (words : List ℕ) (r : Region) (o : Option RegionEntry) → t .regions id ≡ o → RegionSlot m r o
       → dead r ≡ false → eqb (heldAt m r a) 0 ≡ false → ltb (heldAt m r a * r .page / 4) (first + length words) ≡ false
       → ClientsWrite t m (sets m (a / 4 + first) words)
-  passed id a first words r o f empty x y z = absurd (let q : _≡_ {A = ℕ} 0 1 = cc in omega arith)
-  passed id a first words r o f (live e is) x y z =
+  passed id a first words r o f (empty g) x y z = absurd (let q : _≡_ {A = ℕ} 0 1 = cc in omega arith)
+  passed id a first words r o f (live g e is) x y z =
       stored m t id e f is a (heldAt m (regionFor e) a) first words (lent-held m e is a y)
       (ltb-false (heldAt m (regionFor e) a * unit e / 4) (first + length words) z)
 

@@ -1,25 +1,29 @@
--- The areas of a sound record share no byte, so that a change inside one object's area leaves every other object's picture as it was;
--- and putting an object into a slot keeps the areas sound where its area meets none of the others. Everything goes by objects: two
--- different objects have areas that share no byte, where an empty slot's area has no byte at all. Assumes nothing.
+-- The areas of a sound record share no byte, so that a change inside one object's area leaves every other object's picture as it was: two
+-- different objects have areas that share no byte, where an id that names none has no byte at all. And putting an object into a slot
+-- keeps the areas sound where its area meets those in no other place. Assumes nothing.
 use mathlib.Core.Path.{_≡_, refl, sym, ap, _∙_, subst}
-use mathlib.Core.Bool.{Bool, true, false, cond, not}
-use mathlib.Core.List.{List, [], _∷_}
+use mathlib.Core.Bool.{true, false, cond, not}
+use mathlib.Core.List.{List, [], _∷_, _++_}
 use mathlib.Core.Logic.{_⊎_, inl, inr, ⊎-elim}
 use mathlib.Core.Option.{Option}
-use Prim.Native.Nat.{ℕ, zero, suc, _+_, _-_, _/_, _≤_, _<_}
+use Prim.Native.Nat.{ℕ, zero, suc, _+_, _-_, _/_, _<_}
 use native.Mathlib.Omega.{arith}
-use lib.ListN.{length, getD, length-append, length-set, List·getD-append, List·getD-eq-default}
-use lib.Seq.{getD-append-add, getD-set-same, getD-set-other}
-use lib.Dec.{leb, ltb}
-use borrow.Author.Tests.{leb-true, leb-false, le-ltb, lt-ltb, not-true}
-use Rattle.manager.specs.Record.{slots, noRegion, noPartition, slotOf, idOf, regionOf, partitionOf, withRegion, withPartition}
+use lib.ListN.{length, getD, set, length-append, length-set, List·getD-append}
+use lib.Seq.{getD-append-add, getD-set-same, getD-set-other, set-append-left}
+use lib.Dec.{ltb}
+use borrow.Author.Tests.{le-ltb, lt-ltb, not-true}
+use Rattle.manager.specs.Record.{slots, noRegion, noPartition, emptiedRegion, emptiedPartition, slotOf, idOf, regionOf, partitionOf, withRegion, withPartition}
+use Rattle.manager.specs.Lists.{pairwise}
 use Rattle.manager.specs.Region.{areaOf, regionAreas, partitionAreas, areas, overlap}
-use Rattle.manager.specs.Regions.{overlaps}
+use Rattle.manager.specs.Regions.{overlaps, regionId}
+use Rattle.manager.specs.Partitions.{partitionId}
 use Rattle.manager.specs.Sound.{soundAreas}
 use Rattle.manager.specs.declared.Area.{Area}
 use Rattle.manager.specs.declared.Manager.{Manager}
 use Rattle.manager.specs.declared.Region.{Region}
 use Rattle.manager.specs.declared.Partition.{Partition}
+use Rattle.manager.proofs.Laws.Distinct.{same-or-not}
+use Rattle.manager.proofs.Laws.Ids.{id-back, Live, live-within, object-cases}
 use Rattle.trace.specs.Receipts.{RegionEntry, PartitionEntry}
 use Rattle.trace.specs.Trace.{Object, region, partition}
 use Rattle.trace.proofs.Invariant.{Inside, Only, regionFor, RegionSlot, PartitionSlot, empty, live}
@@ -41,24 +45,6 @@ areaIn d (partition id) = areaOf (partitionOf d id)
 
 pub no-area : (a : Area) → Clear noArea a
 no-area a = inl (omega arith)
-
--- a slot's number, and the id that names it
-pub slot-differs : (id i : ℕ) → i < slots → ¬ (id ≡ idOf i) → ¬ (slotOf id ≡ i)
-slot-differs zero i h n e = omega arith
-slot-differs (suc j) i h n e = n (ap suc e)
-
--- an id is of a slot, or it names none
-pub record OfSlot (id : ℕ) : Type 0 where
-  pub within : slotOf id < slots
-  pub is : idOf (slotOf id) ≡ id
-
-pub slot-of : (id : ℕ) → OfSlot id ⊎ (slots ≤ slotOf id)
-slot-of zero = inr (omega arith)
-slot-of (suc i) = go (leb slots i) refl
-  where
-    go : (b : Bool) → leb slots i ≡ b → OfSlot (suc i) ⊎ (slots ≤ i)
-    go true e = inr (leb-true slots i e)
-    go false e = inl (record { within = leb-false slots i e; is = refl })
 
 -- the places of the areas in the list of all
 length-regions : (rs : List Region) → length (regionAreas rs) ≡ length rs
@@ -88,45 +74,21 @@ abbrev placeOf : Object → ℕ
 placeOf (region id) = slotOf id
 placeOf (partition id) = slots + slotOf id
 
--- and the object of a place
-unfoldable objectAt : ℕ → Object
-objectAt i = cond (ltb i slots) (region (idOf i)) (partition (idOf (i - slots)))
+-- and the object of a place, by the generation of its slot
+unfoldable objectAt : Manager → ℕ → Object
+objectAt d i = cond (ltb i slots) (region (regionId d i)) (partition (partitionId d (i - slots)))
 
-object-region : (i : ℕ) → i < slots → objectAt i ≡ region (idOf i)
+object-region : (d : Manager) (i : ℕ) → i < slots → objectAt d i ≡ region (regionId d i)
 unfolding objectAt
-object-region i h = rw (lt-ltb i slots h)
+object-region d i h = rw (lt-ltb i slots h)
 
-object-partition : (i : ℕ) → objectAt (slots + i) ≡ partition (idOf i)
+object-partition : (d : Manager) (i : ℕ) → objectAt d (slots + i) ≡ partition (partitionId d i)
 unfolding objectAt
-object-partition i =
+object-partition d i =
     let e : slots + i - slots ≡ i = omega arith in
     rw (le-ltb (slots + i) slots (omega arith), e)
 
-place-object : (i : ℕ) → placeOf (objectAt i) ≡ i
-place-object i = go (leb slots i) refl
-  where
-    go : (b : Bool) → leb slots i ≡ b → placeOf (objectAt i) ≡ i
-    go false e = ap placeOf (object-region i (leb-false slots i e))
-    go true e =
-        let h : slots ≤ i = leb-true slots i e in
-        let f : slots + (i - slots) ≡ i = omega arith in
-        ap (λ (j : ℕ). placeOf (objectAt j)) (sym f) ∙ ap placeOf (object-partition (i - slots)) ∙ f
-
 module _ (d : Manager) (nr : length (d .regions) ≡ slots) (np : length (d .partitions) ≡ slots) where
-  -- an id beyond the slots names an empty one
-  pub region-beyond : (id : ℕ) → slots ≤ slotOf id → regionOf d id ≡ noRegion
-  region-beyond id h = List·getD-eq-default (d .regions) noRegion (omega arith)
-
-  pub partition-beyond : (id : ℕ) → slots ≤ slotOf id → partitionOf d id ≡ noPartition
-  partition-beyond id h = List·getD-eq-default (d .partitions) noPartition (omega arith)
-
-  -- what is live has a slot
-  pub region-slot : (id : ℕ) → ¬ (regionOf d id .name ≡ 0) → OfSlot id
-  region-slot id n = ⊎-elim (λ (s : OfSlot id). s) (λ (h : slots ≤ slotOf id). absurd (n (ap (λ (r : Region). r .name) (region-beyond id h)))) (slot-of id)
-
-  pub partition-slot : (id : ℕ) → ¬ (partitionOf d id .name ≡ 0) → OfSlot id
-  partition-slot id n = ⊎-elim (λ (s : OfSlot id). s) (λ (h : slots ≤ slotOf id). absurd (n (ap (λ (p : Partition). p .name) (partition-beyond id h)))) (slot-of id)
-
   length-all : length (areas d) ≡ slots + slots
   length-all = length-append (regionAreas (d .regions)) (partitionAreas (d .partitions)) ∙ omega (arith, length-regions (d .regions), length-partitions (d .partitions))
 
@@ -146,42 +108,31 @@ module _ (d : Manager) (nr : length (d .regions) ≡ slots) (np : length (d .par
   record Listed (o : Object) : Type 0 where
     within : placeOf o < slots + slots
     is : getD (areas d) (placeOf o) noArea ≡ areaIn d o
-    object : objectAt (placeOf o) ≡ o
+    object : objectAt d (placeOf o) ≡ o
 
   listed : (o : Object) → Listed o ⊎ (areaIn d o ≡ noArea)
-  listed (region id) = go (slot-of id)
-    where
-      go : OfSlot id ⊎ (slots ≤ slotOf id) → Listed (region id) ⊎ (areaIn d (region id) ≡ noArea)
-      go (inl s) =
-          inl (record {
-            within = omega (arith, s .within);
-            is = region-place (slotOf id) (s .within);
-            object = object-region (slotOf id) (s .within) ∙ ap region (s .is);
-          })
-      go (inr h) = inr (ap areaFor (region-beyond id h))
-  listed (partition id) = go (slot-of id)
-    where
-      go : OfSlot id ⊎ (slots ≤ slotOf id) → Listed (partition id) ⊎ (areaIn d (partition id) ≡ noArea)
-      go (inl s) =
-          inl (record {
-            within = omega (arith, s .within);
-            is = partition-place (slotOf id);
-            object = object-partition (slotOf id) ∙ ap partition (s .is);
-          })
-      go (inr h) = inr (ap areaOf (partition-beyond id h))
-
-  -- and each place has an object's area
-  place-area : (i : ℕ) → getD (areas d) i noArea ≡ areaIn d (objectAt i)
-  place-area i = go (leb slots i) refl
-    where
-      go : (b : Bool) → leb slots i ≡ b → getD (areas d) i noArea ≡ areaIn d (objectAt i)
-      go false e = region-place i (leb-false slots i e) ∙ ap (areaIn d) (sym (object-region i (leb-false slots i e)))
-      go true e =
-          let h : slots ≤ i = leb-true slots i e in
-          let f : slots + (i - slots) ≡ i = omega arith in
-          ap (λ (j : ℕ). getD (areas d) j noArea) (sym f)
-          ∙ partition-place (i - slots)
-          ∙ ap (areaIn d) (sym (object-partition (i - slots)) ∙ ap objectAt f)
+  listed (region id) =
+      ⊎-elim
+      (λ (v : Live (λ (r : Region). r .name) (λ r. r .generation) noRegion (d .regions) id).
+      let w : slotOf id < slots = (let k = live-within (λ (r : Region). r .name) (λ r. r .generation) noRegion (d .regions) refl id v in omega arith) in
+      inl (record {
+        within = omega arith;
+        is = region-place (slotOf id) w ∙ ap areaFor (sym (v .is));
+        object = object-region d (slotOf id) w ∙ ap region (ap (idOf (slotOf id)) (v .same) ∙ id-back id w);
+      }))
+      (λ (e : regionOf d id ≡ noRegion). inr (ap areaFor e))
+      (object-cases (λ r. r .name) (λ r. r .generation) noRegion (d .regions) id)
+  listed (partition id) =
+      ⊎-elim
+      (λ (v : Live (λ (p : Partition). p .name) (λ p. p .generation) noPartition (d .partitions) id).
+      let w : slotOf id < slots = (let k = live-within (λ (p : Partition). p .name) (λ p. p .generation) noPartition (d .partitions) refl id v in omega arith) in
+      inl (record {
+        within = omega arith;
+        is = partition-place (slotOf id) ∙ ap areaOf (sym (v .is));
+        object = object-partition d (slotOf id) ∙ ap partition (ap (idOf (slotOf id)) (v .same) ∙ id-back id w);
+      }))
+      (λ (e : partitionOf d id ≡ noPartition). inr (ap areaOf e))
+      (object-cases (λ p. p .name) (λ p. p .generation) noPartition (d .partitions) id)
 
   -- areas at two places
   places-clear : soundAreas d ≡ true → (i j : ℕ) → i < slots + slots → j < slots + slots → ¬ (i ≡ j)
@@ -207,17 +158,8 @@ module _ (d : Manager) (nr : length (d .regions) ≡ slots) (np : length (d .par
       go (inr f) y = subst (λ (a : Area). Clear a (areaIn d q)) (sym f) (no-area (areaIn d q))
       go (inl x) (inr f) = subst (λ (a : Area). Clear (areaIn d o) a) (sym f) (clear-flip noArea (areaIn d o) (no-area (areaIn d o)))
       go (inl x) (inl y) =
-          let c = places-clear e (placeOf o) (placeOf q) (x .within) (y .within) (λ (f : placeOf o ≡ placeOf q). n (sym (x .object) ∙ ap objectAt f ∙ y .object)) in
+          let c = places-clear e (placeOf o) (placeOf q) (x .within) (y .within) (λ (f : placeOf o ≡ placeOf q). n (sym (x .object) ∙ ap (objectAt d) f ∙ y .object)) in
           rw (x .is, y .is) at c
-
-  -- and that is all that the test asks
-  pub clear-sound : ((o q : Object) → ¬ (o ≡ q) → Clear (areaIn d o) (areaIn d q)) → soundAreas d ≡ true
-  clear-sound h =
-      at-pairwise noArea (λ a b. not (overlap a b)) (areas d)
-      (λ i j l u. rw (overlap-of (getD (areas d) i noArea) (getD (areas d) j noArea)
-      (rw (place-area i, place-area j)
-      (h (objectAt i) (objectAt j) (λ (f : objectAt i ≡ objectAt j).
-      omega (arith, place-object i, place-object j, ap placeOf f))))))
 
   -- an area that meets none
   pub overlaps-clear : (a : Area) → overlaps d a ≡ false → (o : Object) → Clear a (areaIn d o)
@@ -243,60 +185,80 @@ same-object (partition i) (partition j) =
 same-object (region i) (partition j) = inr (λ (e : region i ≡ partition j). let z : _≡_ {A = ℕ} 0 1 = cc in omega arith)
 same-object (partition i) (region j) = inr (λ (e : partition i ≡ region j). let z : _≡_ {A = ℕ} 0 1 = cc in omega arith)
 
--- a record that differs from a sound one in one object, whose area meets none of the others, has sound areas
-pub put-sound : (d d′ : Manager) → length (d .regions) ≡ slots → length (d .partitions) ≡ slots → length (d′ .regions) ≡ slots → length (d′ .partitions) ≡ slots
-    → (x : Object) → ((o : Object) → ¬ (o ≡ x) → areaIn d′ o ≡ areaIn d o)
-    → soundAreas d ≡ true → ((o : Object) → ¬ (o ≡ x) → Clear (areaIn d′ x) (areaIn d o)) → soundAreas d′ ≡ true
-put-sound d d′ nr np nr′ np′ x same e h = clear-sound d′ nr′ np′ (λ o q n. go o q n (same-object o x) (same-object q x))
+-- another area in one place, which meets those in no other, leaves a sound list sound
+put-sound : (l : List Area) (i : ℕ) (a : Area) → pairwise (λ a b. not (overlap a b)) l ≡ true → i < length l
+    → ((j : ℕ) → j < length l → ¬ (j ≡ i) → Clear a (getD l j noArea)) → pairwise (λ a b. not (overlap a b)) (set l i a) ≡ true
+put-sound l i a e h c = at-pairwise noArea (λ a b. not (overlap a b)) (set l i a) (λ j k u w. rw (overlap-of _ _ (two j k u (omega (arith, length-set l i a)))))
   where
-    go : (o q : Object) → ¬ (o ≡ q) → (o ≡ x) ⊎ (¬ (o ≡ x)) → (q ≡ x) ⊎ (¬ (q ≡ x)) → Clear (areaIn d′ o) (areaIn d′ q)
-    go o q n (inl f) (inl g) = absurd (n (f ∙ sym g))
-    go o q n (inl f) (inr g) = rw (f, same q g) (h q g)
-    go o q n (inr f) (inl g) = rw (g, same o f) (clear-flip (areaIn d′ x) (areaIn d o) (h o f))
-    go o q n (inr f) (inr g) = rw (same o f, same q g) (sound-clear d nr np e o q n)
+    old : (j k : ℕ) → j < k → k < length l → Clear (getD l j noArea) (getD l k noArea)
+    old j k u w = clear-of _ _ (not-true _ (pairwise-at noArea (λ a b. not (overlap a b)) l j k e u w))
 
-module _ (d : Manager) (nr : length (d .regions) ≡ slots) (np : length (d .partitions) ≡ slots) (i : ℕ) (h : i < slots) where
-  -- what stands there then, and elsewhere
-  pub region-there : (r : Region) → regionOf (withRegion d i r) (idOf i) ≡ r
-  region-there r = getD-set-same (d .regions) i r noRegion (omega arith)
+    two : (j k : ℕ) → j < k → k < length l → Clear (getD (set l i a) j noArea) (getD (set l i a) k noArea)
+    two j k u w =
+        ⊎-elim
+        (λ (p : j ≡ i). rw (p, getD-set-same l i a noArea h, getD-set-other l i k a noArea (λ q. omega arith)) (c k w (λ q. omega arith)))
+        (λ (p : j ≡ i → ⊥).
+        rw (getD-set-other l i j a noArea p)
+        (⊎-elim
+        (λ (q : k ≡ i). rw (q, getD-set-same l i a noArea h) (clear-flip a (getD l j noArea) (c j (omega arith) p)))
+        (λ (q : k ≡ i → ⊥). rw (getD-set-other l i k a noArea q) (old j k u w))
+        (same-or-not k i)))
+        (same-or-not j i)
 
-  pub region-elsewhere : (r : Region) (id : ℕ) → ¬ (id ≡ idOf i) → regionOf (withRegion d i r) id ≡ regionOf d id
-  region-elsewhere r id n = getD-set-other (d .regions) i (slotOf id) r noRegion (slot-differs id i h n)
+-- the areas with another object in a slot
+areas-set : (rs : List Region) (i : ℕ) (r : Region) → regionAreas (set rs i r) ≡ set (regionAreas rs) i (areaFor r)
+unfolding regionAreas
+areas-set [] i r = refl
+areas-set (x ∷ rs) zero r = refl
+areas-set (x ∷ rs) (suc i) r = ap (λ (l : List Area). areaFor x ∷ l) (areas-set rs i r)
 
-  pub partition-there : (p : Partition) → partitionOf (withPartition d i p) (idOf i) ≡ p
-  partition-there p = getD-set-same (d .partitions) i p noPartition (omega arith)
+partition-areas-set : (ps : List Partition) (i : ℕ) (p : Partition) → partitionAreas (set ps i p) ≡ set (partitionAreas ps) i (areaOf p)
+unfolding partitionAreas
+partition-areas-set [] i p = refl
+partition-areas-set (x ∷ ps) zero p = refl
+partition-areas-set (x ∷ ps) (suc i) p = ap (λ (l : List Area). areaOf x ∷ l) (partition-areas-set ps i p)
 
-  pub partition-elsewhere : (p : Partition) (id : ℕ) → ¬ (id ≡ idOf i) → partitionOf (withPartition d i p) id ≡ partitionOf d id
-  partition-elsewhere p id n = getD-set-other (d .partitions) i (slotOf id) p noPartition (slot-differs id i h n)
+set-append-right : {A : Type 0} (xs ys : List A) (i : ℕ) (a : A) → xs ++ set ys i a ≡ set (xs ++ ys) (length xs + i) a
+set-append-right [] ys i a = let e : 0 + i ≡ i = omega arith in rw e
+set-append-right (x ∷ xs) ys i a = let e : suc (length xs) + i ≡ suc (length xs + i) = omega arith in rw e (ap (_∷_ x) (set-append-right xs ys i a))
 
-  -- the areas of the others stay
-  region-others : (r : Region) (o : Object) → ¬ (o ≡ region (idOf i)) → areaIn (withRegion d i r) o ≡ areaIn d o
-  region-others r (region id) n = ap areaFor (region-elsewhere r id (λ (e : id ≡ idOf i). n (ap region e)))
-  region-others r (partition id) n = refl
+-- AN OBJECT PUT INTO A SLOT KEEPS THE AREAS SOUND: a new one whose area meets no other, one without an area, one with the area that was there
+module _ (d : Manager) (nr : length (d .regions) ≡ slots) (np : length (d .partitions) ≡ slots) (i : ℕ) (h : i < slots) (e : soundAreas d ≡ true) where
+  region-put : (r : Region) → ((j : ℕ) → j < length (areas d) → ¬ (j ≡ i) → Clear (areaFor r) (getD (areas d) j noArea)) → soundAreas (withRegion d i r) ≡ true
+  region-put r c =
+      let rs = regionAreas (d .regions) in
+      let ps = partitionAreas (d .partitions) in
+      let f : set rs i (areaFor r) ++ ps ≡ set (rs ++ ps) i (areaFor r) = sym (set-append-left rs ps i (areaFor r) (omega (arith, length-regions (d .regions)))) in
+      rw (areas-set (d .regions) i r, f) (put-sound (areas d) i (areaFor r) e (omega (arith, length-all d nr np)) c)
 
-  partition-others : (p : Partition) (o : Object) → ¬ (o ≡ partition (idOf i)) → areaIn (withPartition d i p) o ≡ areaIn d o
-  partition-others p (region id) n = refl
-  partition-others p (partition id) n = ap areaOf (partition-elsewhere p id (λ (e : id ≡ idOf i). n (ap partition e)))
+  partition-put : (p : Partition) → ((j : ℕ) → j < length (areas d) → ¬ (j ≡ slots + i) → Clear (areaOf p) (getD (areas d) j noArea)) → soundAreas (withPartition d i p) ≡ true
+  partition-put p c =
+      let rs = regionAreas (d .regions) in
+      let ps = partitionAreas (d .partitions) in
+      let k : length rs + i ≡ slots + i = omega (arith, length-regions (d .regions)) in
+      rw (partition-areas-set (d .partitions) i p, set-append-right rs ps i (areaOf p), k)
+      (put-sound (areas d) (slots + i) (areaOf p) e (omega (arith, length-all d nr np)) c)
 
-  -- A REGION PUT INTO A SLOT KEEPS THE AREAS SOUND where its area meets none of the others
-  module _ (e : soundAreas d ≡ true) where
-    pub areas-region : (r : Region) → ((o : Object) → ¬ (o ≡ region (idOf i)) → Clear (areaFor r) (areaIn d o)) → soundAreas (withRegion d i r) ≡ true
-    areas-region r c =
-        put-sound d (withRegion d i r) nr np (length-set (d .regions) i r ∙ nr) np (region (idOf i)) (region-others r) e
-        (λ o n. rw (region-there r) (c o n))
+  meets-none : (a : Area) → overlaps d a ≡ false → (k j : ℕ) → j < length (areas d) → ¬ (j ≡ k) → Clear a (getD (areas d) j noArea)
+  meets-none a f k j u n = clear-of a (getD (areas d) j noArea) (none-at noArea (overlap a) (areas d) j f u)
 
-    -- a new one whose area meets no other; an empty one
-    pub areas-new-region : (r : Region) → overlaps d (areaFor r) ≡ false → soundAreas (withRegion d i r) ≡ true
-    areas-new-region r f = areas-region r (λ o n. overlaps-clear d nr np (areaFor r) f o)
+  pub areas-new-region : (r : Region) → overlaps d (areaFor r) ≡ false → soundAreas (withRegion d i r) ≡ true
+  areas-new-region r f = region-put r (meets-none (areaFor r) f i)
 
-    pub areas-no-region : soundAreas (withRegion d i noRegion) ≡ true
-    areas-no-region = areas-region noRegion (λ o n. no-area (areaIn d o))
+  pub areas-no-region : (g : ℕ) → soundAreas (withRegion d i (emptiedRegion g)) ≡ true
+  areas-no-region g = region-put (emptiedRegion g) (λ j u n. no-area (getD (areas d) j noArea))
 
-    -- the same of a partition
-    pub areas-partition : (p : Partition) → ((o : Object) → ¬ (o ≡ partition (idOf i)) → Clear (areaOf p) (areaIn d o)) → soundAreas (withPartition d i p) ≡ true
-    areas-partition p c =
-        put-sound d (withPartition d i p) nr np nr (length-set (d .partitions) i p ∙ np) (partition (idOf i)) (partition-others p) e
-        (λ o n. rw (partition-there p) (c o n))
+  pub areas-new-partition : (p : Partition) → overlaps d (areaOf p) ≡ false → soundAreas (withPartition d i p) ≡ true
+  areas-new-partition p f = partition-put p (meets-none (areaOf p) f (slots + i))
+
+  pub areas-no-partition : (g : ℕ) → soundAreas (withPartition d i (emptiedPartition g)) ≡ true
+  areas-no-partition g = partition-put (emptiedPartition g) (λ j u n. no-area (getD (areas d) j noArea))
+
+  pub areas-same-partition : (p : Partition) → areaOf p ≡ areaOf (getD (d .partitions) i noPartition) → soundAreas (withPartition d i p) ≡ true
+  areas-same-partition p q =
+      partition-put p
+      (λ j u n. subst (λ (a : Area). Clear a (getD (areas d) j noArea)) (partition-place d nr np i ∙ sym q)
+      (places-clear d nr np e (slots + i) j (omega arith) (omega (arith, length-all d nr np)) (λ f. n (sym f))))
 
 -- ---- a change inside one area
 
@@ -306,9 +268,9 @@ pub region-kept : (m m′ : List ℕ) (a : Area) (r : Region) (o : Option Region
 region-kept m m′ a r o c f s = go r o f s
   where
     go : (r : Region) (o : Option RegionEntry) → Clear a (areaFor r) → RegionSlot m r o → RegionSlot m′ r o
-    go r o f empty = empty
-    go r o f (live e is) =
-        live e (region-same m e is m′ (c .size)
+    go r o f (empty g) = empty g
+    go r o f (live g e is) =
+        live g e (region-same m e is m′ (c .size)
         (λ w l h. c .same w (λ (i : Inside (a .start) (a .length) w). clear-words a (areaFor (regionFor e)) w f i (region-inside m e is w l h))))
 
 pub partition-kept : (m m′ : List ℕ) (a : Area) (p : Partition) (o : Option PartitionEntry) → Only (a .start) (a .length) m m′ → Clear a (areaOf p)
@@ -316,7 +278,7 @@ pub partition-kept : (m m′ : List ℕ) (a : Area) (p : Partition) (o : Option 
 partition-kept m m′ a p o c f s = go p o f s
   where
     go : (p : Partition) (o : Option PartitionEntry) → Clear a (areaOf p) → PartitionSlot m p o → PartitionSlot m′ p o
-    go p o f empty = empty
+    go p o f (empty g) = empty g
     go p o f (live q e is) =
         let stays : (w : ℕ) → Inside (p .start) (p .length) w → getD m′ w 0 ≡ getD m w 0 =
         λ w h. c .same w (λ (i : Inside (a .start) (a .length) w). clear-words a (areaOf p) w f i h) in

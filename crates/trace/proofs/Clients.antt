@@ -21,7 +21,7 @@ use Rattle.manager.specs.Lists.{In}
 use Rattle.trace.specs.Loans.{Lent}
 use Rattle.trace.specs.Receipts.{Receipts, RegionEntry, PartitionEntry, unit, pagesIn, addressIn, pageIn, pageLoans}
 use Rattle.trace.specs.Trace.{Object, region, partition, Loaned, segment, buffer, Owned, ClientsWrite}
-use Rattle.trace.proofs.Invariant.{Inside, regionFor, RegionIs, RegionSlot, PartitionIs, PartitionSlot, Inv, empty, live, OnlyMap}
+use Rattle.trace.proofs.Invariant.{Inside, regionAs, regionFor, RegionIs, RegionSlot, PartitionIs, PartitionSlot, Inv, empty, live, OnlyMap}
 use Rattle.trace.proofs.Frame.{map-at, unit-whole, whole-times, pages-from, pages-upto, region-inside, region-same, partition-shaped, buffer-lies, buffers-apart, chained-buffer, link-next, link-before, buffer-inside, partition-same}
 use Rattle.trace.proofs.Segments.{law, regular, loan-holds}
 use Rattle.trace.proofs.Areas.{areaFor, areaIn, sound-clear, same-object}
@@ -30,17 +30,18 @@ use Rattle.trace.proofs.Disjoint.{clear-words}
 -- ---- what stands in a live slot
 
 pub record RegionAt (m : List ℕ) (r : Region) (e : RegionEntry) : Type 0 where
-  pub region : r ≡ regionFor e
+  pub generation : ℕ
+  pub region : r ≡ regionAs generation e
   pub is : RegionIs m e
 
 pub region-at : (m : List ℕ) (r : Region) (o : Option RegionEntry) (e : RegionEntry) → RegionSlot m r o → o ≡ some e → RegionAt m r e
-region-at m r o e empty f = absurd (let z : _≡_ {A = ℕ} 0 1 = cc in omega arith)
-region-at m r o e (live e′ is) f =
-    let g : e′ ≡ e = cc in
-    record { region = ap regionFor g; is = subst (λ (x : RegionEntry). RegionIs m x) g is }
+region-at m r o e (empty g) f = absurd (let z : _≡_ {A = ℕ} 0 1 = cc in omega arith)
+region-at m r o e (live g e′ is) f =
+    let h : e′ ≡ e = cc in
+    record { generation = g; region = ap (regionAs g) h; is = subst (λ (x : RegionEntry). RegionIs m x) h is }
 
 pub partition-at : (m : List ℕ) (p : Partition) (o : Option PartitionEntry) (e : PartitionEntry) → PartitionSlot m p o → o ≡ some e → PartitionIs m p e
-partition-at m p o e empty f = absurd (let z : _≡_ {A = ℕ} 0 1 = cc in omega arith)
+partition-at m p o e (empty g) f = absurd (let z : _≡_ {A = ℕ} 0 1 = cc in omega arith)
 partition-at m p o e (live q e′ is) f =
     let g : e′ ≡ e = cc in
     subst (λ (x : PartitionEntry). PartitionIs m p x) g is
@@ -160,17 +161,19 @@ module _ (m : List ℕ) (d : Manager) (t : Receipts) (v : Inv m d t) where
           partition-slots = v .picture .partition-slots;
           regions = λ id. keep-region id (regionOf d id) (t .regions id) refl (v .picture .regions id);
           partitions = λ id. keep-partition id (partitionOf d id) (t .partitions id) refl refl (v .picture .partitions id);
+          region-is = v .picture .region-is;
+          partition-is = v .picture .partition-is;
           areas = v .picture .areas;
         };
         waits = v .waits;
       }
     where
       keep-region : (id : ℕ) (r : Region) (o : Option RegionEntry) → t .regions id ≡ o → RegionSlot m r o → RegionSlot m′ r o
-      keep-region id r o f empty = empty
-      keep-region id r o f (live e is) = live e (region-same m e is m′ (c .size) (λ w lo hi. c .others w (map-not-owned id e f w lo hi)))
+      keep-region id r o f (empty g) = empty g
+      keep-region id r o f (live g e is) = live g e (region-same m e is m′ (c .size) (λ w lo hi. c .others w (map-not-owned id e f w lo hi)))
 
       keep-partition : (id : ℕ) (p : Partition) (o : Option PartitionEntry) → partitionOf d id ≡ p → t .partitions id ≡ o → PartitionSlot m p o → PartitionSlot m′ p o
-      keep-partition id p o q f empty = empty
+      keep-partition id p o q f (empty g) = empty g
       keep-partition id p o q f (live x e is) =
           live p e (partition-same m p e is m′ (c .size)
           (λ a u. let b = chained-buffer m p e is a u in

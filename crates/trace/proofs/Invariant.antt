@@ -7,12 +7,12 @@ use mathlib.Core.Logic.{_⊎_}
 use mathlib.Core.Option.{Option, none, some}
 use Prim.Native.Nat.{ℕ, _+_, _*_, _≤_, _<_}
 use lib.ListN.{length, getD}
-use Rattle.manager.specs.Record.{slots, tasks, noRegion, noPartition, noWaiter, regionOf, partitionOf}
+use Rattle.manager.specs.Record.{slots, tasks, noRegion, noPartition, noWaiter, emptiedRegion, emptiedPartition, slotOf, regionOf, partitionOf}
 use Rattle.manager.specs.Result.{pad}
 use Rattle.manager.specs.Map.{draw}
 use Rattle.manager.specs.Region.{mapAt, mapWords}
 use Rattle.manager.specs.Partition.{isBuffer, buffers, chain}
-use Rattle.manager.specs.Sound.{soundLength, inside, livePartition, soundAreas}
+use Rattle.manager.specs.Sound.{soundLength, soundGeneration, inside, livePartition, soundAreas}
 use Rattle.manager.specs.declared.Manager.{Manager}
 use Rattle.manager.specs.declared.Region.{Region}
 use Rattle.manager.specs.declared.Partition.{Partition}
@@ -20,6 +20,7 @@ use Rattle.manager.specs.Lists.{In, Distinct}
 use Rattle.trace.specs.Loans.{Loan}
 use Rattle.trace.specs.Receipts.{Receipts, RegionEntry, PartitionEntry, Wait, unit, pagesIn, spanIn, pageLoans, reading, Servable}
 use Rattle.trace.specs.Queue.{inLine}
+use Rattle.trace.specs.Replies.{regionNow}
 use Rattle.trace.specs.Claims.{waitersOf}
 use Rattle.trace.proofs.Loans.Addresses.{atPages}
 
@@ -33,9 +34,13 @@ pub record Only (a n : ℕ) (m m′ : List ℕ) : Type 0 where
   pub size : length m′ ≡ length m
   pub same : (w : ℕ) → ¬ Inside a n w → getD m′ w 0 ≡ getD m w 0
 
--- the region that an entry asks for
+-- the region that an entry asks for, in a slot of a generation; and of the first one: what rests on its area and its pages alone is the
+-- same of any
+abbrev pub regionAs : ℕ → RegionEntry → Region
+regionAs g e = record { name = e .name; generation = g; start = e .start; length = e .bytes; page = unit e; order = e .order }
+
 abbrev pub regionFor : RegionEntry → Region
-regionFor e = record { name = e .name; start = e .start; length = e .bytes; page = unit e; order = e .order }
+regionFor e = regionAs 0 e
 
 -- loans by their pages, at the addresses of an entry's pages
 abbrev pub atAddresses : RegionEntry → List Loan → List Loan
@@ -57,8 +62,8 @@ pub record RegionIs (m : List ℕ) (e : RegionEntry) : Type 0 where
   pub map : mapWords m (regionFor e) ≡ draw (reading e .drawn (spanIn e) (pageLoans e))
 
 pub data RegionSlot (m : List ℕ) : Region → Option RegionEntry → Type 0 where
-  empty : RegionSlot m noRegion none
-  live : (e : RegionEntry) → RegionIs m e → RegionSlot m (regionFor e) (some e)
+  empty : (g : ℕ) → RegionSlot m (emptiedRegion g) none
+  live : (g : ℕ) (e : RegionEntry) → RegionIs m e → RegionSlot m (regionAs g e) (some e)
 
 -- a live partition, and its picture: the chain is the buffers that are not lent, and each buffer is lent or not, once
 pub record PartitionIs (m : List ℕ) (p : Partition) (e : PartitionEntry) : Type 0 where
@@ -76,15 +81,27 @@ pub record PartitionIs (m : List ℕ) (p : Partition) (e : PartitionEntry) : Typ
   pub counted : length (e .lent) + length (e .unlent) ≡ buffers p
 
 pub data PartitionSlot (m : List ℕ) : Partition → Option PartitionEntry → Type 0 where
-  empty : PartitionSlot m noPartition none
+  empty : (g : ℕ) → PartitionSlot m (emptiedPartition g) none
   live : (p : Partition) (e : PartitionEntry) → PartitionIs m p e → PartitionSlot m p (some e)
+
+-- a slot of either kind: its generation is the number of its deletes, one that it may have, and an empty one keeps nothing else
+pub record SlotIs {A : Type 0} (name generation : A → ℕ) (emptied : ℕ → A) (x : A) (deletes : ℕ) : Type 0 where
+  pub same : generation x ≡ deletes
+  pub sound : soundGeneration (name x) deletes ≡ true
+  pub empty : name x ≡ 0 → x ≡ emptied deletes
+
+abbrev pub RegionSlotIs : Region → ℕ → Type 0
+RegionSlotIs r n = SlotIs (λ x. x .name) (λ x. x .generation) emptiedRegion r n
+
+abbrev pub PartitionSlotIs : Partition → ℕ → Type 0
+PartitionSlotIs p n = SlotIs (λ x. x .name) (λ x. x .generation) emptiedPartition p n
 
 -- a wait: of a task, in a live region that lends something, with arguments that the checks let pass, and time left
 pub record WaitIs (t : Receipts) (w : Wait) : Type 0 where
   pub entry : RegionEntry
   pub found : t .regions (w .id) ≡ some entry
   pub lending : ¬ (entry .loans ≡ [])
-  pub id-some : 1 ≤ w .id
+  pub id-now : w .id ≡ regionNow t (slotOf (w .id))
   pub task-some : 1 ≤ w .task
   pub task-most : w .task ≤ tasks
   pub size-some : 1 ≤ w .size
@@ -110,6 +127,8 @@ pub record Picture (m : List ℕ) (d : Manager) (t : Receipts) : Type 0 where
   pub partition-slots : length (d .partitions) ≡ slots
   pub regions : (id : ℕ) → RegionSlot m (regionOf d id) (t .regions id)
   pub partitions : (id : ℕ) → PartitionSlot m (partitionOf d id) (t .partitions id)
+  pub region-is : (i : ℕ) → i < slots → RegionSlotIs (getD (d .regions) i noRegion) (t .regionDeletes i)
+  pub partition-is : (i : ℕ) → i < slots → PartitionSlotIs (getD (d .partitions) i noPartition) (t .partitionDeletes i)
   pub areas : soundAreas d ≡ true
 
 -- THE INVARIANT

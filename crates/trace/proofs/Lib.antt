@@ -4,6 +4,7 @@ pub mod Loans
 pub mod Buffers
 pub mod Frame
 pub mod Disjoint
+pub mod Slots
 pub mod Areas
 pub mod Segments
 pub mod Map
@@ -18,8 +19,11 @@ pub mod Partitions
 pub mod Directives
 pub mod Reconstruct
 pub mod Claims
+pub mod Runs
+pub mod History
 pub mod Theorem
 pub mod Preservation
 pub mod Replies
+pub mod Ids
 pub mod Computing
 pub mod Examples

@@ -2,6 +2,7 @@
 pub mod Checks
 pub mod Live
 pub mod Picture
+pub mod Put
 pub mod Lending
 pub mod Queue
 pub mod Serve

@@ -27,6 +27,7 @@ use Rattle.trace.specs.Receipts.{reading, pagesOver, Servable, Receipts,
 use Rattle.trace.specs.Queue.{queueOf, inLine, dueIn}
 use Rattle.trace.specs.Replies.{informationIn, grantTo, byReceipts, writeByReceipts, readByReceipts}
 use Rattle.trace.specs.Trace.{Ask, call, read, write, State, answer, answerWrite, after, Object, Loaned, Owned, Runs, start}
+use Rattle.trace.specs.Ids.{IdClaims}
 
 -- a wait as the record keeps it: with the ticks that it has left
 abbrev pub left : Wait → ℕ
@@ -146,6 +147,9 @@ pub record Claims (i : Implementation) (s : State) : Type 0 where
   pub replies-write : (id address first : ℕ) (words : List ℕ)
       → replyOf (answerWrite i s id address first words) ≡ writeByReceipts (s .receipts) id address first words
   pub reads : (id address : ℕ) → i .read (s .memory) (s .manager) id address ≡ readByReceipts (s .memory) (s .receipts) id address
+  -- an id never opens another object: whatever calls come, no create answers an id that an earlier create of its kind answered, and an id
+  -- once deleted is answered 4 ever after
+  pub ids : IdClaims i s
   -- a live object, "an id is live if the receipts have it for the call's kind"
   pub region : (id : ℕ) (e : RegionEntry) → s .receipts .regions id ≡ some e → RegionClaims i s id e
   pub partition : (id : ℕ) (e : PartitionEntry) → s .receipts .partitions id ≡ some e → PartitionClaims i s id e

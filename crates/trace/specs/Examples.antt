@@ -8,7 +8,7 @@ use lib.Dec.{eqb}
 use Rattle.manager.specs.Status.{numberOf}
 use Rattle.manager.specs.Record.{mostWords}
 use Rattle.manager.specs.Map.{draw}
-use Rattle.manager.specs.Examples.{Step, step, Row, layout, calls, words, same, told}
+use Rattle.manager.specs.Examples.{Step, step, Row, layout, calls, words, later, same, told}
 use Rattle.manager.specs.declared.Order.the-variants.{Fifo}
 use Rattle.trace.specs.Loans.{behind}
 use Rattle.trace.specs.Receipts.{Receipts, RegionEntry, Reply, blank, pagesIn, spanIn, addressIn, pageLoans, reading}
@@ -35,8 +35,13 @@ abbrev drawnWords : Option RegionEntry → List ℕ
 drawnWords none = []
 drawnWords (some e) = draw (reading e .drawn (spanIn e) (pageLoans e))
 
+-- no object, and so many deletes of every slot
+abbrev atGeneration : ℕ → Receipts
+atGeneration g = record { regions = λ id. none; partitions = λ id. none; regionDeletes = λ slot. g; partitionDeletes = λ slot. g; waits = [] }
+
 abbrev pub holds : Row → Bool
 holds (layout start bytes page n first last) =
     lies (record { name = 1; start = start; bytes = bytes; page = page; order = Fifo; loans = [] }) n first last
 holds (calls ss) = follows blank ss (λ t. true)
 holds (words ss ws) = follows blank ss (λ t. same (drawnWords (t .regions 1)) ws)
+holds (later g ss) = follows (atGeneration g) ss (λ t. true)

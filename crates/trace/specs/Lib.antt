@@ -6,4 +6,5 @@ pub mod Queue
 pub mod Replies
 pub mod Examples
 pub mod Trace
+pub mod Ids
 pub mod Claims

@@ -9,6 +9,7 @@ use Rattle.arith.specs.Round.{roundUp, pagesFor}
 use Rattle.arith.specs.Layout.{layoutOf}
 use Rattle.arith.specs.declared.Layout.{Layout}
 use Rattle.manager.specs.Status.{numberOf}
+use Rattle.manager.specs.Record.{slotOf}
 use Rattle.manager.specs.Result.{Result}
 use Rattle.manager.specs.declared.Notice.{Notice}
 use Rattle.manager.specs.declared.Information.{Information}
@@ -45,14 +46,18 @@ pub record Wait : Type 0 where
   pub ticks : ℕ
   pub since : ℕ
 
+-- the live objects of each kind by their whole ids; how many of each kind were deleted under the ids of each slot; and the waits
 pub record Receipts : Type 0 where
   pub regions : ℕ → Option RegionEntry
   pub partitions : ℕ → Option PartitionEntry
+  pub regionDeletes : ℕ → ℕ
+  pub partitionDeletes : ℕ → ℕ
   pub waits : List Wait
 
 -- they start empty
 abbrev pub blank : Receipts
-blank = record { regions = λ id. none; partitions = λ id. none; waits = [] }
+blank =
+    record { regions = λ id. none; partitions = λ id. none; regionDeletes = λ slot. 0; partitionDeletes = λ slot. 0; waits = [] }
 
 -- "Where an object's pages or buffers lie follows from what create asked for": the page size rounded, the layout, the page count and the
 -- pages; the address of a page and the page at an address; the buffers
@@ -107,16 +112,62 @@ buffersFrom (suc n) size a = a ∷ buffersFrom n size (a + size)
 abbrev pub update : {A : Type 0} → ℕ → Option A → (ℕ → Option A) → ℕ → Option A
 update id e f j = cond (eqb j id) e (f j)
 
+-- one delete more of the slot that an id names
+abbrev pub deleted : ℕ → (ℕ → ℕ) → ℕ → ℕ
+deleted id f i = cond (eqb i (slotOf id)) (suc (f i)) (f i)
+
+-- other entries of regions, and of partitions
+abbrev pub withRegions : (ℕ → Option RegionEntry) → Receipts → Receipts
+withRegions f t =
+    record {
+      regions = f;
+      partitions = t .partitions;
+      regionDeletes = t .regionDeletes;
+      partitionDeletes = t .partitionDeletes;
+      waits = t .waits;
+    }
+
+abbrev pub withPartitions : (ℕ → Option PartitionEntry) → Receipts → Receipts
+withPartitions f t =
+    record {
+      regions = t .regions;
+      partitions = f;
+      regionDeletes = t .regionDeletes;
+      partitionDeletes = t .partitionDeletes;
+      waits = t .waits;
+    }
+
+-- other deletes
+abbrev pub withRegionDeletes : (ℕ → ℕ) → Receipts → Receipts
+withRegionDeletes f t =
+    record {
+      regions = t .regions;
+      partitions = t .partitions;
+      regionDeletes = f;
+      partitionDeletes = t .partitionDeletes;
+      waits = t .waits;
+    }
+
+abbrev pub withPartitionDeletes : (ℕ → ℕ) → Receipts → Receipts
+withPartitionDeletes f t =
+    record {
+      regions = t .regions;
+      partitions = t .partitions;
+      regionDeletes = t .regionDeletes;
+      partitionDeletes = f;
+      waits = t .waits;
+    }
+
 -- a change of the entry under an id, where there is one
 abbrev pub mapOption : {A : Type 0} → (A → A) → Option A → Option A
 mapOption f none = none
 mapOption f (some x) = some (f x)
 
 abbrev pub onRegion : ℕ → (RegionEntry → RegionEntry) → Receipts → Receipts
-onRegion id f t = record { regions = update id (mapOption f (t .regions id)) (t .regions); partitions = t .partitions; waits = t .waits }
+onRegion id f t = withRegions (update id (mapOption f (t .regions id)) (t .regions)) t
 
 abbrev pub onPartition : ℕ → (PartitionEntry → PartitionEntry) → Receipts → Receipts
-onPartition id f t = record { regions = t .regions; partitions = update id (mapOption f (t .partitions id)) (t .partitions); waits = t .waits }
+onPartition id f t = withPartitions (update id (mapOption f (t .partitions id)) (t .partitions)) t
 
 abbrev pub withLoans : List Loan → RegionEntry → RegionEntry
 withLoans l e = record { name = e .name; start = e .start; bytes = e .bytes; page = e .page; order = e .order; loans = l }
@@ -158,7 +209,14 @@ isWaiting s = eqb (numberOf s) 255
 
 -- WAITS, and a tick later
 abbrev pub withWaits : List Wait → Receipts → Receipts
-withWaits w t = record { regions = t .regions; partitions = t .partitions; waits = w }
+withWaits w t =
+    record {
+      regions = t .regions;
+      partitions = t .partitions;
+      regionDeletes = t .regionDeletes;
+      partitionDeletes = t .partitionDeletes;
+      waits = w;
+    }
 
 abbrev pub later : Wait → Wait
 later w = record { task = w .task; id = w .id; size = w .size; priority = w .priority; ticks = w .ticks; since = w .since + 1 }

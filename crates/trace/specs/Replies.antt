@@ -8,7 +8,7 @@ use lib.ListN.{length, take, drop}
 use lib.Dec.{eqb, leb, ltb}
 use Rattle.arith.specs.Round.{roundUp}
 use Rattle.arith.specs.Layout.{pageCount}
-use Rattle.manager.specs.Record.{slots, tasks, noInformation}
+use Rattle.manager.specs.Record.{slots, tasks, generations, idOf, noInformation}
 use Rattle.manager.specs.Lists as lists
 use Rattle.manager.specs.Result.{Check, check}
 use Rattle.manager.specs.Paged.{onPlace}
@@ -23,7 +23,7 @@ use Rattle.manager.specs.declared.Status.{Status}
 use Rattle.manager.specs.declared.Status.the-variants.{Successful, InvalidName, InvalidId, TooMany, InvalidSize, InvalidAddress, InvalidNumber, ResourceInUse, Unsatisfied, IncorrectState, InvalidPriority, Waiting}
 use Rattle.trace.specs.Loans.{Loan, loan, loanPages, most, sum, enter, amend}
 use Rattle.trace.specs.Receipts.{Receipts, RegionEntry, Wait, Reply, unit, reading, pagesOver, servableIn, spanIn, addressIn, pageIn, byPage, pageLoans}
-use Rattle.trace.specs.Receipts.{onRegion, onPartition, lend, giveBack, refit, update, withBuffers, strike, buffersFrom, withWaits, allLater, allNoticed, isSuccess, isWaiting}
+use Rattle.trace.specs.Receipts.{onRegion, onPartition, lend, giveBack, refit, update, deleted, withRegions, withPartitions, withRegionDeletes, withPartitionDeletes, withBuffers, strike, buffersFrom, withWaits, allLater, allNoticed, isSuccess, isWaiting}
 use Rattle.trace.specs.Queue.{queueOf, inLine, dueIn}
 
 -- INFORMATION BY THE RECEIPTS: count, largest and total bytes over the runs of unheld pages, then over the loans
@@ -65,7 +65,7 @@ abbrev pub living : {A : Type 0} → Option A → (A → Reply) → Reply
 living none f = no InvalidId
 living (some e) f = f e
 
--- ---- OBJECTS: the ids from 1 on
+-- ---- OBJECTS: the slots, from the lowest on
 
 abbrev pub vacant : {A : Type 0} → Option A → Bool
 vacant none = true
@@ -76,27 +76,48 @@ abbrev pub has : {A : Type 0} → (A → Bool) → Option A → Bool
 has p none = false
 has p (some e) = p e
 
--- the first of n ids, from one on, that passes a test; the one behind them where none does
-unfoldable pub firstId : (ℕ → Bool) → ℕ → ℕ → ℕ
-firstId p zero id = id
-firstId p (suc n) id = cond (p id) id (firstId p n (suc id))
+-- the first of n slots, from one on, that passes a test; the one behind them where none does
+unfoldable pub firstSlot : (ℕ → Bool) → ℕ → ℕ → ℕ
+firstSlot p zero i = i
+firstSlot p (suc n) i = cond (p i) i (firstSlot p n (suc i))
 
-unfoldable pub anyId : (ℕ → Bool) → ℕ → ℕ → Bool
-anyId p zero id = false
-anyId p (suc n) id = p id || anyId p n (suc id)
+unfoldable pub anySlot : (ℕ → Bool) → ℕ → ℕ → Bool
+anySlot p zero i = false
+anySlot p (suc n) i = p i || anySlot p n (suc i)
 
--- "Create takes the lowest empty slot, ident the lowest with the name"
-abbrev pub newRegionId : Receipts → ℕ
-newRegionId t = firstId (λ id. vacant (t .regions id)) slots 1
+-- the id that a slot has now: its generation is the number of its deletes
+abbrev pub idNow : (ℕ → ℕ) → ℕ → ℕ
+idNow deletes i = idOf i (deletes i)
 
-abbrev pub newPartitionId : Receipts → ℕ
-newPartitionId t = firstId (λ id. vacant (t .partitions id)) slots 1
+abbrev pub regionNow : Receipts → ℕ → ℕ
+regionNow t i = idNow (t .regionDeletes) i
 
-abbrev pub regionIdOf : Receipts → ℕ → ℕ
-regionIdOf t name = firstId (λ id. has (λ e. eqb (e .name) name) (t .regions id)) slots 1
+abbrev pub partitionNow : Receipts → ℕ → ℕ
+partitionNow t i = idNow (t .partitionDeletes) i
 
-abbrev pub partitionIdOf : Receipts → ℕ → ℕ
-partitionIdOf t name = firstId (λ id. has (λ e. eqb (e .name) name) (t .partitions id)) slots 1
+-- of a kind, by its entries and the deletes of its slots: "Create takes the lowest empty slot" that isn't spent, "ident the lowest with
+-- the name"; and whether some object passes a test
+module _ {A : Type 0} (entries : ℕ → Option A) (deletes : ℕ → ℕ) where
+  abbrev pub newSlot : ℕ
+  newSlot = firstSlot (λ i. vacant (entries (idNow deletes i)) && ltb (deletes i) generations) slots 0
+
+  abbrev pub slotWith : (A → Bool) → ℕ
+  slotWith p = firstSlot (λ i. has p (entries (idNow deletes i))) slots 0
+
+  abbrev pub anyWith : (A → Bool) → Bool
+  anyWith p = anySlot (λ i. has p (entries (idNow deletes i))) slots 0
+
+abbrev pub newRegionSlot : Receipts → ℕ
+newRegionSlot t = newSlot (t .regions) (t .regionDeletes)
+
+abbrev pub newPartitionSlot : Receipts → ℕ
+newPartitionSlot t = newSlot (t .partitions) (t .partitionDeletes)
+
+abbrev pub regionSlotOf : Receipts → ℕ → ℕ
+regionSlotOf t name = slotWith (t .regions) (t .regionDeletes) (λ e. eqb (e .name) name)
+
+abbrev pub partitionSlotOf : Receipts → ℕ → ℕ
+partitionSlotOf t name = slotWith (t .partitions) (t .partitionDeletes) (λ e. eqb (e .name) name)
 
 -- bytes that a live object asked for: "the whole asked area counts"
 abbrev pub shared : ℕ → ℕ → ℕ → ℕ → Bool
@@ -104,8 +125,8 @@ shared a n b k = ltb a (b + k) && ltb b (a + n)
 
 abbrev pub asked : Receipts → ℕ → ℕ → Bool
 asked t start bytes =
-    anyId (λ id. has (λ e. shared start bytes (e .start) (e .bytes)) (t .regions id)) slots 1
-    || anyId (λ id. has (λ e. shared start bytes (e .start) (e .bytes)) (t .partitions id)) slots 1
+    anyWith (t .regions) (t .regionDeletes) (λ e. shared start bytes (e .start) (e .bytes))
+    || anyWith (t .partitions) (t .partitionDeletes) (λ e. shared start bytes (e .start) (e .bytes))
 
 -- ---- LOANS OF A REGION
 
@@ -184,12 +205,12 @@ byReceipts n t (CreateRegion name start bytes page order) =
     ∷ check (ltb 4096 page) InvalidSize
     ∷ check (eqb (pageCount start bytes (roundUp page 8)) 0) InvalidSize
     ∷ check (asked t start bytes) InvalidAddress
-    ∷ check (ltb slots (newRegionId t)) TooMany
+    ∷ check (leb slots (newRegionSlot t)) TooMany
     ∷ [])
-    (yes (newRegionId t))
+    (yes (regionNow t (newRegionSlot t)))
 -- ident: 3
 byReceipts n t (IdentRegion name) =
-    decided (check (eqb name 0) InvalidName ∷ check (ltb slots (regionIdOf t name)) InvalidName ∷ []) (yes (regionIdOf t name))
+    decided (check (eqb name 0) InvalidName ∷ check (leb slots (regionSlotOf t name)) InvalidName ∷ []) (yes (regionNow t (regionSlotOf t name)))
 -- delete: 4, 12
 byReceipts n t (DeleteRegion id) =
     living (t .regions id) (λ e. decided (check (lendsAny (e .loans)) ResourceInUse ∷ []) (yes 0))
@@ -231,11 +252,12 @@ byReceipts n t (CreatePartition name start bytes size) =
     ∷ check (not (eqb (size % 4) 0)) InvalidSize
     ∷ check (ltb size 8) InvalidSize
     ∷ check (asked t start bytes) InvalidAddress
-    ∷ check (ltb slots (newPartitionId t)) TooMany
+    ∷ check (leb slots (newPartitionSlot t)) TooMany
     ∷ [])
-    (yes (newPartitionId t))
+    (yes (partitionNow t (newPartitionSlot t)))
 byReceipts n t (IdentPartition name) =
-    decided (check (eqb name 0) InvalidName ∷ check (ltb slots (partitionIdOf t name)) InvalidName ∷ []) (yes (partitionIdOf t name))
+    decided (check (eqb name 0) InvalidName ∷ check (leb slots (partitionSlotOf t name)) InvalidName ∷ [])
+    (yes (partitionNow t (partitionSlotOf t name)))
 byReceipts n t (DeletePartition id) =
     living (t .partitions id) (λ e. decided (check (lentAny (e .lent)) ResourceInUse ∷ []) (yes 0))
 -- get of a buffer: 4, 13; the front of the chain
@@ -268,22 +290,15 @@ readByReceipts m t id a = take (lentWords (t .regions id) a) (drop (a / 4) m)
 -- with status 0, and with 255 for a get. "Refusals and all other calls enter nothing"
 abbrev pub entered : Call → ℕ → Receipts → Receipts
 entered (CreateRegion name start bytes page order) v t =
-    record {
-      regions = update v (some (record { name = name; start = start; bytes = bytes; page = page; order = order; loans = [] })) (t .regions);
-      partitions = t .partitions;
-      waits = t .waits;
-    }
-entered (DeleteRegion id) v t = record { regions = update id none (t .regions); partitions = t .partitions; waits = t .waits }
+    withRegions (update v (some (record { name = name; start = start; bytes = bytes; page = page; order = order; loans = [] })) (t .regions)) t
+entered (DeleteRegion id) v t = withRegionDeletes (deleted id (t .regionDeletes)) (withRegions (update id none (t .regions)) t)
 entered (GetSegment id size wait task priority ticks) v t = onRegion id (lend v size) t
 entered (ReturnSegment id address) v t = onRegion id (giveBack address) t
 entered (ResizeSegment id address size) v t = onRegion id (refit address size) t
 entered (CreatePartition name start bytes size) v t =
-    record {
-      regions = t .regions;
-      partitions = update v (some (record { name = name; start = start; bytes = bytes; size = size; lent = []; unlent = buffersFrom (bytes / size) size start })) (t .partitions);
-      waits = t .waits;
-    }
-entered (DeletePartition id) v t = record { regions = t .regions; partitions = update id none (t .partitions); waits = t .waits }
+    withPartitions
+    (update v (some (record { name = name; start = start; bytes = bytes; size = size; lent = []; unlent = buffersFrom (bytes / size) size start })) (t .partitions)) t
+entered (DeletePartition id) v t = withPartitionDeletes (deleted id (t .partitionDeletes)) (withPartitions (update id none (t .partitions)) t)
 entered (GetBuffer id) v t = onPartition id (λ e. withBuffers (v ∷ e .lent) (strike v (e .unlent)) e) t
 entered (ReturnBuffer id address) v t = onPartition id (λ e. withBuffers (strike address (e .lent)) (e .unlent ++ (address ∷ [])) e) t
 entered Tick v t = withWaits (allLater (t .waits)) t

@@ -61,8 +61,11 @@ returns-3 c = search (needs, writing)
 words-of-requires : tie.Need-words-of-requires
 words-of-requires c κs = search needs
 
+-- what is known of the length of the words
 add-end : tie.Need-add-end
-add-end c = search needs
+add-end c =
+    let start = c .before .before .before .before .before .before .before .before .before .before .before .before .before in
+    omega (arith, start .good .1 .1 .1 .1 .1)
 
 -- the segment lies in the memory
 ends : (w : lts.After-words-of (

@@ -21,6 +21,12 @@ and-second true b e = e
 and-second false b e = absurd (let z : _≡_ {A = ℕ} 0 1 = cc in omega arith)
 
 module _ {A : Type 0} where
+  -- a place of a list has its element, whatever one past the end would be
+  pub getD-any : (l : List A) (i : ℕ) (x y : A) → i < length l → getD l i x ≡ getD l i y
+  getD-any [] i x y h = absurd (omega arith)
+  getD-any (a ∷ l) zero x y h = refl
+  getD-any (a ∷ l) (suc i) x y h = getD-any l i x y (omega arith)
+
   -- the list from place i on
   pub rest-cons : (l : List A) (i : ℕ) (z : A) → i < length l → drop i l ≡ getD l i z ∷ drop (i + 1) l
   rest-cons l i z h = rw (add-one i, drop-cons l i z h)
@@ -171,5 +177,16 @@ module _ {A : Type 0} where
   every-at t [] i z e h = absurd (omega arith)
   every-at t (x ∷ l) zero z e h = and-first (t x) (every t l) e
   every-at t (x ∷ l) (suc i) z e h = every-at t l i z (and-second (t x) (every t l) e) (omega arith)
+
+-- what is found passes the test
+pub index-passes : {A : Type 0} (z : A) (t : A → Bool) (l : List A) → indexOf t l < length l → t (getD l (indexOf t l) z) ≡ true
+unfolding indexOf
+index-passes z t [] h = absurd (omega arith)
+index-passes z t (x ∷ l) h = go (t x) refl h (λ u. index-passes z t l u)
+  where
+    go : (b : Bool) → t x ≡ b → cond b 0 (suc (indexOf t l)) < suc (length l) → (indexOf t l < length l → t (getD l (indexOf t l) z) ≡ true)
+        → t (getD (x ∷ l) (cond b 0 (suc (indexOf t l))) z) ≡ true
+    go true e h k = e
+    go false e h k = k (omega arith)
 
 pub ruleset index-loop = (index-start, index-next, index-here, index-missed, index-found, index-end)

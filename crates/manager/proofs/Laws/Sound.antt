@@ -1,24 +1,28 @@
 -- What sound books say of a live region: its page size, its map within the memory and its pages below 65,536; and that another sound
 -- map drawn in its place leaves all that so. Assumes nothing.
-use Prim.Native.Nat.{ℕ, _+_, _-_, _*_, _≤_}
+use Prim.Native.Nat.{ℕ, _+_, _-_, _*_, _≤_, _<_}
 use mathlib.Core.Path.{_≡_, refl, sym, ap, _∙_}
-use mathlib.Core.Bool.{Bool, true, false, not, _&&_}
+use mathlib.Core.Bool.{true, false, not, _&&_}
 use mathlib.Core.List.{List, _++_, append-assoc}
+use mathlib.Core.Logic.{⊎-elim}
 use native.Mathlib.Omega.{arith}
 use native.Mathlib.Nat.{mul-le-mul-right, add-mul}
-use lib.ListN.{length, take, drop, length-drop, take-append-drop, List·getD-eq-default}
+use lib.ListN.{length, getD, take, drop, length-drop, take-append-drop}
 use lib.Seq.{drop-drop, length-sets, sets-eq, take-at, drop-at, length-take-le}
-use lib.Dec.{eqb, leb, ltb}
-use borrow.Author.Tests.{ne-eqb, leb-true, ltb-true, ltb-false}
+use lib.Dec.{eqb, leb}
+use borrow.Author.Tests.{eq-eqb, ne-eqb, eqb-false, leb-true}
 use Rattle.arith.proofs.Laws.Layout.{count-map, count-end}
-use Rattle.manager.specs.Record.{mostWords, noRegion, regionOf, slotOf}
+use Rattle.manager.specs.Record.{slots, mostWords, generations, noRegion, regionOf, slotOf}
 use Rattle.manager.specs.Lists.{every}
 use Rattle.manager.proofs.Laws.Lists.{and-first, and-second, every-at}
+use Rattle.manager.specs.Regions.{regionGeneration}
+use Rattle.manager.proofs.Laws.Distinct.{same-or-not}
+use Rattle.manager.proofs.Laws.Ids.{Live, live-object, live-within}
 use Rattle.manager.specs.Map.{Segment, draw, tiled, soundMap, total}
 use Rattle.manager.proofs.Laws.Map.{Sized, redraw, sound-drawn, sound-tiled, length-draw, total-decoded, sized-decoded}
 use Rattle.manager.proofs.Laws.Apart.{Well, well-decoded}
 use Rattle.manager.specs.Region.{dead, kind, pagesOf, firstPageOf, mapAt, mapWords, segments, withSegments, addressOf}
-use Rattle.manager.specs.Sound.{Laid, Sited, sound, soundLength, inside, soundPage, liveRegion, soundRegion, soundPartition, soundAreas, soundQueue}
+use Rattle.manager.specs.Sound.{Laid, Sited, sound, soundLength, inside, soundPage, soundGeneration, emptyRegion, liveRegion, soundRegion, soundPartition, soundAreas, soundQueue}
 use Rattle.manager.specs.declared.Manager.{Manager}
 use Rattle.manager.specs.declared.Region.{Region}
 
@@ -35,13 +39,34 @@ module _ (m : List ℕ) (d : Manager) (ok : sound m d ≡ true) where
   pub sound-regions : every (soundRegion m) (d .regions) ≡ true
   sound-regions = and-first (every (soundRegion m) (d .regions)) _ tail
 
+  pub sound-partitions : every (soundPartition m) (d .partitions) ≡ true
+  sound-partitions = and-first (every (soundPartition m) (d .partitions)) _ (and-second (every (soundRegion m) (d .regions)) _ tail)
+
   pub sound-queue : soundQueue m d ≡ true
   sound-queue = and-second (soundAreas d) _ (and-second (every (soundPartition m) (d .partitions)) _ (and-second (every (soundRegion m) (d .regions)) _ tail))
 
+-- the generation of a live slot
+pub generation-live : (name g : ℕ) → soundGeneration name g ≡ true → ¬ (name ≡ 0) → g < generations
+generation-live name g e n = let h : g ≤ 65535 = leb-true g 65535 (rw (ne-eqb name 0 n) at e) in omega arith
+
+-- and of any
+pub generation-most : (name g : ℕ) → soundGeneration name g ≡ true → g ≤ generations
+generation-most name g e =
+    ⊎-elim (λ (z : name ≡ 0). leb-true _ _ (rw (eq-eqb name 0 z) at e)) (λ (n : name ≡ 0 → ⊥). let h = generation-live name g e n in omega arith) (same-or-not name 0)
+
 -- of one slot
-pub live-of : (m : List ℕ) (r : Region) → soundRegion m r ≡ true → dead r ≡ false → liveRegion m r ≡ true
-unfolding soundRegion
-live-of m r e f = rw f at e
+module _ (m : List ℕ) (r : Region) (e : soundRegion m r ≡ true) where
+  pub region-generation : soundGeneration (r .name) (r .generation) ≡ true
+  unfolding soundRegion
+  region-generation = and-first (soundGeneration (r .name) (r .generation)) _ e
+
+  pub live-of : dead r ≡ false → liveRegion m r ≡ true
+  unfolding soundRegion
+  live-of f = rw f at (and-second (soundGeneration (r .name) (r .generation)) _ e)
+
+  pub empty-of : dead r ≡ true → emptyRegion r ≡ true
+  unfolding soundRegion
+  empty-of f = rw f at (and-second (soundGeneration (r .name) (r .generation)) _ e)
 
 sited-of : (m : List ℕ) (r : Region) → length m ≤ 16384 → liveRegion m r ≡ true → Sited m r
 unfolding liveRegion
@@ -61,20 +86,28 @@ sited-of m r w e =
       sound = and-second (leb 1 (pagesOf r)) _ f;
     }
 
--- an empty slot is not live
-empty-dead : (r : Region) → r ≡ noRegion → dead r ≡ false → ⊥
-empty-dead r e f = let z : _≡_ {A = Bool} true false = rw e at f in let y : _≡_ {A = ℕ} 0 1 = cc in omega arith
+-- the generations of sound books
+pub region-most : (m : List ℕ) (d : Manager) → sound m d ≡ true → length (d .regions) ≡ slots → (i : ℕ) → i < slots → regionGeneration d i ≤ generations
+region-most m d ok n i h =
+    let r = getD (d .regions) i noRegion in
+    generation-most (r .name) (r .generation) (region-generation m r (every-at (soundRegion m) (d .regions) i noRegion (sound-regions m d ok) (omega arith)))
 
 -- LIVE REGIONS of sound books
-pub sited : (m : List ℕ) (d : Manager) (id : ℕ) → sound m d ≡ true → dead (regionOf d id) ≡ false → Sited m (regionOf d id)
-sited m d id ok f = go (ltb (slotOf id) (length (d .regions))) refl
-  where
-    go : (b : Bool) → ltb (slotOf id) (length (d .regions)) ≡ b → Sited m (regionOf d id)
-    go true e =
-        let h = every-at (soundRegion m) (d .regions) (slotOf id) noRegion (sound-regions m d ok) (ltb-true (slotOf id) (length (d .regions)) e) in
-        sited-of m (regionOf d id) (sound-words m d ok) (live-of m (regionOf d id) h f)
-    go false e =
-        absurd (empty-dead (regionOf d id) (List·getD-eq-default (d .regions) noRegion (ltb-false (slotOf id) (length (d .regions)) e)) f)
+module _ (m : List ℕ) (d : Manager) (id : ℕ) (ok : sound m d ≡ true) (f : dead (regionOf d id) ≡ false) where
+  abbrev there : Type 0
+  there = Live (λ (r : Region). r .name) (λ r. r .generation) noRegion (d .regions) id
+
+  is-live : there
+  is-live = live-object (λ r. r .name) (λ r. r .generation) noRegion (d .regions) refl id (eqb-false (regionOf d id .name) 0 f)
+
+  pub sound-slot : soundRegion m (regionOf d id) ≡ true
+  sound-slot =
+      rw (is-live .is)
+      (every-at (soundRegion m) (d .regions) (slotOf id) noRegion (sound-regions m d ok)
+      (live-within (λ r. r .name) (λ r. r .generation) noRegion (d .regions) refl id is-live))
+
+  pub sited : Sited m (regionOf d id)
+  sited = sited-of m (regionOf d id) (sound-words m d ok) (live-of m (regionOf d id) sound-slot f)
 
 pub live-sited : (m : List ℕ) (d : Manager) → sound m d ≡ true → (id : ℕ) (r : Region) → r ≡ regionOf d id → (r .name ≡ 0 → ⊥) → Sited m r
 live-sited m d ok id r e l = rw e (sited m d id ok (ne-eqb _ _ (λ z. l (ap (λ (x : Region). x .name) e ∙ z))))

@@ -1,5 +1,5 @@
--- An id above 0 names the slot one below it. Assumes nothing.
-use Rattle.objects.proofs.Laws.{finding}
+-- The place is one below the slot's number, and past every slot's for number 0. Assumes nothing.
+use Rattle.objects.proofs.Laws.{identifying}
 use borrow.Author.Needs.{needs}
 use Rattle.objects.proofs.slot_of.Statement.{statement}
 use Rattle.objects.proofs.slot_of.Tie as tie
@@ -8,7 +8,7 @@ pub slot-of-spec : {M : Type 1} → statement M
 slot-of-spec =
     tie.close
     (tie.spec
-    (λ c. search (needs, finding))
-    (λ c. search (needs, finding))
-    (λ c. search (needs, finding))
-    (λ c. search (needs, finding)))
+    (λ c. search (needs, identifying))
+    (λ c. search (needs, identifying))
+    (λ c. search (needs, identifying))
+    (λ c. search (needs, identifying)))

@@ -28,11 +28,8 @@ reply-requires-3 c κs = search (needs, first)
 returns-3 : tie.Need-returns-3
 returns-3 c = search (needs, first)
 
-cast-reply : tie.Need-cast-reply
-cast-reply c = search (needs, first)
-
-add-reply : tie.Need-add-reply
-add-reply c = search (needs, first)
+partition-id-requires : tie.Need-partition-id-requires
+partition-id-requires c κs = search (needs, first)
 
 reply-requires-4 : tie.Need-reply-requires-4
 reply-requires-4 c κs = search (needs, first)
@@ -52,7 +49,6 @@ ident-partition-spec =
     partition-named-requires
     reply-requires-3
     returns-3
-    cast-reply
-    add-reply
+    partition-id-requires
     reply-requires-4
     returns-4)

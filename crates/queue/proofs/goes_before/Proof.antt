@@ -9,9 +9,11 @@ goes-before-spec =
     tie.close
     (tie.spec
     (λ c. search (needs, going))
+    (λ c κs. search needs)
+    (λ c κs. search needs)
     (λ c. search (needs, going))
-    (λ c. search (needs, going))
-    (λ c. search (needs, going))
+    (λ c. search needs)
+    (λ c. search needs)
     (λ c. search (needs, going))
     (λ c. search (needs, going))
     (λ c. search (needs, going)))

@@ -20,5 +20,4 @@ delete-region-spec =
     (λ c. search (needs, deleting))
     (λ c κs. search (needs, deleting))
     (λ c κs. search (needs, deleting))
-    (λ c κs. search (needs, deleting))
     (λ c. search (needs, deleting)))

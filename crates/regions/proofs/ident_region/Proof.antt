@@ -16,7 +16,6 @@ ident-region-spec =
     (λ c κs. search (needs, naming))
     (λ c κs. search (needs, naming))
     (λ c. search (needs, naming))
-    (λ c. search (needs, naming))
-    (λ c. search (needs, naming))
+    (λ c κs. search (needs, naming))
     (λ c κs. search (needs, naming))
     (λ c. search (needs, naming)))

@@ -1,54 +1,45 @@
--- A create: the lowest empty slot has the region that was asked for, its map one free segment, its entry no loans. Its area meets no other,
+-- A create: the lowest empty slot that is not spent has the region that was asked for, its map one free segment, its entry no loans. Its area meets no other,
 -- so all other objects stay as they were, and nobody waits for it. Assumes nothing.
-use mathlib.Core.Path.{_≡_, refl, sym, ap, _∙_, subst}
-use mathlib.Core.Bool.{Bool, true, false, cond}
-use mathlib.Core.List.{List, [], _∷_}
+use mathlib.Core.Path.{_≡_, refl, sym, ap, subst}
+use mathlib.Core.Bool.{true, false}
+use mathlib.Core.Logic.{inl, inr}
+use mathlib.Core.List.{List, []}
 use mathlib.Core.Option.{none, some}
-use Prim.Native.Nat.{ℕ, suc, _+_, _*_, _≤_, _<_}
+use Prim.Native.Nat.{ℕ, _+_, _*_, _≤_, _<_}
 use native.Mathlib.Omega.{arith}
-use lib.ListN.{length, getD, length-set}
-use lib.Dec.{eqb}
+use lib.ListN.{length, getD}
+use lib.Dec.{eqb, leb}
 use borrow.Author.Tests.{eqb-true, eqb-false, ltb-false, leb-false}
-use Rattle.manager.specs.Record.{slots, noRegion, regionOf, partitionOf, idOf, withRegion}
+use Rattle.manager.specs.Record.{slots, noRegion, emptiedRegion, unspent, regionOf, withRegion}
 use Rattle.manager.specs.Result.{done}
 use Rattle.manager.specs.Lists as lists
-use Rattle.manager.specs.Lists.{indexOf}
 use Rattle.manager.specs.Region.{opened}
-use Rattle.manager.specs.Regions.{overlaps, regionNamed, createRegion}
+use Rattle.manager.specs.Regions.{overlaps, unspentRegion, regionGeneration, regionId, createRegion}
 use Rattle.manager.specs.declared.Manager.{Manager}
 use Rattle.manager.specs.declared.Region.{Region}
 use Rattle.manager.specs.declared.Order.{Order}
 use Rattle.manager.specs.declared.Call.{Call}
 use Rattle.manager.specs.declared.Call.the-variants.{CreateRegion}
 use Rattle.manager.specs.declared.Status.the-variants.{Successful}
+use Rattle.manager.proofs.Laws.Lists.{and-first, index-passes}
+use Rattle.manager.proofs.Laws.Ids.{slot-empty}
 use Rattle.manager.proofs.Laws.Result.{Passed}
-use Rattle.trace.specs.Receipts.{Receipts, RegionEntry, pagesIn, update, replyOf}
-use Rattle.trace.specs.Trace.{region, partition, Owned}
-use Rattle.trace.specs.Replies.{yes, newRegionId, byReceipts}
-use Rattle.trace.proofs.Invariant.{Only, regionFor, RegionSlot, live, Inv, Picture, with-waits}
+use Rattle.trace.specs.Receipts.{Receipts, RegionEntry, pagesIn, replyOf}
+use Rattle.trace.specs.Trace.{Owned}
+use Rattle.trace.specs.Replies.{yes, newRegionSlot, byReceipts}
+use Rattle.trace.proofs.Invariant.{Only, regionAs, regionFor, RegionSlot, live, Inv, Picture, with-waits}
 use Rattle.trace.proofs.Frame.{map-area}
 use Rattle.trace.proofs.Clients.{map-stays}
-use Rattle.trace.proofs.Areas.{areaFor, overlaps-clear, region-there, region-elsewhere, areas-new-region, region-kept, partition-kept}
-use Rattle.trace.proofs.Loans.Tests.{by-eqb}
+use Rattle.trace.proofs.Areas.{areaFor, overlaps-clear, areas-new-region}
 use Rattle.trace.proofs.Regions.Checks.{note-done, Kept, kept-checked, Right}
-use Rattle.trace.proofs.Regions.Live.{slot-none}
-use Rattle.trace.proofs.Regions.Picture.{update-here, words-same, registering}
+use Rattle.trace.proofs.Slots.{slot-filled, region-unnamed}
+use Rattle.trace.proofs.Regions.Put.{region-there, put-region}
+use Rattle.trace.proofs.Regions.Picture.{update-here, registering}
 use Rattle.trace.proofs.Regions.Lending.{none-there, waits-registered}
 use Rattle.trace.proofs.Regions.Queue.{sound-inv}
 use Rattle.trace.proofs.Map.{opens, Steps}
 use Rattle.trace.proofs.Replies.Checks.{same, test, acted, agree, answers}
-use Rattle.trace.proofs.Replies.Ids.{past-slots, new-region, area-asked}
-
--- what is found passes the test
-index-passes : {A : Type 0} (z : A) (t : A → Bool) (l : List A) → indexOf t l < length l → t (getD l (indexOf t l) z) ≡ true
-unfolding indexOf
-index-passes z t [] h = absurd (omega arith)
-index-passes z t (x ∷ l) h = go (t x) refl h (λ u. index-passes z t l u)
-  where
-    go : (b : Bool) → t x ≡ b → cond b 0 (suc (indexOf t l)) < suc (length l) → (indexOf t l < length l → t (getD l (indexOf t l) z) ≡ true)
-        → t (getD (x ∷ l) (cond b 0 (suc (indexOf t l))) z) ≡ true
-    go true e h k = e
-    go false e h k = k (omega arith)
+use Rattle.trace.proofs.Replies.Ids.{new-region, region-id, area-asked}
 
 -- ---- in a slot that is empty
 
@@ -59,56 +50,58 @@ module _ (m : List ℕ) (d : Manager) (t : Receipts) (v : Inv m d t) (name start
   abbrev asked : RegionEntry
   asked = record { name = name; start = start; bytes = bytes; page = page; order = order; loans = [] }
 
+  -- the slot that it takes, its generation, and the id that it has then
   abbrev slot : ℕ
-  slot = regionNamed d 0
+  slot = unspentRegion d
+
+  abbrev generation : ℕ
+  generation = regionGeneration d slot
+
+  abbrev id : ℕ
+  id = regionId d slot
 
   abbrev memory : List ℕ
   memory = opened m (regionFor asked)
 
   abbrev manager : Manager
-  manager = withRegion d slot (regionFor asked)
+  manager = withRegion d slot (regionAs generation asked)
 
   module _ (within : slot < slots) (step : Steps m asked memory []) (clear : overlaps d (areaFor (regionFor asked)) ≡ false) where
     only : Only start bytes m memory
     only = map-area memory asked (step .is) m memory (step .only)
 
-    not-there : t .regions (idOf slot) ≡ none
+    free-slot : unspent (getD (d .regions) slot noRegion .name) generation ≡ true
+    free-slot = index-passes noRegion (λ r. unspent (r .name) (r .generation)) (d .regions) (omega (arith, v .picture .region-slots))
+
+    unnamed : getD (d .regions) slot noRegion .name ≡ 0
+    unnamed = eqb-true _ 0 (and-first (eqb (getD (d .regions) slot noRegion .name) 0) _ free-slot)
+
+    not-there : t .regions id ≡ none
     not-there =
-        slot-none m (regionOf d (idOf slot)) (t .regions (idOf slot)) (v .picture .regions (idOf slot))
-        (eqb-true (regionOf d (idOf slot) .name) 0 (index-passes noRegion (λ r. eqb (r .name) 0) (d .regions) (omega (arith, v .picture .region-slots))))
+        region-unnamed m (regionOf d id) (t .regions id) (v .picture .regions id)
+        (ap (λ (r : Region). r .name) (slot-empty (λ r. r .name) (λ r. r .generation) noRegion (d .regions) slot within unnamed generation))
 
-    slot-at : (j : ℕ) → RegionSlot memory (regionOf manager j) (update (idOf slot) (some asked) (t .regions) j)
-    slot-at j =
-        by-eqb j (idOf slot) (λ (b : Bool). RegionSlot memory (regionOf manager j) (cond b (some asked) (t .regions j)))
-        (λ p. subst (λ (r : Region). RegionSlot memory r (some asked))
-        (sym (ap (regionOf manager) p ∙ region-there d (v .picture .region-slots) (v .picture .partition-slots) slot within (regionFor asked)))
-        (live asked (step .is)))
-        (λ p. subst (λ (r : Region). RegionSlot memory r (t .regions j))
-        (sym (region-elsewhere d (v .picture .region-slots) (v .picture .partition-slots) slot within (regionFor asked) j p))
-        (region-kept m memory (areaFor (regionFor asked)) (regionOf d j) (t .regions j) only
-        (overlaps-clear d (v .picture .region-slots) (v .picture .partition-slots) (areaFor (regionFor asked)) clear (region j)) (v .picture .regions j)))
-
-    picture : Picture memory manager (registering (idOf slot) (some asked) t)
+    picture : Picture memory manager (registering id (some asked) t)
     picture =
-        record {
-          words = words-same m memory (only .size) (v .picture .words);
-          region-slots = length-set (d .regions) slot (regionFor asked) ∙ v .picture .region-slots;
-          partition-slots = v .picture .partition-slots;
-          regions = slot-at;
-          partitions = λ j. partition-kept m memory (areaFor (regionFor asked)) (partitionOf d j) (t .partitions j) only
-              (overlaps-clear d (v .picture .region-slots) (v .picture .partition-slots) (areaFor (regionFor asked)) clear (partition j)) (v .picture .partitions j);
-          areas = areas-new-region d (v .picture .region-slots) (v .picture .partition-slots) slot within (v .picture .areas) (regionFor asked) clear;
-        }
+        let nr = v .picture .region-slots in
+        let np = v .picture .partition-slots in
+        put-region m d t (v .picture) id slot generation within refl (regionAs generation asked) (inl unnamed) (inr refl) memory (some asked) (t .regionDeletes) only
+        (λ x n. overlaps-clear d nr np (areaFor (regionFor asked)) clear x)
+        (areas-new-region d nr np slot within (v .picture .areas) (regionAs generation asked) clear)
+        (subst (λ (r : Region). RegionSlot memory r (some asked))
+        (sym (region-there m d t (v .picture) id slot generation within refl (regionAs generation asked) (step .is .named) refl)) (live generation asked (step .is)))
+        (slot-filled (λ r. r .name) (λ r. r .generation) emptiedRegion noRegion _ _ _ (v .picture .region-is slot within) free-slot refl (step .is .named))
+        (λ j n. refl)
 
-    act-kept : Kept asks m t (done memory manager (idOf slot))
+    act-kept : Kept asks m t (done memory manager id)
     act-kept =
-        let u = registering (idOf slot) (some asked) t in
-        let n = note-done asks memory manager t (idOf slot) Successful refl in
+        let u = registering id (some asked) t in
+        let n = note-done asks memory manager t id Successful refl in
         let after : Inv memory manager u =
-        with-waits picture (waits-registered t (idOf slot) (some asked) (none-there d t (v .waits) (idOf slot) not-there) d manager refl (v .waits)) in
+        with-waits picture (waits-registered t id (some asked) (none-there d t (v .waits) id not-there) (t .regionDeletes) (λ w h. refl) d manager refl (v .waits)) in
         record {
           inv = rw n after;
-          stays = λ w h h′. map-stays memory manager u after (idOf slot) asked (update-here (idOf slot) (some asked) (t .regions)) m memory (step .only) w
+          stays = λ w h h′. map-stays memory manager u after id asked (update-here id (some asked) (t .regions)) m memory (step .only) w
               (subst (λ (x : Receipts). Owned x w) n h′);
           undamaged = refl;
         }
@@ -137,7 +130,7 @@ module _ (m : List ℕ) (d : Manager) (t : Receipts) (v : Inv m d t) where
       answers m d _ _ _ (sound-inv m d t v)
       (agree (same (same (same (same (same (same
       (test (area-asked m d t (v .picture) (record { start = start; length = bytes })) (λ z.
-      test (past-slots (regionNamed d 0) (newRegionId t) e) (λ z. acted (ap yes (sym e))))))))))))
+      test (ap (leb slots) (sym e)) (λ z. acted (ap yes (region-id m d t (v .picture) (unspentRegion d) (newRegionSlot t) e z))))))))))))
 
   pub right : (name start bytes page : ℕ) (order : Order) → Right (CreateRegion name start bytes page order) m t (createRegion m d name start bytes page order)
   right name start bytes page order = record { kept = keeps-create m d t v name start bytes page order; replies = replies-create name start bytes page order }

@@ -1,31 +1,36 @@
--- A delete of a region with nothing held: nobody waits for it, and its slot is emptied. Assumes nothing.
-use mathlib.Core.Path.{_≡_, refl, sym, ap, _∙_, subst}
-use mathlib.Core.Bool.{Bool, false, cond}
+-- A delete of a region with nothing held: nobody waits for it, and its slot is emptied, with the next generation. Assumes nothing.
+use mathlib.Core.Path.{_≡_, refl, sym, _∙_, subst}
+use mathlib.Core.Bool.{false}
 use mathlib.Core.List.{List, [], _∷_}
+use mathlib.Core.Logic.{inl, inr}
 use mathlib.Core.Option.{none, some}
-use Prim.Native.Nat.{ℕ}
+use Prim.Native.Nat.{ℕ, _+_}
 use native.Mathlib.Omega.{arith}
-use lib.ListN.{length-set, length}
-use Rattle.manager.specs.Record.{noRegion, regionOf, slotOf, idOf, withRegion}
+use lib.ListN.{length}
+use Rattle.manager.specs.Record.{noRegion, emptiedRegion, regionOf, slotOf, generationOf, withRegion}
 use Rattle.manager.specs.Result.{done, check}
 use Rattle.manager.specs.Lists as lists
+use Rattle.manager.specs.Lists.{In}
 use Rattle.manager.specs.Region.{anyHeld}
 use Rattle.manager.specs.Regions.{deleteRegion}
 use Rattle.manager.specs.declared.Manager.{Manager}
 use Rattle.manager.specs.declared.Region.{Region}
 use Rattle.manager.specs.declared.Call.the-variants.{DeleteRegion}
 use Rattle.manager.specs.declared.Status.the-variants.{Successful, ResourceInUse}
+use Rattle.manager.proofs.Laws.Ids.{id-back, Live, live-object}
 use Rattle.manager.proofs.Laws.Result.{Passed}
 use Rattle.trace.specs.Loans.{Loan}
-use Rattle.trace.specs.Receipts.{Receipts, RegionEntry, update, replyOf}
+use Rattle.trace.specs.Receipts.{Receipts, RegionEntry, Wait, deleted, replyOf, withRegionDeletes}
 use Rattle.trace.specs.Replies.{lendsAny, byReceipts}
 use Rattle.trace.proofs.Map.{shows}
-use Rattle.trace.proofs.Invariant.{regionFor, RegionSlot, empty, Inv, Picture, with-waits}
-use Rattle.trace.proofs.Areas.{OfSlot, region-slot, region-there, region-elsewhere, areas-no-region}
+use Rattle.trace.proofs.Invariant.{regionFor, RegionSlot, RegionSlotIs, empty, Inv, Picture, with-waits}
+use Rattle.trace.proofs.Frame.{only-refl}
+use Rattle.trace.proofs.Slots.{Now, now-same, deleted-other, slot-emptied, region-now}
+use Rattle.trace.proofs.Areas.{areaIn, no-area, areas-no-region}
 use Rattle.trace.proofs.Clients.{RegionAt}
-use Rattle.trace.proofs.Loans.Tests.{by-eqb}
 use Rattle.trace.proofs.Regions.Checks.{note-done, Kept, kept-words, kept-checked, Right}
 use Rattle.trace.proofs.Regions.Live.{slot-entry}
+use Rattle.trace.proofs.Regions.Put.{region-gone, put-region}
 use Rattle.trace.proofs.Regions.Lending.{NoWait, none-lent, waits-registered}
 use Rattle.trace.proofs.Regions.Queue.{sound-inv}
 use Rattle.trace.proofs.Regions.Picture.{registering}
@@ -38,40 +43,47 @@ lends-none (x ∷ l) e = let z : _≡_ {A = ℕ} 0 1 = cc in absurd (omega arith
 
 module _ (m : List ℕ) (d : Manager) (t : Receipts) (v : Inv m d t) (id : ℕ) where
   module _ (e : RegionEntry) (q : t .regions id ≡ some e) (at : RegionAt m (regionOf d id) e) (h : anyHeld m (regionFor e) ≡ false) where
-    slot : OfSlot id
+    slot : Live (λ (r : Region). r .name) (λ r. r .generation) noRegion (d .regions) id
     slot =
-        region-slot d (v .picture .region-slots) (v .picture .partition-slots) id
+        live-object (λ r. r .name) (λ r. r .generation) noRegion (d .regions) refl id
         (subst (λ (r : Region). ¬ (r .name ≡ 0)) (sym (at .region)) (at .is .named))
+
+    now : Now (t .regionDeletes) id
+    now = region-now m d t (v .picture) id e q
 
     nobody : NoWait t id
     nobody = none-lent d t (v .waits) id e q (lends-none (e .loans) (sym (shows m e (at .is) .any) ∙ h))
 
-    slot-at : (j : ℕ) → RegionSlot m (regionOf (withRegion d (slotOf id) noRegion) j) (update id none (t .regions) j)
-    slot-at j =
-        by-eqb j id (λ (b : Bool). RegionSlot m (regionOf (withRegion d (slotOf id) noRegion) j) (cond b none (t .regions j)))
-        (λ p. subst (λ (r : Region). RegionSlot m r none)
-        (sym (ap (regionOf (withRegion d (slotOf id) noRegion)) (p ∙ sym (slot .is)) ∙ region-there d (v .picture .region-slots) (v .picture .partition-slots) (slotOf id) (slot .within) noRegion))
-        empty)
-        (λ p. subst (λ (r : Region). RegionSlot m r (t .regions j))
-        (sym (region-elsewhere d (v .picture .region-slots) (v .picture .partition-slots) (slotOf id) (slot .within) noRegion j (λ (x : j ≡ idOf (slotOf id)). p (x ∙ slot .is))))
-        (v .picture .regions j))
+    -- its slot then, and the deletes
+    abbrev emptied : Region
+    emptied = emptiedRegion (regionOf d id .generation + 1)
 
-    picture : Picture m (withRegion d (slotOf id) noRegion) (registering id none t)
+    abbrev deletes : ℕ → ℕ
+    deletes = deleted id (t .regionDeletes)
+
+    picture : Picture m (withRegion d (slotOf id) emptied) (withRegionDeletes deletes (registering id none t))
     picture =
-        record {
-          words = v .picture .words;
-          region-slots = length-set (d .regions) (slotOf id) noRegion ∙ v .picture .region-slots;
-          partition-slots = v .picture .partition-slots;
-          regions = slot-at;
-          partitions = v .picture .partitions;
-          areas = areas-no-region d (v .picture .region-slots) (v .picture .partition-slots) (slotOf id) (slot .within) (v .picture .areas);
-        }
+        put-region m d t (v .picture) id (slotOf id) (generationOf id) (now .within) (id-back id (now .within)) emptied (inr (slot .same)) (inl refl) m none deletes
+        (only-refl 0 0 m) (λ x n. no-area (areaIn d x))
+        (areas-no-region d (v .picture .region-slots) (v .picture .partition-slots) (slotOf id) (now .within) (v .picture .areas) (regionOf d id .generation + 1))
+        (subst (λ (r : Region). RegionSlot m r none)
+        (sym (region-gone m d t (v .picture) id (slotOf id) (generationOf id) (now .within) (id-back id (now .within)) emptied refl)) (empty 0))
+        (slot-emptied (λ r. r .name) (λ r. r .generation) emptiedRegion noRegion (regionOf d id) id (t .regionDeletes)
+        (subst (λ (r : Region). RegionSlotIs r (t .regionDeletes (slotOf id))) (sym (slot .is)) (v .picture .region-is (slotOf id) (now .within)))
+        (subst (λ (r : Region). ¬ (r .name ≡ 0)) (sym (at .region)) (at .is .named)) (λ g. refl) (λ g. refl))
+        (deleted-other id (t .regionDeletes))
 
-    act-kept : Kept (DeleteRegion id) m t (done m (withRegion d (slotOf id) noRegion) 0)
+    -- nobody waits in its slot
+    same : (w : Wait) → In w (t .waits) → deletes (slotOf (w .id)) ≡ t .regionDeletes (slotOf (w .id))
+    same w i =
+        deleted-other id (t .regionDeletes) (slotOf (w .id))
+        (λ f. nobody w i (now-same (t .regionDeletes) (w .id) id (v .waits .each w i .id-now) (now .is) f))
+
+    act-kept : Kept (DeleteRegion id) m t (done m (withRegion d (slotOf id) emptied) 0)
     act-kept =
-        kept-words (DeleteRegion id) m t (done m (withRegion d (slotOf id) noRegion) 0) refl refl
-        (rw (note-done (DeleteRegion id) m (withRegion d (slotOf id) noRegion) t 0 Successful refl)
-        (with-waits picture (waits-registered t id none nobody d (withRegion d (slotOf id) noRegion) refl (v .waits))))
+        kept-words (DeleteRegion id) m t (done m (withRegion d (slotOf id) emptied) 0) refl refl
+        (rw (note-done (DeleteRegion id) m (withRegion d (slotOf id) emptied) t 0 Successful refl)
+        (with-waits picture (waits-registered t id none nobody deletes same d (withRegion d (slotOf id) emptied) refl (v .waits))))
 
   -- A DELETE KEEPS THE PICTURE
   keeps-delete : Kept (DeleteRegion id) m t (deleteRegion m d id)
@@ -88,8 +100,8 @@ module _ (m : List ℕ) (d : Manager) (t : Receipts) (v : Inv m d t) where
   replies-delete id =
       answers m d _ _ _ (sound-inv m d t v)
       (at-region m d (regionOf d id) (t .regions id) (v .picture .regions id)
-      (λ r. check (anyHeld m r) ResourceInUse ∷ []) (λ r. done m (withRegion d (slotOf id) noRegion) 0) _
-      (λ e is q p. agree (test (shows m e is .any) (λ z. acted refl))))
+      (λ r. check (anyHeld m r) ResourceInUse ∷ []) (λ r. done m (withRegion d (slotOf id) (emptiedRegion (r .generation + 1))) 0) _
+      (λ _ e is q p. agree (test (shows m e is .any) (λ z. acted refl))))
 
   pub right : (id : ℕ) → Right (DeleteRegion id) m t (deleteRegion m d id)
   right id = record { kept = keeps-delete m d t v id; replies = replies-delete id }

@@ -26,13 +26,13 @@ use Rattle.manager.specs.Lists.{In, Distinct}
 use Rattle.manager.specs.declared.Status.the-variants.{Unsatisfied}
 use Rattle.trace.specs.Receipts.{Receipts, PartitionEntry, strike, withBuffers, replyOf}
 use Rattle.trace.specs.Replies.{front, byReceipts}
-use Rattle.trace.proofs.Invariant.{Only, PartitionIs, Inv, live}
+use Rattle.trace.proofs.Invariant.{Only, PartitionIs, Inv}
 use Rattle.trace.proofs.Frame.{partition-laid, partition-shaped}
 use Rattle.trace.proofs.Clients.{NoLink, owned-no-link}
 use Rattle.trace.proofs.Buffers.{strike-here, within-strike, strike-other, strike-length}
 use Rattle.trace.proofs.Regions.Checks.{Kept, kept-checked, Right}
 use Rattle.trace.proofs.Regions.Queue.{sound-inv}
-use Rattle.trace.proofs.Partitions.Slot.{unlent-once, partition-entry, on-partition, put-keeps, live-slot, live-clear, outside, kept-done, free-unlent}
+use Rattle.trace.proofs.Partitions.Slot.{unlent-once, partition-entry, on-partition, outside, kept-done, free-unlent, put-live}
 use Rattle.trace.proofs.Replies.Checks.{Answers, same, answers, at-partition}
 
 -- the entry with one buffer more lent
@@ -106,8 +106,7 @@ module _ (m : List ℕ) (d : Manager) (t : Receipts) (v : Inv m d t) (id : ℕ) 
         let p = partitionOf d id in
         kept-done (GetBuffer id) m t _ (afterGet m p) (withPartition d (slotOf id) (gotten m p)) (p .front)
         (on-partition id e t (λ (x : PartitionEntry). lentOne (p .front) x) q)
-        (put-keeps m d t v id (live-slot m d t v id e is) (gotten m p) (afterGet m p) (some (lentOne (p .front) e)) (got-only m p e is h)
-        (live-clear m d t v id e is) (live (gotten m p) (lentOne (p .front) e) (got-is m p e is h)))
+        (put-live m d t v id e is (gotten m p) refl refl refl (afterGet m p) (lentOne (p .front) e) (got-only m p e is h) (got-is m p e is h))
         (λ w o o′. got-words m p e is h w (owned-no-link m d t v id e q w o))
 
   -- A GET KEEPS THE PICTURE

@@ -41,7 +41,8 @@ use Rattle.trace.proofs.Regions.Checks.{refuses, note-done, note-waitin
 use Rattle.trace.proofs.Regions.Live.{slot-entry}
 use Rattle.trace.proofs.Regions.Picture.{on-region, any-queue, stepped}
 use Rattle.trace.proofs.Regions.Lending.{waits-lent, enter-some}
-use Rattle.trace.proofs.Regions.Queue.{sound-inv, wait-inv, live-id}
+use Rattle.trace.proofs.Regions.Queue.{sound-inv, wait-inv}
+use Rattle.trace.proofs.Slots.{region-now}
 use Rattle.trace.proofs.Queue.Line.{true-false, in-append}
 use Rattle.trace.proofs.Queue.Places.{in-some, in-replicate, some-in}
 use Rattle.trace.proofs.Queue.Tasks.{in-tasks, task-in}
@@ -77,7 +78,7 @@ module _ (m : List ℕ) (d : Manager) (t : Receipts) (v : Inv m d t) (id size : 
           record {
             entry = e;
             found = q;
-            id-some = live-id m d t v id e q;
+            id-now = region-now m d t (v .picture) id e q .is;
             lending = full-lends e (regular m e is) size z h full;
             task-some = let y = eqb-false task 0 (c .0) in omega arith;
             task-most = ltb-false tasks task (c .1 .0);
@@ -188,7 +189,7 @@ module _ (m : List ℕ) (d : Manager) (t : Receipts) (v : Inv m d t) where
       (agree (test refl (λ n. rest
       (at-region m d (regionOf d id) (t .regions id) (v .picture .regions id)
       (λ r. check (not (servable r (pagesAsked r size))) InvalidSize ∷ waitChecks d wait task priority) (λ r. getting m d wait w r (pagesAsked r size)) _
-      (λ e is q p.
+      (λ _ e is q p.
       let x = shows m e is in
       rw (x .asked size) (agree (same (wait-agree wait task priority _ _ (acted
       (got-by e wait w (taken m (regionFor e) (pagesOver e size)) (placed m (regionFor e) (pagesOver e size))

@@ -55,7 +55,7 @@ module _ (m : List ℕ) (d : Manager) (t : Receipts) (v : Inv m d t) where
       answers m d (check (dead (regionOf d id)) InvalidId ∷ []) _ _ (sound-inv m d t v)
       (at-region m d (regionOf d id) (t .regions id) (v .picture .regions id)
       (λ r. []) (λ r. informed m d (informationOf (r .page) (frees m r) (helds m r))) _
-      (λ e is q p. ap (λ (i : Information). informs i) (information-is m e is)))
+      (λ _ e is q p. ap (λ (i : Information). informs i) (information-is m e is)))
 
   pub right : (id : ℕ) → Right (RegionInformation id) m t (regionInformation m d id)
   right id = record { kept = keeps-information id; replies = replies-information id }

@@ -85,7 +85,7 @@ module _ (m : List ℕ) (d : Manager) (t : Receipts) (v : Inv m d t) where
       (agree (same (rest
       (at-region m d (regionOf d id) (t .regions id) (v .picture .regions id)
       (λ r. check (eqb (heldAt m r a) 0) InvalidAddress ∷ []) (λ r. resizing m d a r (pagesAsked r size)) _
-      (λ e is q p. agree (test (none-at m e is a) (λ h. acted
+      (λ _ e is q p. agree (test (none-at m e is a) (λ h. acted
       (rw (shows m e is .asked size)
       (resized-by e a (pagesOver e size) (leb (pagesOver e size) (roomAt m (regionFor e) a)) ∙ rw (shows m e is .held a, shows m e is .room a))))))))))
 

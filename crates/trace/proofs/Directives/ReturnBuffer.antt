@@ -27,14 +27,14 @@ use Rattle.manager.proofs.Laws.Appended.{by-case}
 use Rattle.manager.specs.declared.Status.the-variants.{InvalidAddress}
 use Rattle.trace.specs.Receipts.{Receipts, PartitionEntry, strike, withBuffers, replyOf}
 use Rattle.trace.specs.Replies.{yes, decided, listed, byReceipts}
-use Rattle.trace.proofs.Invariant.{Only, PartitionIs, Inv, live}
+use Rattle.trace.proofs.Invariant.{Only, PartitionIs, Inv}
 use Rattle.trace.proofs.Frame.{partition-laid, partition-shaped}
 use Rattle.trace.proofs.Buffers.{within-strike, strike-other, strike-keeps, strike-distinct, strike-length}
 use Rattle.trace.proofs.Clients.{NoLink, owned-no-link}
 use Rattle.trace.proofs.Regions.Picture.{update-here}
 use Rattle.trace.proofs.Regions.Checks.{Kept, kept-checked, Right}
 use Rattle.trace.proofs.Regions.Queue.{sound-inv}
-use Rattle.trace.proofs.Partitions.Slot.{partition-entry, keeping, on-partition, put-keeps, live-slot, live-clear, outside, kept-done}
+use Rattle.trace.proofs.Partitions.Slot.{partition-entry, keeping, on-partition, outside, kept-done, put-live}
 use Rattle.trace.proofs.Queue.Line.{true-false}
 use Rattle.trace.proofs.Replies.Checks.{Answers, same, answers, at-partition}
 
@@ -112,8 +112,7 @@ module _ (m : List ℕ) (d : Manager) (t : Receipts) (v : Inv m d t) (id a : ℕ
     act-kept =
         let p = partitionOf d id in
         let after =
-        put-keeps m d t v id (live-slot m d t v id e is) (returned p a) (afterReturn m p a) (some (lentLess a e)) (back-only m p e is a b o)
-        (live-clear m d t v id e is) (live (returned p a) (lentLess a e) (back-is m p e is a b o)) in
+        put-live m d t v id e is (returned p a) refl refl refl (afterReturn m p a) (lentLess a e) (back-only m p e is a b o) (back-is m p e is a b o) in
         kept-done (ReturnBuffer id a) m t (keeping id (some (lentLess a e)) t) (afterReturn m p a) (withPartition d (slotOf id) (returned p a)) 0
         (on-partition id e t (λ (x : PartitionEntry). lentLess a x) q) after
         (λ w h h′. back-words m p e is a b o w

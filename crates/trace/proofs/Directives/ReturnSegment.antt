@@ -90,7 +90,7 @@ module _ (m : List ℕ) (d : Manager) (t : Receipts) (v : Inv m d t) where
       answers m d _ _ _ (sound-inv m d t v)
       (at-region m d (regionOf d id) (t .regions id) (v .picture .regions id)
       (λ r. check (eqb (heldAt m r a) 0) InvalidAddress ∷ []) (λ r. fromServed (returning m d id a r)) _
-      (λ e is q p. agree (test (none-at m e is a) (λ h.
+      (λ _ e is q p. agree (test (none-at m e is a) (λ h.
       acted (ap (λ (ns : List Notice). tells ns) (outcome m d t v id a e q is _ (lent-held m e is a (none-at m e is a ∙ h)) .grants))))))
 
   pub right : (id a : ℕ) → Right (ReturnSegment id a) m t (returnSegment m d id a)

@@ -32,7 +32,7 @@ module _ (m : List ℕ) (d : Manager) (t : Receipts) (v : Inv m d t) where
       answers m d _ _ _ (sound-inv m d t v)
       (at-region m d (regionOf d id) (t .regions id) (v .picture .regions id)
       (λ r. check (eqb (heldAt m r a) 0) InvalidAddress ∷ []) (λ r. done m d (heldAt m r a * r .page)) _
-      (λ e is q p. agree (test (none-at m e is a) (λ z. acted (ap (λ (n : ℕ). yes (n * unit e)) (shows m e is .held a))))))
+      (λ _ e is q p. agree (test (none-at m e is a) (λ z. acted (ap (λ (n : ℕ). yes (n * unit e)) (shows m e is .held a))))))
 
   pub right : (id a : ℕ) → Right (SegmentSize id a) m t (segmentSize m d id a)
   right id a = record { kept = keeps-size id a; replies = replies-size id a }

@@ -5,44 +5,47 @@ use mathlib.Core.Bool.{Bool, true, false, cond}
 use mathlib.Core.List.{List}
 use mathlib.Core.Logic.{inl, inr}
 use mathlib.Core.Option.{Option, some}
-use Prim.Native.Nat.{ℕ, _+_, _*_}
+use Prim.Native.Nat.{ℕ, _+_, _*_, _<_}
 use native.Mathlib.Omega.{arith}
-use lib.ListN.{length, length-set}
+use lib.ListN.{length, getD, length-set}
 use lib.Dec.{leb}
 use borrow.Author.Tests.{leb-true, leb-false}
-use Rattle.manager.specs.Record.{slotOf, idOf, regionOf, partitionOf, withPartition}
+use Rattle.manager.specs.Record.{slots, noPartition, emptiedPartition, slotOf, generationOf, idOf, regionOf, partitionOf, withPartition}
 use Rattle.manager.specs.Result.{done}
 use Rattle.manager.specs.Region.{areaOf}
 use Rattle.manager.specs.Partition.{deadPartition, buffers}
+use Rattle.manager.proofs.Laws.Ids.{id-back, Live, live-object, live-within, OfGeneration, put-there, put-empty, put-others}
 use Rattle.manager.proofs.Laws.Partition.Area.{Outside}
 use Rattle.manager.proofs.Laws.Partition.Repeats.{chain-length}
 use Rattle.manager.proofs.Laws.Partition.Live.{live-chain}
+use Rattle.manager.specs.declared.Area.{Area}
 use Rattle.manager.specs.declared.Manager.{Manager}
 use Rattle.manager.specs.declared.Partition.{Partition}
 use Rattle.manager.specs.declared.Call.{Call}
 use Rattle.manager.specs.declared.Status.the-variants.{Successful}
 use Rattle.manager.specs.Lists.{Distinct}
-use Rattle.trace.specs.Receipts.{Receipts, PartitionEntry, buffersIn, update, mapOption, onPartition}
+use Rattle.trace.specs.Receipts.{Receipts, PartitionEntry, buffersIn, update, mapOption, withPartitions, onPartition, withPartitionDeletes}
 use Rattle.trace.specs.Replies.{entered}
 use Rattle.trace.specs.Trace.{Object, region, partition}
-use Rattle.trace.proofs.Invariant.{Inside, Only, PartitionIs, PartitionSlot, Waits, Inv, empty, live}
+use Rattle.trace.proofs.Invariant.{Inside, Only, PartitionIs, PartitionSlot, PartitionSlotIs, Waits, Inv, empty, live}
 use Rattle.trace.proofs.Frame.{partition-shaped}
 use Rattle.trace.proofs.Buffers.{chain-once}
-use Rattle.trace.proofs.Areas.{areaIn, OfSlot, sound-clear, partition-slot, partition-there, partition-elsewhere, areas-partition, region-kept, partition-kept}
+use Rattle.trace.proofs.Areas.{areaIn, sound-clear, areas-same-partition, region-kept, partition-kept}
+use Rattle.trace.proofs.Slots.{slots-put}
 use Rattle.trace.proofs.Loans.Tests.{by-eqb}
 use Rattle.trace.proofs.Queue.Tasks.{wait-same}
 use Rattle.trace.proofs.Clients.{Stays}
 use Rattle.trace.proofs.Regions.Checks.{Kept, note-done}
 use Rattle.trace.proofs.Regions.Picture.{words-same}
 use Rattle.trace.proofs.Disjoint.{Clear}
-use Rattle.manager.specs.Sound.{Shaped}
+use Rattle.manager.specs.Sound.{soundAreas, Shaped}
 
 -- ---- what stands in a slot
 
 -- a slot that is not empty is in the receipts
 pub partition-entry : (m : List ℕ) (p : Partition) (o : Option PartitionEntry) → PartitionSlot m p o → deadPartition p ≡ false
     → (e : PartitionEntry) × (o ≡ some e) × PartitionIs m p e
-partition-entry m p o empty q = let z : _≡_ {A = ℕ} 0 1 = cc in absurd (omega arith)
+partition-entry m p o (empty g) q = let z : _≡_ {A = ℕ} 0 1 = cc in absurd (omega arith)
 partition-entry m p o (live x e is) q = (e, refl, is)
 
 -- what a live partition's entry says of its numbers
@@ -61,67 +64,97 @@ module _ (m : List ℕ) (p : Partition) (e : PartitionEntry) (is : PartitionIs m
 -- ---- another entry for a partition
 
 abbrev pub keeping : ℕ → Option PartitionEntry → Receipts → Receipts
-keeping id o t = record { regions = t .regions; partitions = update id o (t .partitions); waits = t .waits }
+keeping id o t = withPartitions (update id o (t .partitions)) t
 
 pub on-partition : (id : ℕ) (e : PartitionEntry) (t : Receipts) (g : PartitionEntry → PartitionEntry) → t .partitions id ≡ some e
     → onPartition id g t ≡ keeping id (some (g e)) t
 on-partition id e t g q = ap (λ (o : Option PartitionEntry). keeping id (mapOption g o) t) q
 
 -- the waits rest on regions alone
-pub waits-kept : (id : ℕ) (o : Option PartitionEntry) (t : Receipts) (d d′ : Manager) → d′ .waiters ≡ d .waiters → Waits d t → Waits d′ (keeping id o t)
-waits-kept id o t d d′ e v =
-    record { each = λ w m. wait-same t (keeping id o t) w (v .each w m) refl; once = v .once; queue = e ∙ v .queue }
+pub waits-kept : (id : ℕ) (o : Option PartitionEntry) (f : ℕ → ℕ) (t : Receipts) (d d′ : Manager) → d′ .waiters ≡ d .waiters → Waits d t → Waits d′ (withPartitionDeletes f (keeping id o t))
+waits-kept id o f t d d′ e v =
+    record { each = λ w m. wait-same t (withPartitionDeletes f (keeping id o t)) w (v .each w m) refl refl; once = v .once; queue = e ∙ v .queue }
 
--- ---- a partition put into a slot
+-- ---- a partition put into slot i, of generation g before and after, or without a name
 
-module _ (m : List ℕ) (d : Manager) (t : Receipts) (v : Inv m d t) (id : ℕ) (slot : OfSlot id) (p : Partition) where
+module _ (m : List ℕ) (d : Manager) (t : Receipts) (v : Inv m d t) (id i g : ℕ) (h : i < slots) (is : idOf i g ≡ id) (p : Partition) where
   abbrev putting : Manager
-  putting = withPartition d (slotOf id) p
+  putting = withPartition d i p
 
-  pub there : partitionOf (withPartition d (slotOf id) p) id ≡ p
-  there =
-      ap (partitionOf putting) (sym (slot .is))
-      ∙ partition-there d (v .picture .region-slots) (v .picture .partition-slots) (slotOf id) (slot .within) p
+  fits : i < length (d .partitions)
+  fits = omega (arith, v .picture .partition-slots)
 
-  pub elsewhere : (j : ℕ) → ¬ (j ≡ id) → partitionOf (withPartition d (slotOf id) p) j ≡ partitionOf d j
-  elsewhere j n =
-      partition-elsewhere d (v .picture .region-slots) (v .picture .partition-slots) (slotOf id) (slot .within) p j
-      (λ (e : j ≡ idOf (slotOf id)). n (e ∙ slot .is))
+  pub there : ¬ (p .name ≡ 0) → p .generation ≡ g → partitionOf (withPartition d i p) id ≡ p
+  there n e = ap (partitionOf putting) (sym is) ∙ put-there (λ p. p .name) (λ p. p .generation) noPartition (d .partitions) i h fits p g n e
 
-  -- THE INVARIANT, where the partition is as its entry says
-  module _ (m′ : List ℕ) (o : Option PartitionEntry) (only : Only (p .start) (p .length) m m′)
-      (clear : (x : Object) → ¬ (x ≡ partition id) → Clear (areaOf p) (areaIn d x)) (is : PartitionSlot m′ p o) where
-    slot-at : (j : ℕ) → PartitionSlot m′ (partitionOf putting j) (update id o (t .partitions) j)
-    slot-at j =
-        by-eqb j id (λ (b : Bool). PartitionSlot m′ (partitionOf putting j) (cond b o (t .partitions j)))
-        (λ e. subst (λ (x : Partition). PartitionSlot m′ x o) (sym (ap (partitionOf putting) e ∙ there)) is)
-        (λ n. subst (λ (x : Partition). PartitionSlot m′ x (t .partitions j)) (sym (elsewhere j n))
-        (partition-kept m m′ (areaOf p) (partitionOf d j) (t .partitions j) only
-        (clear (partition j) (λ (e : partition j ≡ partition id). n (cc))) (v .picture .partitions j)))
+  pub gone : p .name ≡ 0 → partitionOf (withPartition d i p) id ≡ noPartition
+  gone n = ap (partitionOf putting) (sym is) ∙ put-empty (λ p. p .name) (λ p. p .generation) noPartition (d .partitions) i h fits p g n
 
-    pub put-keeps : Inv m′ (withPartition d (slotOf id) p) (keeping id o t)
-    put-keeps =
-        record {
-          picture = record {
-            words = words-same m m′ (only .size) (v .picture .words);
-            region-slots = v .picture .region-slots;
-            partition-slots = length-set (d .partitions) (slotOf id) p ∙ v .picture .partition-slots;
-            regions = λ j. region-kept m m′ (areaOf p) (regionOf d j) (t .regions j) only
-                (clear (region j) (λ (e : region j ≡ partition id). let z : _≡_ {A = ℕ} 0 1 = cc in omega arith)) (v .picture .regions j);
-            partitions = slot-at;
-            areas = areas-partition d (v .picture .region-slots) (v .picture .partition-slots) (slotOf id) (slot .within) (v .picture .areas) p
-                (λ x n. clear x (λ (e : x ≡ partition id). n (e ∙ ap partition (sym (slot .is)))));
-          };
-          waits = waits-kept id o t d putting refl (v .waits);
-        }
+  module _ (old : OfGeneration (λ p. p .name) (λ p. p .generation) g (getD (d .partitions) i noPartition))
+      (new : OfGeneration (λ p. p .name) (λ p. p .generation) g p) where
+    elsewhere : (j : ℕ) → ¬ (j ≡ id) → partitionOf (withPartition d i p) j ≡ partitionOf d j
+    elsewhere j n = put-others (λ p. p .name) (λ p. p .generation) noPartition (d .partitions) i h fits p g old new j (λ e. n (e ∙ is))
+
+    -- THE INVARIANT, where the partition is as its entry says
+    module _ (m′ : List ℕ) (o : Option PartitionEntry) (deletes : ℕ → ℕ) (only : Only (p .start) (p .length) m m′)
+        (clear : (x : Object) → ¬ (x ≡ partition id) → Clear (areaOf p) (areaIn d x)) (areas : soundAreas (withPartition d i p) ≡ true)
+        (here : PartitionSlot m′ (partitionOf (withPartition d i p) id) o) (slot : PartitionSlotIs p (deletes i))
+        (same : (j : ℕ) → ¬ (j ≡ i) → deletes j ≡ t .partitionDeletes j) where
+      slot-at : (j : ℕ) → PartitionSlot m′ (partitionOf putting j) (update id o (t .partitions) j)
+      slot-at j =
+          by-eqb j id (λ (b : Bool). PartitionSlot m′ (partitionOf putting j) (cond b o (t .partitions j)))
+          (λ e. rw e here)
+          (λ n. subst (λ (x : Partition). PartitionSlot m′ x (t .partitions j)) (sym (elsewhere j n))
+          (partition-kept m m′ (areaOf p) (partitionOf d j) (t .partitions j) only
+          (clear (partition j) (λ (e : partition j ≡ partition id). n (cc))) (v .picture .partitions j)))
+
+      pub put-keeps : Inv m′ (withPartition d i p) (withPartitionDeletes deletes (keeping id o t))
+      put-keeps =
+          record {
+            picture = record {
+              words = words-same m m′ (only .size) (v .picture .words);
+              region-slots = v .picture .region-slots;
+              partition-slots = length-set (d .partitions) i p ∙ v .picture .partition-slots;
+              regions = λ j. region-kept m m′ (areaOf p) (regionOf d j) (t .regions j) only
+                  (clear (region j) (λ (e : region j ≡ partition id). let z : _≡_ {A = ℕ} 0 1 = cc in omega arith)) (v .picture .regions j);
+              partitions = slot-at;
+              region-is = v .picture .region-is;
+              partition-is = slots-put (λ p. p .name) (λ p. p .generation) emptiedPartition noPartition (d .partitions) i fits p (t .partitionDeletes) deletes same slot (v .picture .partition-is);
+              areas = areas;
+            };
+            waits = waits-kept id o deletes t d putting refl (v .waits);
+          }
 
 -- what is live has a slot, and an area that meets no other object's
 module _ (m : List ℕ) (d : Manager) (t : Receipts) (v : Inv m d t) (id : ℕ) (e : PartitionEntry) (is : PartitionIs m (partitionOf d id) e) where
-  pub live-slot : OfSlot id
-  live-slot = partition-slot d (v .picture .region-slots) (v .picture .partition-slots) id (is .named)
+  pub live-slot : Live (λ (p : Partition). p .name) (λ p. p .generation) noPartition (d .partitions) id
+  live-slot = live-object (λ p. p .name) (λ p. p .generation) noPartition (d .partitions) refl id (is .named)
+
+  pub live-in : slotOf id < slots
+  live-in = let k = live-within (λ p. p .name) (λ p. p .generation) noPartition (d .partitions) refl id live-slot in omega (arith, v .picture .partition-slots)
 
   pub live-clear : (x : Object) → ¬ (x ≡ partition id) → Clear (areaOf (partitionOf d id)) (areaIn d x)
   live-clear x n = sound-clear d (v .picture .region-slots) (v .picture .partition-slots) (v .picture .areas) (partition id) x (λ (f : partition id ≡ x). n (sym f))
+
+  -- ANOTHER STATE OF IT IN ITS PLACE, with the same name, generation and area
+  module _ (p : Partition) (name : p .name ≡ partitionOf d id .name) (generation : p .generation ≡ partitionOf d id .generation)
+      (area : areaOf p ≡ areaOf (partitionOf d id)) (m′ : List ℕ) (e′ : PartitionEntry) (only : Only (p .start) (p .length) m m′)
+      (is′ : PartitionIs m′ p e′) where
+    pub put-live : Inv m′ (withPartition d (slotOf id) p) (keeping id (some e′) t)
+    put-live =
+        let slot = live-slot .is in
+        let g : p .generation ≡ generationOf id = generation ∙ ap (λ (q : Partition). q .generation) slot ∙ live-slot .same in
+        let before = v .picture .partition-is (slotOf id) live-in in
+        put-keeps m d t v id (slotOf id) (generationOf id) live-in (id-back id live-in) p (inr (live-slot .same)) (inr g) m′ (some e′) (t .partitionDeletes) only
+        (subst (λ (a : Area). (x : Object) → ¬ (x ≡ partition id) → Clear a (areaIn d x)) (sym area) live-clear)
+        (areas-same-partition d (v .picture .region-slots) (v .picture .partition-slots) (slotOf id) live-in (v .picture .areas) p (area ∙ ap areaOf slot))
+        (subst (λ (q : Partition). PartitionSlot m′ q (some e′)) (sym (there m d t v id (slotOf id) (generationOf id) live-in (id-back id live-in) p (is′ .named) g)) (live p e′ is′))
+        (record {
+          same = generation ∙ ap (λ (q : Partition). q .generation) slot ∙ before .same;
+          sound = rw (name, ap (λ (q : Partition). q .name) slot) (before .sound);
+          empty = λ n. absurd (is′ .named n);
+        })
+        (λ j n. refl)
 
 -- ---- words outside the area
 

@@ -30,8 +30,8 @@ module _ (d : Manager) (t : Receipts) (w : Wait) (v : Waits d t) (a : WaitIs t w
   unfolding In
   each-entered x m =
       elim (in-append x (t .waits) (w ∷ []) .0 m) [
-        | inl h ↦ wait-same t entered x (v .each x h) refl
-        | inr h ↦ elim h [ inl e ↦ subst (λ (y : Wait). WaitIs entered y) e (wait-same t entered w a refl) | inr z ↦ absurd z ]
+        | inl h ↦ wait-same t entered x (v .each x h) refl refl
+        | inr h ↦ elim h [ inl e ↦ subst (λ (y : Wait). WaitIs entered y) e (wait-same t entered w a refl refl) | inr z ↦ absurd z ]
       ]
 
   -- the waiter enters where the wait stands
@@ -43,7 +43,7 @@ module _ (d : Manager) (t : Receipts) (w : Wait) (v : Waits d t) (a : WaitIs t w
       ap (insert (regionOf d (w .id) .order) (waiterOf w)) (v .queue)
       ∙ ap (λ (r : Order). insert r (waiterOf w) (pad tasks noWaiter (waitersOf (inLine t)))) (order ∙ ap orderIn (sym (a .found)))
       ∙ insert-pad (o (w .id)) tasks (waiterOf w) (waitersOf (inLine t)) h
-      ∙ ap (pad tasks noWaiter) (insert-waiters o w (inLine t) (a .id-some) (line-some d t v)
+      ∙ ap (pad tasks noWaiter) (insert-waiters o (t .regionDeletes) w (inLine t) (a .id-now) (line-some d t v)
       ∙ ap waitersOf (sym (line-append (standsBefore o) [] (t .waits) (w ∷ []))))
 
   pub waits-entered : Waits (enqueue d (waiterOf w)) entered

@@ -54,7 +54,7 @@ module _ (d : Manager) (t : Receipts) (v : Waits d t) where
 
   each-struck : (task : ℕ) (w : Wait) → In w (without task (t .waits)) → WaitIs (struck task t) w
   each-struck task w m =
-      wait-same t (struck task t) w (v .each w (in-keep (notOf task) w (t .waits) .0 (rw (without-keep task (t .waits) (v .once)) at m) .0)) refl
+      wait-same t (struck task t) w (v .each w (in-keep (notOf task) w (t .waits) .0 (rw (without-keep task (t .waits) (v .once)) at m) .0)) refl refl
 
   module _ (id : ℕ) (e : RegionEntry) (f : t .regions id ≡ some e) where
     -- NOBODY WAITS: no place is a waiter's of the region

@@ -5,11 +5,11 @@ use mathlib.Core.Bool.{Bool, true, false, cond, _&&_, _||_}
 use mathlib.Core.List.{List, [], _∷_}
 use mathlib.Core.Logic.{_⊎_, inl, inr, _↔_}
 use mathlib.Core.Option.{Option, some}
-use Prim.Native.Nat.{ℕ, zero, suc, _≤_, _<_}
+use Prim.Native.Nat.{ℕ, _≤_, _<_}
 use native.Mathlib.Omega.{arith}
 use lib.Dec.{ltb, eqb}
 use borrow.Author.Tests.{ltb-true, ltb-false, eqb-true, eqb-false, lt-ltb, le-ltb, eq-eqb, ne-eqb}
-use Rattle.manager.specs.Record.{slotOf}
+use Rattle.manager.specs.Record.{slotOf, idOf}
 use Rattle.manager.specs.Queue.{byPriority, urgent, goesBefore}
 use Rattle.manager.specs.declared.Order.{Order}
 use Rattle.manager.proofs.Laws.Appended.{by-case}
@@ -18,6 +18,7 @@ use Rattle.trace.specs.Receipts.{Receipts, RegionEntry, Wait}
 use Rattle.trace.specs.Queue.{insertAll, rank, urgentThan, waitsIn, queueOf, orderIn, orders, standsBefore, inLine}
 use Rattle.trace.specs.Claims.{waiterOf}
 use Rattle.trace.proofs.Loans.Tests.{by-eqb}
+use Rattle.trace.proofs.Slots.{now-same}
 use Rattle.trace.proofs.Queue.Line.{true-false, keep, Sorted, Strict, in-keep, in-line, line-same, keep-line}
 
 -- PAIRS OF NUMBERS IN ORDER
@@ -76,21 +77,9 @@ lex-other a r b s c u h k = go (lex-true a r c u h) (lex-false b s c u k)
     go (inr x) (inl y) = lex-below a r b s (omega arith)
     go (inr x) (inr y) = lex-same a r b s (omega arith) (omega arith)
 
--- ids of objects are in the order of their slots
-slot-before : (a b : ℕ) → 1 ≤ a → 1 ≤ b → ltb (slotOf a) (slotOf b) ≡ ltb a b
-slot-before zero b h k = absurd (omega arith)
-slot-before (suc i) zero h k = absurd (omega arith)
-slot-before (suc i) (suc j) h k =
-    by-case (ltb i j) (λ b. b ≡ ltb (suc i) (suc j))
-    (λ e. sym (lt-ltb (suc i) (suc j) (let l = ltb-true i j e in omega arith)))
-    (λ e. sym (le-ltb (suc i) (suc j) (let l = ltb-false i j e in omega arith)))
-
-slot-same : (a b : ℕ) → 1 ≤ a → 1 ≤ b → eqb (slotOf a) (slotOf b) ≡ eqb a b
-slot-same zero b h k = absurd (omega arith)
-slot-same (suc i) zero h k = absurd (omega arith)
-slot-same (suc i) (suc j) h k =
-    by-eqb i j (λ b. b ≡ eqb (suc i) (suc j))
-    (λ e. sym (eq-eqb (suc i) (suc j) (ap suc e))) (λ e. sym (ne-eqb (suc i) (suc j) (λ f. e (omega arith))))
+-- a wait is under the id that its slot has now, after so many deletes
+abbrev pub Current : (ℕ → ℕ) → Wait → Type 0
+Current deletes w = w .id ≡ idOf (slotOf (w .id)) (deletes (slotOf (w .id)))
 
 -- ONE WAIT BEFORE ANOTHER
 module _ (o : ℕ → Order) where
@@ -113,14 +102,15 @@ module _ (o : ℕ → Order) where
   unfolding standsBefore
   stands-within id w x e f = rw (e, f, le-ltb (slotOf id) (slotOf id) (omega arith), eq-eqb (slotOf id) (slotOf id) refl)
 
-  -- THE RECORD'S ORDER IS THAT OF THE RECEIPTS: ids are in the order of their slots
-  pub stands-is : (w x : Wait) → 1 ≤ w .id → 1 ≤ x .id → 1 ≤ x .task → goesBefore (o (w .id)) (waiterOf w) (waiterOf x) ≡ standsBefore o w x
+  -- THE RECORD'S ORDER IS THAT OF THE RECEIPTS: waits of one slot are of one region
+  pub stands-is : (deletes : ℕ → ℕ) (w x : Wait) → Current deletes w → Current deletes x → 1 ≤ x .task
+      → goesBefore (o (w .id)) (waiterOf w) (waiterOf x) ≡ standsBefore o w x
   unfolding goesBefore standsBefore
-  stands-is w x i j k =
-      rw (ne-eqb (x .task) 0 (λ e. omega arith), slot-before (w .id) (x .id) i j, slot-same (w .id) (x .id) i j)
-      (ap (λ b. ltb (w .id) (x .id) || b)
-      (by-eqb (w .id) (x .id) (λ b. (b && urgent (o (w .id)) (w .priority) (x .priority)) ≡ (b && ltb (ranked w) (ranked x)))
-      (λ e. urgent-rank (byPriority (o (w .id))) ∙ ap (λ (i : ℕ). ltb (ranked w) (rank (o i) x)) e) (λ e. refl)))
+  stands-is deletes w x i j k =
+      rw (ne-eqb (x .task) 0 (λ e. omega arith))
+      (ap (λ b. ltb (slot w) (slot x) || b)
+      (by-eqb (slot w) (slot x) (λ b. (b && urgent (o (w .id)) (w .priority) (x .priority)) ≡ (b && ltb (ranked w) (ranked x)))
+      (λ e. urgent-rank (byPriority (o (w .id))) ∙ ap (λ (i : ℕ). ltb (ranked w) (rank (o i) x)) (now-same deletes (w .id) (x .id) i j e)) (λ e. refl)))
     where
       urgent-rank : (b : Bool) → (b && ltb (w .priority) (x .priority)) ≡ ltb (cond b (w .priority) 0) (cond b (x .priority) 0)
       urgent-rank false = refl

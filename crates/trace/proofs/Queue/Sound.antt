@@ -23,7 +23,7 @@ use Rattle.trace.specs.Queue.{orders, standsBefore, inLine}
 use Rattle.trace.specs.Claims.{waiterOf, waitersOf}
 use Rattle.trace.proofs.Invariant.{WaitIs, Waits, tasksOf}
 use Rattle.trace.proofs.Queue.Line.{Behind, Sorted, in-append, sorted-line}
-use Rattle.trace.proofs.Queue.Order.{stands-strict, in-all-waits, stands-is}
+use Rattle.trace.proofs.Queue.Order.{Current, stands-strict, in-all-waits, stands-is}
 use Rattle.trace.proofs.Queue.Places.{every-in, in-replicate, adjacent-pad, pairwise-pad}
 use Rattle.trace.proofs.Queue.Tasks.{in-tasks, line-once}
 use Rattle.trace.proofs.Queue.Waiters.{line-some, in-waiters}
@@ -44,20 +44,20 @@ once-pairwise (w ∷ q) d =
     or-not false b e = rw e
 
 -- IN ORDER
-sorted-adjacent : (d : Manager) (o : ℕ → Order) (q : List Wait) → ((w : Wait) → In w q → (1 ≤ w .id) × (1 ≤ w .task))
+sorted-adjacent : (d : Manager) (o : ℕ → Order) (deletes : ℕ → ℕ) (q : List Wait) → ((w : Wait) → In w q → Current deletes w × (1 ≤ w .task))
     → ((w : Wait) → In w q → regionOf d (w .id) .order ≡ o (w .id)) → Sorted (standsBefore o) q → adjacent (inOrder d) (waitersOf q) ≡ true
 unfolding Sorted Behind In adjacent waitersOf
-sorted-adjacent d o [] u r s = refl
-sorted-adjacent d o (w ∷ []) u r s = refl
-sorted-adjacent d o (w ∷ x ∷ q) u r s =
+sorted-adjacent d o deletes [] u r s = refl
+sorted-adjacent d o deletes (w ∷ []) u r s = refl
+sorted-adjacent d o deletes (w ∷ x ∷ q) u r s =
     let a = u w (inl refl) in
     let b = u x (inr (inl refl)) in
     rw (
       ne-eqb (x .task) 0 (λ e. omega arith),
       r x (inr (inl refl)),
-      stands-is o x w (b .0) (a .0) (a .1),
+      stands-is o deletes x w (b .0) (a .0) (a .1),
       s .0 .0,
-    ) (sorted-adjacent d o (x ∷ q) (λ y m. u y (inr m)) (λ y m. r y (inr m)) (s .1))
+    ) (sorted-adjacent d o deletes (x ∷ q) (λ y m. u y (inr m)) (λ y m. r y (inr m)) (s .1))
 
 -- WHAT A WAIT'S REGION IS IN THE RECORD
 pub record Waitable (m : List ℕ) (d : Manager) (t : Receipts) (w : Wait) : Type 0 where
@@ -93,7 +93,7 @@ sound-queue m d t v b =
       ap (pairwise otherTask) (v .queue) ∙ pairwise-pad otherTask noWaiter (λ x. refl) (waitersOf q) k
           (once-pairwise q (line-once (standsBefore (orders t)) (t .waits) (v .once))) used,
       ap (adjacent (inOrder d)) (v .queue) ∙ adjacent-pad (inOrder d) noWaiter (λ x. refl) (waitersOf q) k
-          (sorted-adjacent d (orders t) q (line-some d t v) (λ w n. b w (in-all-waits t w .0 n) .order)
+          (sorted-adjacent d (orders t) (t .regionDeletes) q (line-some d t v) (λ w n. b w (in-all-waits t w .0 n) .order)
           (sorted-line (standsBefore (orders t)) (stands-strict (orders t)) [] (t .waits) tt)),
     )
   where

@@ -12,6 +12,7 @@ use lib.Dec.{eqb}
 use borrow.Author.Tests.{eq-eqb, ne-eqb}
 use Rattle.manager.proofs.Laws.Appended.{by-case}
 use Rattle.manager.proofs.Laws.Distinct as distinct
+use Rattle.manager.specs.Record.{slotOf, idOf}
 use Rattle.manager.specs.Lists.{In, Distinct}
 use Rattle.trace.specs.Loans.{Loan}
 use Rattle.trace.specs.Receipts.{Receipts, withLoans, Wait, without, waitOf}
@@ -159,14 +160,14 @@ keep-others (x ∷ a) w b d =
 abbrev pub counting : ℕ → Wait → Wait
 counting n w = record { task = w .task; id = w .id; size = w .size; priority = w .priority; ticks = w .ticks; since = n }
 
-pub wait-moved : (t u : Receipts) (w : Wait) (n : ℕ) (l : List Loan) (a : WaitIs t w) → u .regions (w .id) ≡ some (withLoans l (a .entry)) → ¬ (l ≡ [])
-    → (w .ticks ≡ 0) ⊎ (n < w .ticks) → WaitIs u (counting n w)
-wait-moved t u w n l a found lending time =
+pub wait-moved : (t u : Receipts) (w : Wait) (n : ℕ) (l : List Loan) (a : WaitIs t w) → u .regions (w .id) ≡ some (withLoans l (a .entry))
+    → u .regionDeletes (slotOf (w .id)) ≡ t .regionDeletes (slotOf (w .id)) → ¬ (l ≡ []) → (w .ticks ≡ 0) ⊎ (n < w .ticks) → WaitIs u (counting n w)
+wait-moved t u w n l a found same lending time =
     record {
       entry = withLoans l (a .entry);
       found = found;
       lending = lending;
-      id-some = a .id-some;
+      id-now = a .id-now ∙ ap (idOf (slotOf (w .id))) (sym same);
       task-some = a .task-some;
       task-most = a .task-most;
       size-some = a .size-some;
@@ -176,6 +177,7 @@ wait-moved t u w n l a found lending time =
       time = time;
     }
 
--- where its region's entry is the same
-pub wait-same : (t u : Receipts) (w : Wait) → WaitIs t w → u .regions (w .id) ≡ t .regions (w .id) → WaitIs u w
-wait-same t u w a e = wait-moved t u w (w .since) (a .entry .loans) a (e ∙ a .found) (a .lending) (a .time)
+-- where its region's entry is the same, and so are the deletes of its slot
+pub wait-same : (t u : Receipts) (w : Wait) → WaitIs t w → u .regions (w .id) ≡ t .regions (w .id)
+    → u .regionDeletes (slotOf (w .id)) ≡ t .regionDeletes (slotOf (w .id)) → WaitIs u w
+wait-same t u w a e same = wait-moved t u w (w .since) (a .entry .loans) a (e ∙ a .found) same (a .lending) (a .time)

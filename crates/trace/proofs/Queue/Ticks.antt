@@ -141,7 +141,7 @@ later-time w (inl e) f = inl e
 later-time w (inr h) f = let g : ¬ (w .ticks ≡ w .since + 1) = eqb-false (w .ticks) (w .since + 1) f in inr (omega arith)
 
 later-is : (t : Receipts) (ws : List Wait) (w : Wait) → WaitIs t w → due w ≡ false → WaitIs (withWaits ws t) (later w)
-later-is t ws w a f = wait-moved t (withWaits ws t) w (w .since + 1) (a .entry .loans) a (a .found) (a .lending) (later-time w (a .time) f)
+later-is t ws w a f = wait-moved t (withWaits ws t) w (w .since + 1) (a .entry .loans) a (a .found) refl (a .lending) (later-time w (a .time) f)
 
 module _ (d : Manager) (t : Receipts) (v : Waits d t) where
   -- among the waits in line that are due is one of a wait's task exactly where it is due itself

@@ -21,7 +21,7 @@ use Rattle.trace.specs.Queue.{insertBy, waitsIn, queueOf, orders, stands
 use Rattle.trace.specs.Claims.{waiterOf, waitersOf, waitersFor}
 use Rattle.trace.proofs.Invariant.{Waits, tasksOf}
 use Rattle.trace.proofs.Queue.Line.{keep, in-append, keep-append, length-line}
-use Rattle.trace.proofs.Queue.Order.{stands-is, in-all-waits, queue-of}
+use Rattle.trace.proofs.Queue.Order.{Current, stands-is, in-all-waits, queue-of}
 use Rattle.trace.proofs.Queue.Places.{keep-replicate, some-in}
 use Rattle.trace.proofs.Queue.Tasks.{few, fewer, length-tasks, task-in}
 
@@ -65,13 +65,14 @@ keep-waiters id (w ∷ q) h =
     (λ t. ap (_∷_ (waiterOf w)) ih) (λ f. ih))
 
 -- one more in the line
-pub insert-waiters : (o : ℕ → Order) (w : Wait) (q : List Wait) → 1 ≤ w .id → ((x : Wait) → In x q → (1 ≤ x .id) × (1 ≤ x .task))
+pub insert-waiters : (o : ℕ → Order) (deletes : ℕ → ℕ) (w : Wait) (q : List Wait) → Current deletes w
+    → ((x : Wait) → In x q → Current deletes x × (1 ≤ x .task))
     → insertBy (goesBefore (o (w .id))) (waiterOf w) (waitersOf q) ≡ waitersOf (insertBy (standsBefore o) w q)
 unfolding insertBy waitersOf In
-insert-waiters o w [] i h = refl
-insert-waiters o w (x ∷ q) i h =
-    let ih = insert-waiters o w q i (λ y m. h y (inr m)) in
-    rw (stands-is o w x i (h x (inl refl) .0) (h x (inl refl) .1))
+insert-waiters o deletes w [] i h = refl
+insert-waiters o deletes w (x ∷ q) i h =
+    let ih = insert-waiters o deletes w q i (λ y m. h y (inr m)) in
+    rw (stands-is o deletes w x i (h x (inl refl) .0) (h x (inl refl) .1))
     (by-case (standsBefore o w x)
     (λ t. cond t (waiterOf w ∷ waiterOf x ∷ waitersOf q) (waiterOf x ∷ insertBy (goesBefore (o (w .id))) (waiterOf w) (waitersOf q))
     ≡ waitersOf (cond t (w ∷ x ∷ q) (x ∷ insertBy (standsBefore o) w q)))
@@ -102,8 +103,8 @@ module _ (d : Manager) (t : Receipts) (v : Waits d t) where
   pub line-fits : length (waitersOf (inLine t)) ≤ tasks
   line-fits = omega (arith, line-length, few-waits)
 
-  pub line-some : (w : Wait) → In w (inLine t) → (1 ≤ w .id) × (1 ≤ w .task)
-  line-some w m = let a = v .each w (in-all-waits t w .0 m) in (a .id-some, a .task-some)
+  pub line-some : (w : Wait) → In w (inLine t) → Current (t .regionDeletes) w × (1 ≤ w .task)
+  line-some w m = let a = v .each w (in-all-waits t w .0 m) in (a .id-now, a .task-some)
 
   -- A REGION'S WAITERS ARE ITS QUEUE
   pub queue-waiters : (id : ℕ) (e : RegionEntry) → t .regions id ≡ some e → keep (waitsFor id) (d .waiters) ≡ waitersOf (queueOf id e t)

@@ -10,11 +10,11 @@ use lib.ListN.{length}
 use lib.Dec.{eqb}
 use borrow.Author.Tests.{eqb-true, eqb-false}
 use Rattle.manager.proofs.Laws.Lists.{and-first, and-second}
-use Rattle.manager.specs.Record.{noPartition}
+use Rattle.manager.specs.Record.{emptiedPartition}
 use Rattle.manager.specs.Partition.{deadPartition, buffers, chain}
 use Rattle.manager.specs.Sound.{emptyPartition, livePartition, soundPartition}
 use Rattle.manager.specs.declared.Partition.{Partition}
-use Rattle.manager.proofs.Laws.Partition.Live.{live-laid, live-chain}
+use Rattle.manager.proofs.Laws.Partition.Live.{live-laid, live-chain, live-partition, empty-partition}
 use Rattle.manager.proofs.Laws.Partition.Chain.{linked-on}
 use Rattle.manager.proofs.Laws.Distinct.{on-in}
 use Rattle.manager.specs.Lists.{In, Distinct}
@@ -73,8 +73,8 @@ partitionEntry m p =
 abbrev pub partitionSlot : List ℕ → Partition → Option PartitionEntry
 partitionSlot m p = cond (deadPartition p) none (some (partitionEntry m p))
 
--- an empty slot is all zeros
-pub no-partition : (p : Partition) → p .name ≡ 0 → emptyPartition p ≡ true → p ≡ noPartition
+-- an empty slot is all zeros but for its generation
+pub no-partition : (p : Partition) → p .name ≡ 0 → emptyPartition p ≡ true → p ≡ emptiedPartition (p .generation)
 no-partition p n e =
     let a = eqb (p .start) 0 in
     let b = eqb (p .length) 0 in
@@ -92,7 +92,7 @@ no-partition p n e =
     let q₄ : p .front ≡ 0 = eqb-true (p .front) 0 (and-first f (g && h) e₃) in
     let q₅ : p .rear ≡ 0 = eqb-true (p .rear) 0 (and-first g h e₄) in
     let q₆ : p .free ≡ 0 = eqb-true (p .free) 0 (and-second g h e₄) in
-    λ i. record { name = n i; start = q₁ i; length = q₂ i; size = q₃ i; front = q₄ i; rear = q₅ i; free = q₆ i }
+    λ i. record { name = n i; generation = p .generation; start = q₁ i; length = q₂ i; size = q₃ i; front = q₄ i; rear = q₅ i; free = q₆ i }
 
 -- a live partition
 pub is-partition : (m : List ℕ) (p : Partition) → ¬ (p .name ≡ 0) → livePartition m p ≡ true → PartitionIs m p (partitionEntry m p)
@@ -122,12 +122,9 @@ is-partition m p n e =
 
 -- A SOUND SLOT IS THE PICTURE OF ITS ENTRY
 pub partition-read : (m : List ℕ) (p : Partition) → soundPartition m p ≡ true → PartitionSlot m p (partitionSlot m p)
-unfolding soundPartition
 partition-read m p e = go (deadPartition p) refl
   where
     go : (b : Bool) → deadPartition p ≡ b → PartitionSlot m p (cond b none (some (partitionEntry m p)))
     go true f =
-        subst (λ (x : Partition). PartitionSlot m x none) (sym (no-partition p (eqb-true (p .name) 0 f) (rw f at e))) empty
-    go false f =
-        let g : livePartition m p ≡ true = rw f at e in
-        live p (partitionEntry m p) (is-partition m p (eqb-false (p .name) 0 f) g)
+        subst (λ (x : Partition). PartitionSlot m x none) (sym (no-partition p (eqb-true (p .name) 0 f) (empty-partition m p e f))) (empty (p .generation))
+    go false f = live p (partitionEntry m p) (is-partition m p (eqb-false (p .name) 0 f) (live-partition m p e f))

@@ -10,7 +10,7 @@ use lib.ListN.{length, replicate}
 use borrow.Author.Tests.{not-true}
 use Rattle.manager.specs.Lists.{every, pairwise, adjacent, In, Distinct}
 use Rattle.manager.proofs.Laws.Lists.{and-first, and-second}
-use Rattle.manager.specs.Record.{slots, tasks, noWaiter, regionOf}
+use Rattle.manager.specs.Record.{tasks, noWaiter, regionOf, slotOf}
 use Rattle.manager.specs.Result.{pad}
 use Rattle.manager.specs.Queue.{goesBefore}
 use Rattle.manager.proofs.Laws.Distinct.{either}
@@ -20,6 +20,7 @@ use Rattle.manager.specs.declared.Waiter.{Waiter}
 use Rattle.manager.specs.declared.Order.{Order}
 use Rattle.trace.specs.Receipts.{Receipts, Wait}
 use Rattle.trace.specs.Queue.{insertBy, insertAll, orderIn, orders, standsBefore, inLine}
+use Rattle.trace.specs.Replies.{regionNow}
 use Rattle.trace.specs.Claims.{waitersOf}
 use Rattle.trace.proofs.Invariant.{WaitIs, tasksOf, Waits}
 use Rattle.trace.proofs.Queue.Line.{Behind, Sorted, Strict}
@@ -62,9 +63,9 @@ module _ {A : Type 0} (lt : A → A → Bool) where
 -- ---- the waits that are read off a queue
 
 module _ (m : List ℕ) (d : Manager) (t : Receipts) (entries : (id : ℕ) → t .regions id ≡ slotEntry m (regionOf d id))
-    (sounds : (id : ℕ) → soundRegion m (regionOf d id) ≡ true) (nr : length (d .regions) ≡ slots) (np : length (d .partitions) ≡ slots) where
+    (sounds : (id : ℕ) → soundRegion m (regionOf d id) ≡ true) (nows : (id : ℕ) → ¬ (regionOf d id .name ≡ 0) → id ≡ regionNow t (slotOf id)) where
   abbrev is : (w : Waiter) → soundPlace m d w ≡ true → unused w ≡ false → WaitIs t (waitFor w)
-  is = wait-is m d t entries sounds nr np
+  is = wait-is m d t entries sounds nows
 
   order-of : (w : Waiter) → soundPlace m d w ≡ true → unused w ≡ false → orders t (w .region) ≡ regionOf d (w .region) .order
   order-of w e f =
@@ -76,7 +77,7 @@ module _ (m : List ℕ) (d : Manager) (t : Receipts) (entries : (id : ℕ) → t
       → standsBefore (orders t) (waitFor x) (waitFor w) ≡ false
   unfolding goesBefore
   used-order w x a b e f g =
-      sym (stands-is (orders t) (waitFor x) (waitFor w) (is x b g .id-some) (is w a f .id-some) (is w a f .task-some))
+      sym (stands-is (orders t) (t .regionDeletes) (waitFor x) (waitFor w) (is x b g .id-now) (is w a f .id-now) (is w a f .task-some))
       ∙ ap (λ (o : Order). goesBefore o x w) (order-of x b g) ∙ not-true (goesBefore (regionOf d (x .region) .order) x w) (rw g at e)
 
   -- THE WAITS STAND IN THE RECEIPTS' ORDER
@@ -121,7 +122,7 @@ module _ (m : List ℕ) (d : Manager) (t : Receipts) (entries : (id : ℕ) → t
       let l : inLine t ≡ waitsOf ws =
       ap (insertAll (standsBefore (orders t)) []) z ∙ line-sorted (standsBefore (orders t)) [] (waitsOf ws) (sorted-read ws e o) in
       record {
-        each = λ w h. each-wait m d t entries sounds nr np ws e w (subst (In w) z h);
+        each = λ w h. each-wait m d t entries sounds nows ws e w (subst (In w) z h);
         once = subst (λ (x : List Wait). Distinct (tasksOf x)) (sym z) (tasks-once ws (and-first (pairwise otherTask ws) (adjacent (inOrder d) ws) q₁));
         queue =
             queue-back m d ws e o

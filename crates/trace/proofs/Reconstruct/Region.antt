@@ -12,7 +12,8 @@ use borrow.Author.Tests.{eqb-true, eqb-false, leb-true}
 use Rattle.manager.proofs.Laws.Lists.{and-first, and-second}
 use Rattle.manager.specs.Map.{soundMap, draw}
 use Rattle.manager.proofs.Laws.Map.{redraw, sound-tiled}
-use Rattle.manager.specs.Record.{noRegion}
+use Rattle.manager.proofs.Laws.Sound.{live-of, empty-of}
+use Rattle.manager.specs.Record.{emptiedRegion}
 use Rattle.manager.specs.Region.{dead, kind, pagesOf, firstPageOf, mapWords, segments}
 use Rattle.manager.specs.Sound.{inside, soundPage, isFifo, emptyRegion, liveRegion, soundRegion}
 use Rattle.manager.specs.declared.Region.{Region}
@@ -20,7 +21,7 @@ use Rattle.manager.specs.declared.Order.{Order}
 use Rattle.manager.specs.declared.Order.the-variants.{Fifo, Priority}
 use Rattle.trace.specs.Loans.{Loan}
 use Rattle.trace.specs.Receipts.{RegionEntry, unit, spanIn, byPage, pageLoans, reading}
-use Rattle.trace.proofs.Invariant.{regionFor, atAddresses, RegionIs, RegionSlot, empty, live}
+use Rattle.trace.proofs.Invariant.{regionAs, regionFor, atAddresses, RegionIs, RegionSlot, empty, live}
 use Rattle.trace.proofs.Frame.{map-fits, map-length, inside-parts}
 use Rattle.trace.proofs.Loans.Addresses.{atPages, pages-back}
 use Rattle.trace.proofs.Loans.Words.{loansOf}
@@ -60,8 +61,8 @@ entryOf m r = record { name = r .name; start = r .start; bytes = r .length; page
 abbrev pub slotEntry : List ℕ → Region → Option RegionEntry
 slotEntry m r = cond (dead r) none (some (entryOf m r))
 
--- an empty slot is all zeros
-pub no-region : (r : Region) → r .name ≡ 0 → emptyRegion r ≡ true → r ≡ noRegion
+-- an empty slot is all zeros but for its generation
+pub no-region : (r : Region) → r .name ≡ 0 → emptyRegion r ≡ true → r ≡ emptiedRegion (r .generation)
 no-region r n e =
     let a = eqb (r .start) 0 in
     let b = eqb (r .length) 0 in
@@ -73,7 +74,7 @@ no-region r n e =
     let l : r .length ≡ 0 = eqb-true (r .length) 0 (and-first b (c && f) e₁) in
     let p : r .page ≡ 0 = eqb-true (r .page) 0 (and-first c f e₂) in
     let o : r .order ≡ Fifo = fifo (r .order) (and-second c f e₂) in
-    λ i. record { name = n i; start = s i; length = l i; page = p i; order = o i }
+    λ i. record { name = n i; generation = r .generation; start = s i; length = l i; page = p i; order = o i }
   where
     fifo : (o : Order) → isFifo o ≡ true → o ≡ Fifo
     fifo Fifo e = refl
@@ -83,15 +84,15 @@ no-region r n e =
 pub unit-same : (m : List ℕ) (r : Region) → r .page % 8 ≡ 0 → unit (entryOf m r) ≡ r .page
 unit-same m r h = omega arith
 
-pub region-back : (m : List ℕ) (r : Region) → r .page % 8 ≡ 0 → r ≡ regionFor (entryOf m r)
+pub region-back : (m : List ℕ) (r : Region) → r .page % 8 ≡ 0 → r ≡ regionAs (r .generation) (entryOf m r)
 region-back m r h =
     let u : r .page ≡ unit (entryOf m r) = sym (unit-same m r h) in
-    λ i. record { name = r .name; start = r .start; length = r .length; page = u i; order = r .order }
+    λ i. record { name = r .name; generation = r .generation; start = r .start; length = r .length; page = u i; order = r .order }
 
 -- a live region, of an entry whose loans are its held segments
-pub is-region : (m : List ℕ) (e : RegionEntry) → ¬ (e .name ≡ 0) → RegionParts m (regionFor e) → 1 ≤ e .page → e .page ≤ 4096
+pub is-region : (m : List ℕ) (g : ℕ) (e : RegionEntry) → ¬ (e .name ≡ 0) → RegionParts m (regionAs g e) → 1 ≤ e .page → e .page ≤ 4096
     → e .loans ≡ atAddresses e (loansOf (firstPageOf (regionFor e)) (segments m (regionFor e))) → RegionIs m e
-is-region m e n q l h s =
+is-region m g e n q l h s =
     let ws = mapWords m (regionFor e) in
     let f = map-fits (e .start) (e .bytes) (unit e) (length m) (omega (arith, q .least)) (q .some-page) (inside-parts m (e .start) (e .bytes) (q .inside) .upto) in
     let x = law e .loans (spanIn e) ws (q .map) (map-length m (regionFor e) f) in
@@ -112,15 +113,13 @@ is-region m e n q l h s =
 
 -- A SOUND SLOT IS THE PICTURE OF ITS ENTRY
 pub region-read : (m : List ℕ) (r : Region) → soundRegion m r ≡ true → RegionSlot m r (slotEntry m r)
-unfolding soundRegion
 region-read m r e = go (dead r) refl
   where
     go : (b : Bool) → dead r ≡ b → RegionSlot m r (cond b none (some (entryOf m r)))
     go true f =
-        subst (λ (x : Region). RegionSlot m x none) (sym (no-region r (eqb-true (r .name) 0 f) (rw f at e))) empty
+        subst (λ (x : Region). RegionSlot m x none) (sym (no-region r (eqb-true (r .name) 0 f) (empty-of m r e f))) (empty (r .generation))
     go false f =
-        let g : liveRegion m r ≡ true = rw f at e in
-        let q = region-parts m r g in
+        let q = region-parts m r (live-of m r e f) in
         let b = region-back m r (q .whole) in
         subst (λ (x : Region). RegionSlot m x (some (entryOf m r))) (sym b)
-        (live (entryOf m r) (is-region m (entryOf m r) (eqb-false (r .name) 0 f) (subst (RegionParts m) b q) (omega (arith, q .least)) (q .most) (ap (λ (x : Region). atPages (x .page) (loansOf (firstPageOf x) (segments m x))) b)))
+        (live (r .generation) (entryOf m r) (is-region m (r .generation) (entryOf m r) (eqb-false (r .name) 0 f) (subst (RegionParts m) b q) (omega (arith, q .least)) (q .most) (ap (λ (x : Region). atPages (x .page) (loansOf (firstPageOf x) (segments m x))) b)))

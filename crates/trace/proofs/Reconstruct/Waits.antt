@@ -14,7 +14,7 @@ use Rattle.arith.specs.Layout.{pageCount}
 use Rattle.manager.specs.Lists.{every, any as someOf, pairwise, adjacent, In, Distinct}
 use Rattle.manager.proofs.Laws.Lists.{and-first, and-second}
 use Rattle.manager.specs.Map.{Segment, free, held, isHeldSegment}
-use Rattle.manager.specs.Record.{slots, tasks, noWaiter, regionOf}
+use Rattle.manager.specs.Record.{tasks, noWaiter, slotOf, regionOf}
 use Rattle.manager.specs.Paged.{kindOf}
 use Rattle.manager.specs.Region.{firstPageOf, dead, pagesOf, pagesAsked, servable, anyHeld, segments}
 use Rattle.manager.specs.Queue.{goesBefore}
@@ -26,9 +26,9 @@ use Rattle.manager.specs.declared.Manager.{Manager}
 use Rattle.manager.specs.declared.Region.{Region}
 use Rattle.manager.specs.declared.Waiter.{Waiter}
 use Rattle.trace.specs.Receipts.{Receipts, Wait, unit, pagesIn}
+use Rattle.trace.specs.Replies.{regionNow}
 use Rattle.trace.specs.Claims.{waiterOf, waitersOf}
 use Rattle.trace.proofs.Invariant.{WaitIs, tasksOf}
-use Rattle.trace.proofs.Areas.{region-slot}
 use Rattle.trace.proofs.Loans.Addresses.{address-none}
 use Rattle.trace.proofs.Loans.Words.{loansOf}
 use Rattle.trace.proofs.Loans.Lawful.{found}
@@ -159,7 +159,7 @@ waiter-parts m d w e f =
     }
 
 module _ (m : List ℕ) (d : Manager) (t : Receipts) (entries : (id : ℕ) → t .regions id ≡ slotEntry m (regionOf d id))
-    (sounds : (id : ℕ) → soundRegion m (regionOf d id) ≡ true) (nr : length (d .regions) ≡ slots) (np : length (d .partitions) ≡ slots) where
+    (sounds : (id : ℕ) → soundRegion m (regionOf d id) ≡ true) (nows : (id : ℕ) → ¬ (regionOf d id .name ≡ 0) → id ≡ regionNow t (slotOf id)) where
   pub wait-is : (w : Waiter) → soundPlace m d w ≡ true → unused w ≡ false → WaitIs t (waitFor w)
   wait-is w e f =
       let r = regionOf d (w .region) in
@@ -170,7 +170,7 @@ module _ (m : List ℕ) (d : Manager) (t : Receipts) (entries : (id : ℕ) → t
         entry = entryOf m r;
         found = entries (w .region) ∙ rw (p .alive);
         lending = λ n. some-loan (firstPageOf r) (segments m r) (p .lending) (address-none (r .page) (loansOf (firstPageOf r) (segments m r)) n);
-        id-some = omega (arith, region-slot d nr np (w .region) (eqb-false (r .name) 0 (p .alive)) .is);
+        id-now = nows (w .region) (eqb-false (r .name) 0 (p .alive));
         task-some = let y = eqb-false (w .task) 0 f in omega arith;
         task-most = p .task-most;
         size-some = p .size-some;

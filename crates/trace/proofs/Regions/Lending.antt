@@ -9,10 +9,11 @@ use Prim.Native.Nat.{ℕ, zero, suc, _<_}
 use native.Mathlib.Omega.{arith}
 use lib.Dec.{eqb}
 use borrow.Author.Tests.{eqb-true, eqb-false}
+use Rattle.manager.specs.Record.{slotOf}
 use Rattle.manager.specs.declared.Manager.{Manager}
 use Rattle.manager.specs.Lists.{In}
 use Rattle.trace.specs.Loans.{Loan, loan, loan+, enter, amend, Lent}
-use Rattle.trace.specs.Receipts.{Receipts, RegionEntry, Wait, update, withLoans}
+use Rattle.trace.specs.Receipts.{Receipts, RegionEntry, Wait, update, withLoans, withRegionDeletes}
 use Rattle.trace.specs.Queue.{urgentThan, waitsIn, queueOf, orderIn, orders, standsBefore, inLine}
 use Rattle.trace.proofs.Invariant.{WaitIs, Waits}
 use Rattle.trace.proofs.Loans.Tests.{by-eqb, by-leb}
@@ -66,8 +67,8 @@ module _ (t : Receipts) (id : ℕ) (e : RegionEntry) (q : t .regions id ≡ some
           let s : w .id ≡ id = eqb-true (w .id) id f in
           let r : t .regions id ≡ some (a .entry) = subst (λ (j : ℕ). t .regions j ≡ some (a .entry)) s (a .found) in
           let g : a .entry ≡ e = cc in
-          wait-moved t (lending id e l t) w (w .since) l a (rw (s, update-here id (some (withLoans l e)) (t .regions), g)) (h s) (a .time)
-      go false f = wait-same t (lending id e l t) w a (update-other id (some (withLoans l e)) (t .regions) (w .id) (eqb-false (w .id) id f))
+          wait-moved t (lending id e l t) w (w .since) l a (rw (s, update-here id (some (withLoans l e)) (t .regions), g)) refl (h s) (a .time)
+      go false f = wait-same t (lending id e l t) w a (update-other id (some (withLoans l e)) (t .regions) (w .id) (eqb-false (w .id) id f)) refl
 
   -- THE WAITS STAY, where something is lent to each region that somebody waits for
   pub waits-lent : (d : Manager) → Waits d t → ((w : Wait) → In w (t .waits) → w .id ≡ id → ¬ (l ≡ [])) → Waits d (lending id e l t)
@@ -99,9 +100,10 @@ amend-some a k (loan b n ∷ l) m x z =
     has zero z e = omega arith
     has (suc k) z e = let y : _≡_ {A = ℕ} 0 1 = cc in omega arith
 
--- ---- another object under an id that nobody waits for
+-- ---- another object under an id that nobody waits for, and deletes that are the same where somebody waits
 
-module _ (t : Receipts) (id : ℕ) (o : Option RegionEntry) (nobody : NoWait t id) where
+module _ (t : Receipts) (id : ℕ) (o : Option RegionEntry) (nobody : NoWait t id) (deletes : ℕ → ℕ)
+    (same : (w : Wait) → In w (t .waits) → deletes (slotOf (w .id)) ≡ t .regionDeletes (slotOf (w .id))) where
   line-registered : inLine (registering id o t) ≡ inLine t
   unfolding standsBefore In
   line-registered =
@@ -109,10 +111,10 @@ module _ (t : Receipts) (id : ℕ) (o : Option RegionEntry) (nobody : NoWait t i
       line-same (λ w. ¬ (w .id ≡ id)) (standsBefore (orders (registering id o t))) (standsBefore (orders t)) (λ w x p r. rw (other w p, other x r)) [] (t .waits) (λ x m. absurd m) nobody
 
   -- THE WAITS STAY
-  pub waits-registered : (d d′ : Manager) → d′ .waiters ≡ d .waiters → Waits d t → Waits d′ (registering id o t)
+  pub waits-registered : (d d′ : Manager) → d′ .waiters ≡ d .waiters → Waits d t → Waits d′ (withRegionDeletes deletes (registering id o t))
   waits-registered d d′ e v =
       record {
-        each = λ w m. wait-same t (registering id o t) w (v .each w m) (update-other id o (t .regions) (w .id) (nobody w m));
+        each = λ w m. wait-same t (withRegionDeletes deletes (registering id o t)) w (v .each w m) (update-other id o (t .regions) (w .id) (nobody w m)) (same w m);
         once = v .once;
         queue = rw line-registered (e ∙ v .queue);
       }

@@ -14,7 +14,7 @@ use Rattle.manager.specs.declared.Manager.{Manager}
 use Rattle.manager.specs.declared.Region.{Region}
 use Rattle.manager.specs.declared.Waiter.{Waiter}
 use Rattle.trace.specs.Loans.{Loan}
-use Rattle.trace.specs.Receipts.{Receipts, RegionEntry, Wait, update, mapOption, onRegion, withWaits, withLoans}
+use Rattle.trace.specs.Receipts.{Receipts, RegionEntry, Wait, update, mapOption, withRegions, onRegion, withWaits, withLoans}
 use Rattle.trace.specs.Trace.{Object, region, partition}
 use Rattle.trace.proofs.Invariant.{Only, regionFor, RegionSlot, live, Picture}
 use Rattle.trace.proofs.Frame.{map-area}
@@ -43,23 +43,20 @@ module _ {A : Type 0} (id : ℕ) (e : Option A) (f : ℕ → Option A) where
 
 -- the receipts with another entry for a region, and with other loans of one
 abbrev pub registering : ℕ → Option RegionEntry → Receipts → Receipts
-registering id o t = record { regions = update id o (t .regions); partitions = t .partitions; waits = t .waits }
+registering id o t = withRegions (update id o (t .regions)) t
 
 abbrev pub lending : ℕ → RegionEntry → List Loan → Receipts → Receipts
 lending id e l t = registering id (some (withLoans l e)) t
 
 module _ (id : ℕ) (e : RegionEntry) (t : Receipts) where
-  abbrev with-regions : (ℕ → Option RegionEntry) → Receipts
-  with-regions f = record { regions = f; partitions = t .partitions; waits = t .waits }
-
   pub on-region : (g : RegionEntry → RegionEntry) → t .regions id ≡ some e → onRegion id g t ≡ registering id (some (g e)) t
-  on-region g q = ap (λ (o : Option RegionEntry). with-regions (update id (mapOption g o) (t .regions))) q
+  on-region g q = ap (λ (o : Option RegionEntry). registering id (mapOption g o) t) q
 
   pub lending-again : (l k : List Loan) → lending id e k (lending id e l t) ≡ lending id e k t
-  lending-again l k = ap with-regions (update-again id (some (withLoans k e)) (t .regions) (some (withLoans l e)))
+  lending-again l k = ap (λ (f : ℕ → Option RegionEntry). withRegions f t) (update-again id (some (withLoans k e)) (t .regions) (some (withLoans l e)))
 
   pub lending-same : (l : List Loan) → t .regions id ≡ some (withLoans l e) → lending id e l t ≡ t
-  lending-same l q = ap with-regions (update-same id (some (withLoans l e)) (t .regions) q)
+  lending-same l q = ap (λ (f : ℕ → Option RegionEntry). withRegions f t) (update-same id (some (withLoans l e)) (t .regions) q)
 
 -- ---- the picture
 
@@ -72,6 +69,8 @@ any-queue m d t q w v =
       partition-slots = v .partition-slots;
       regions = v .regions;
       partitions = v .partitions;
+      region-is = v .region-is;
+      partition-is = v .partition-is;
       areas = v .areas;
     }
 
@@ -94,7 +93,7 @@ module _ (m : List ℕ) (d : Manager) (t : Receipts) (v : Picture m d t) (id : �
     slot-at : (j : ℕ) → RegionSlot m′ (regionOf d j) (update id (some (withLoans l e)) (t .regions) j)
     slot-at j =
         by-eqb j id (λ (b : Bool). RegionSlot m′ (regionOf d j) (cond b (some (withLoans l e)) (t .regions j)))
-        (λ h. rw (h, live-at .region) (live (withLoans l e) (step .is)))
+        (λ h. rw (h, live-at .region) (live (live-at .generation) (withLoans l e) (step .is)))
         (λ h. region-kept m m′ (areaFor (regionFor e)) (regionOf d j) (t .regions j) only
         (clear (region j) (λ (p : region id ≡ region j). h (let s : id ≡ j = cc in sym s))) (v .regions j))
 
@@ -107,5 +106,7 @@ module _ (m : List ℕ) (d : Manager) (t : Receipts) (v : Picture m d t) (id : �
           regions = slot-at;
           partitions = λ j. partition-kept m m′ (areaFor (regionFor e)) (partitionOf d j) (t .partitions j) only
               (clear (partition j) (λ (p : region id ≡ partition j). let z : _≡_ {A = ℕ} 0 1 = cc in omega arith)) (v .partitions j);
+          region-is = v .region-is;
+          partition-is = v .partition-is;
           areas = v .areas;
         }

@@ -1,9 +1,8 @@
 -- The queue of a pictured state: the record is sound, a region's waiters are its queue by the receipts, a wait can be entered, and the
 -- first can be taken out. Assumes nothing.
-use mathlib.Core.Path.{_≡_, refl, sym, ap, _∙_, subst}
+use mathlib.Core.Path.{_≡_, refl, sym, ap, _∙_}
 use mathlib.Core.Bool.{Bool, true, false, cond}
 use mathlib.Core.List.{List, [], _∷_, _++_}
-use mathlib.Core.Option.{some}
 use Prim.Native.Nat.{ℕ, suc, _≤_}
 use native.Mathlib.Omega.{arith}
 use lib.ListN.{length}
@@ -19,7 +18,6 @@ use Rattle.trace.specs.Queue.{waitsIn, queueOf, orderIn, urgentThan}
 use Rattle.trace.specs.Replies.{lendsAny}
 use Rattle.trace.specs.Claims.{waiterOf}
 use Rattle.trace.proofs.Invariant.{WaitIs, Waits, Inv}
-use Rattle.trace.proofs.Areas.{region-slot}
 use Rattle.trace.proofs.Clients.{region-at}
 use Rattle.trace.proofs.Map.{shows}
 use Rattle.trace.proofs.Sound.{inv-sound}
@@ -59,13 +57,6 @@ module _ (m : List ℕ) (d : Manager) (t : Receipts) (v : Inv m d t) where
       let r = region-at m (regionOf d (w .id)) (t .regions (w .id)) (a .entry) (v .picture .regions (w .id)) (a .found) in
       waits-entered d t w (v .waits) a (ap (λ (x : Region). x .order) (r .region))
       (λ h. true-false (waiting d (w .task)) (task-waits d t (v .waits) (w .task) h) n)
-
-  -- a live region has an id of a slot
-  pub live-id : (id : ℕ) (e : RegionEntry) → t .regions id ≡ some e → 1 ≤ id
-  live-id id e q =
-      let a = region-at m (regionOf d id) (t .regions id) e (v .picture .regions id) q in
-      let s = region-slot d (v .picture .region-slots) (v .picture .partition-slots) id (subst (λ (r : Region). ¬ (r .name ≡ 0)) (sym (a .region)) (a .is .named)) in
-      omega (arith, s .is)
 
 -- ---- as many wait as there are tasks, at most
 

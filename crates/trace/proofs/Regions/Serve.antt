@@ -24,7 +24,7 @@ use Rattle.trace.specs.Receipts.{Receipts, RegionEntry, Wait, addressIn,
 use Rattle.trace.specs.Queue.{queueOf}
 use Rattle.trace.specs.Replies.{grantsIn, placeIn}
 use Rattle.trace.specs.Claims.{waiterOf}
-use Rattle.trace.proofs.Invariant.{regionFor, WaitIs, Waits, Inv, Picture, with-waits, OnlyMap, RegionIs}
+use Rattle.trace.proofs.Invariant.{regionAs, WaitIs, Waits, Inv, Picture, with-waits, OnlyMap, RegionIs}
 use Rattle.trace.proofs.Frame.{only-refl, only-trans}
 use Rattle.trace.proofs.Clients.{RegionAt, region-at}
 use Rattle.trace.proofs.Segments.{regular, full-lends}
@@ -159,8 +159,9 @@ module _ (id : ℕ) (e : RegionEntry) where
       took-turn : Outcome e l (w ∷ ws) m t (serveUpTo (suc f) m d id)
       took-turn =
           let x = shows m (withLoans l e) is in
+          let r = region-is m d t l (w ∷ ws) v in
           rw (
-            serve-first f m d id (regionFor e) (waiterOf w) (region-is m d t l (w ∷ ws) v .region) (first .place) (first .waiter),
+            serve-first f m d id (regionAs (r .generation) e) (waiterOf w) (r .region) (first .place) (first .waiter),
             x .asked (w .size),
           )
           (turned (x .got (w .size) (first-is .size-some)) (x .placed (w .size) (first-is .size-some)))

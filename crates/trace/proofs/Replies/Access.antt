@@ -33,8 +33,8 @@ no-words (suc n) u w = rw (ne-eqb (suc n) 0 (λ e. omega arith))
 module _ (m : List ℕ) (a : ℕ) where
   read-is : (r : Region) (o : Option RegionEntry) → RegionSlot m r o
       → cond (dead r || eqb (heldAt m r a) 0) [] (take (heldAt m r a * r .page / 4) (drop (a / 4) m)) ≡ take (lentWords o a) (drop (a / 4) m)
-  read-is r o empty = refl
-  read-is r o (live e is) = rw (not-dead m e is, shows m e is .held a) (no-words (pagesAt a (e .loans)) (unit e) (drop (a / 4) m))
+  read-is r o (empty g) = refl
+  read-is r o (live g e is) = rw (not-dead m e is, shows m e is .held a) (no-words (pagesAt a (e .loans)) (unit e) (drop (a / 4) m))
 
 module _ (m : List ℕ) (d : Manager) (t : Receipts) (v : Inv m d t) where
   pub replies-write : (id a first : ℕ) (words : List ℕ) → replyOf (writeSegment m d id a first words) ≡ writeByReceipts t id a first words
@@ -44,7 +44,7 @@ module _ (m : List ℕ) (d : Manager) (t : Receipts) (v : Inv m d t) where
       (at-region m d (regionOf d id) (t .regions id) (v .picture .regions id)
       (λ r. check (eqb (heldAt m r a) 0) InvalidAddress ∷ check (ltb (heldAt m r a * r .page / 4) (first + length words)) InvalidSize ∷ [])
       (λ r. done (sets m (a / 4 + first) words) d 0) _
-      (λ e is q p. agree (test (none-at m e is a) (λ z.
+      (λ g e is q p. agree (test (none-at m e is a) (λ z.
       test (ap (λ (n : ℕ). ltb (n * unit e / 4) (first + length words)) (shows m e is .held a)) (λ z. acted refl)))))
 
   pub reads : (id a : ℕ) → readSegment m d id a ≡ readByReceipts m t id a

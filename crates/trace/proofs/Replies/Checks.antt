@@ -18,7 +18,7 @@ use Rattle.manager.specs.declared.Status.{Status}
 use Rattle.manager.specs.declared.Status.the-variants.{InvalidId}
 use Rattle.trace.specs.Receipts.{RegionEntry, PartitionEntry, Reply, replyOf}
 use Rattle.trace.specs.Replies.{no, decided, living}
-use Rattle.trace.proofs.Invariant.{regionFor, RegionIs, RegionSlot, PartitionIs, PartitionSlot, empty, live}
+use Rattle.trace.proofs.Invariant.{regionAs, RegionIs, RegionSlot, PartitionIs, PartitionSlot, empty, live}
 use Rattle.trace.proofs.Regions.Live.{not-dead}
 
 -- what is left of a directive is answered so
@@ -54,15 +54,15 @@ module _ (m : List ℕ) (d : Manager) where
 
   -- 4, and then what the entry says
   pub at-region : (r : Region) (o : Option RegionEntry) → RegionSlot m r o → (cs : Region → List Check) (act : Region → Result) (f : RegionEntry → Reply)
-      → ((e : RegionEntry) → RegionIs m e → o ≡ some e → r ≡ regionFor e → Answers m d (cs (regionFor e)) (act (regionFor e)) (f e))
+      → ((g : ℕ) (e : RegionEntry) → RegionIs m e → o ≡ some e → r ≡ regionAs g e → Answers m d (cs (regionAs g e)) (act (regionAs g e)) (f e))
       → Answers m d (check (dead r) InvalidId ∷ cs r) (act r) (living o f)
   unfolding checked
-  at-region r o empty cs act f h = refl
-  at-region r o (live e is) cs act f h = rw (not-dead m e is) (h e is refl refl)
+  at-region r o (empty g) cs act f h = refl
+  at-region r o (live g e is) cs act f h = rw (not-dead m e is) (h g e is refl refl)
 
   pub at-partition : (p : Partition) (o : Option PartitionEntry) → PartitionSlot m p o → (cs : Partition → List Check) (act : Partition → Result) (f : PartitionEntry → Reply)
       → ((e : PartitionEntry) → PartitionIs m p e → o ≡ some e → Answers m d (cs p) (act p) (f e))
       → Answers m d (check (deadPartition p) InvalidId ∷ cs p) (act p) (living o f)
   unfolding checked
-  at-partition p o empty cs act f h = refl
+  at-partition p o (empty g) cs act f h = refl
   at-partition p o (live x e is) cs act f h = rw (ne-eqb (p .name) 0 (is .named)) (h e is refl)

@@ -1,21 +1,23 @@
 -- The live partitions of sound records: laid in the memory, with a sound chain; a get and a return leave them so. Assumes nothing.
-use Prim.Native.Nat.{ℕ, zero, suc, _+_, _-_, _*_, _/_, _%_, _≤_, _<_}
-use mathlib.Core.Path.{_≡_, refl, ap}
-use mathlib.Core.Bool.{Bool, true, false, not}
-use mathlib.Core.List.{List, [], _∷_}
-use mathlib.Core.Logic.{_⊎_, inl, inr, ⊎-elim}
+use Prim.Native.Nat.{ℕ, _+_, _-_, _*_, _/_, _%_, _≤_, _<_}
+use mathlib.Core.Path.{_≡_, refl}
+use mathlib.Core.Bool.{true, false, not}
+use mathlib.Core.List.{List}
+use mathlib.Core.Logic.{⊎-elim}
 use native.Mathlib.Omega.{arith}
 use native.Mathlib.Nat.{lt-div-mul-add}
 use lib.ListN.{length, getD}
 use lib.Dec.{eqb, leb}
 use borrow.Author.Tests.{eqb-true, eqb-false, leb-true, not-true, eq-eqb, ne-eqb, le-leb}
-use Rattle.manager.specs.Record.{noPartition, slotOf, partitionOf}
-use Rattle.manager.specs.Lists.{every}
-use Rattle.manager.proofs.Laws.Lists.{and-first, and-second}
+use Rattle.manager.specs.Record.{slots, generations, noPartition, slotOf, partitionOf}
+use Rattle.manager.proofs.Laws.Lists.{and-first, and-second, every-at}
+use Rattle.manager.proofs.Laws.Sound.{sound-partitions, generation-most}
+use Rattle.manager.proofs.Laws.Ids.{Live, live-object, live-within}
 use Rattle.manager.specs.Partition.{buffers, isBuffer, isFree, soundChain, linkAll, afterGet, gotten, afterReturn, returned}
 use Rattle.manager.proofs.Laws.Distinct.{same-or-not}
-use Rattle.manager.specs.Partitions.{newPartition}
-use Rattle.manager.specs.Sound.{soundLength, inside, soundSize, livePartition, soundRegion, soundPartition, sound, LaidPartition}
+use Rattle.manager.specs.Partitions.{partitionGeneration, newPartition}
+use Rattle.manager.specs.Partition.{deadPartition}
+use Rattle.manager.specs.Sound.{soundLength, inside, soundSize, soundGeneration, emptyPartition, livePartition, soundPartition, sound, LaidPartition}
 use Rattle.manager.specs.declared.Manager.{Manager}
 use Rattle.manager.specs.declared.Partition.{Partition}
 use Rattle.manager.proofs.Laws.Partition.Links.{get-sound, return-sound}
@@ -95,9 +97,9 @@ some-buffer p z h =
     (λ (q : buffers p ≡ 0 → ⊥). omega arith)
     (same-or-not (buffers p) 0)
 
-module _ (m : List ℕ) (name start bytes size : ℕ) (a : start ≡ 0 → ⊥) (b : start % 4 ≡ 0) (c : start + bytes ≤ 4 * length m) (d : size ≤ bytes)
+module _ (m : List ℕ) (generation name start bytes size : ℕ) (a : start ≡ 0 → ⊥) (b : start % 4 ≡ 0) (c : start + bytes ≤ 4 * length m) (d : size ≤ bytes)
     (e : size % 4 ≡ 0) (f : 8 ≤ size) where
-  pub new-laid : LaidPartition m (newPartition name start bytes size)
+  pub new-laid : LaidPartition m (newPartition generation name start bytes size)
   new-laid =
       record {
         shaped =
@@ -110,18 +112,18 @@ module _ (m : List ℕ) (name start bytes size : ℕ) (a : start ≡ 0 → ⊥) 
         inside = c;
       }
 
-  pub new-created : Created (newPartition name start bytes size)
+  pub new-created : Created (newPartition generation name start bytes size)
   new-created =
       record {
         front = refl;
         rear = refl;
         free = refl;
-        some-in = some-buffer (newPartition name start bytes size) (omega arith) d;
+        some-in = some-buffer (newPartition generation name start bytes size) (omega arith) d;
       }
 
-  pub live-new : livePartition (linkAll (bytes / size) m (newPartition name start bytes size) 0) (newPartition name start bytes size) ≡ true
+  pub live-new : livePartition (linkAll (bytes / size) m (newPartition generation name start bytes size) 0) (newPartition generation name start bytes size) ≡ true
   live-new =
-      let p = newPartition name start bytes size in
+      let p = newPartition generation name start bytes size in
       let M = linkAll (buffers p) m p 0 in
       live-made M p (laid-too m M p p refl refl refl (all-length (buffers p) m p 0) new-laid) d (create-sound m p new-laid new-created)
 
@@ -130,23 +132,35 @@ pub sound-most : (m : List ℕ) (d : Manager) → sound m d ≡ true → length 
 unfolding sound
 sound-most m d e = leb-true _ _ (and-second (leb 1 (length m)) _ (and-first (soundLength m) _ e))
 
-every-at : {A : Type 0} (t : A → Bool) (l : List A) (i : ℕ) (z : A) → every t l ≡ true → (t (getD l i z) ≡ true) ⊎ (getD l i z ≡ z)
-unfolding every
-every-at t [] i z e = inr refl
-every-at t (x ∷ l) zero z e = inl (and-first (t x) _ e)
-every-at t (x ∷ l) (suc i) z e = every-at t l i z (and-second (t x) _ e)
+-- of one slot
+module _ (m : List ℕ) (p : Partition) (e : soundPartition m p ≡ true) where
+  pub partition-generation : soundGeneration (p .name) (p .generation) ≡ true
+  unfolding soundPartition
+  partition-generation = and-first (soundGeneration (p .name) (p .generation)) _ e
+
+  pub live-partition : deadPartition p ≡ false → livePartition m p ≡ true
+  unfolding soundPartition
+  live-partition f = rw f at (and-second (soundGeneration (p .name) (p .generation)) _ e)
+
+  pub empty-partition : deadPartition p ≡ true → emptyPartition p ≡ true
+  unfolding soundPartition
+  empty-partition f = rw f at (and-second (soundGeneration (p .name) (p .generation)) _ e)
+
+-- the generations of sound records
+pub partition-most : (m : List ℕ) (d : Manager) → sound m d ≡ true → length (d .partitions) ≡ slots → (i : ℕ) → i < slots → partitionGeneration d i ≤ generations
+partition-most m d ok n i h =
+    let p = getD (d .partitions) i noPartition in
+    generation-most (p .name) (p .generation) (partition-generation m p (every-at (soundPartition m) (d .partitions) i noPartition (sound-partitions m d ok) (omega arith)))
 
 module _ (m : List ℕ) (d : Manager) (e : sound m d ≡ true) where
-  every-partition : every (soundPartition m) (d .partitions) ≡ true
-  unfolding sound
-  every-partition =
-      let r = and-second (soundLength m) _ e in
-      and-first (every (soundPartition m) (d .partitions)) _ (and-second (every (soundRegion m) (d .regions)) _ r)
+  module _ (id : ℕ) (n : partitionOf d id .name ≡ 0 → ⊥) where
+    pub sound-slot : soundPartition m (partitionOf d id) ≡ true
+    sound-slot =
+        let v : Live (λ (p : Partition). p .name) (λ p. p .generation) noPartition (d .partitions) id =
+        live-object (λ p. p .name) (λ p. p .generation) noPartition (d .partitions) refl id n in
+        rw (v .is)
+        (every-at (soundPartition m) (d .partitions) (slotOf id) noPartition (sound-partitions m d e)
+        (live-within (λ p. p .name) (λ p. p .generation) noPartition (d .partitions) refl id v))
 
-  pub sound-live : (id : ℕ) → (partitionOf d id .name ≡ 0 → ⊥) → livePartition m (partitionOf d id) ≡ true
-  unfolding soundPartition
-  sound-live id n =
-      ⊎-elim
-      (λ (q : soundPartition m (partitionOf d id) ≡ true). rw (ne-eqb _ _ n) at q)
-      (λ (q : partitionOf d id ≡ noPartition). absurd (n (ap (λ (p : Partition). p .name) q)))
-      (every-at (soundPartition m) (d .partitions) (slotOf id) noPartition every-partition)
+    pub sound-live : livePartition m (partitionOf d id) ≡ true
+    sound-live = live-partition m (partitionOf d id) sound-slot (ne-eqb _ _ n)

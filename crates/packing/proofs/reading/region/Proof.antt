@@ -23,4 +23,7 @@ region-spec =
     (λ c. search (needs, reading))
     (λ c. search (needs, reading))
     (λ c. search (needs, reading))
+    (λ c. search (needs, reading))
+    (λ c. search (needs, reading))
+    (λ c. search (needs, reading))
     (λ c. search (needs, reading)))

@@ -2,13 +2,13 @@
 use Prim.Native.Nat.{_-_}
 use borrow.Author.Needs.{needs}
 use Rattle.packing.proofs.Laws.{taking, Taking}
-use Rattle.packing.specs.Packing.{waiterAt, waitersAt}
+use Rattle.packing.specs.Packing.{waiterSize, waiterAt, waitersAt}
 use Rattle.manager.specs.Record.{tasks, noWaiter}
 use Rattle.packing.proofs.reading.waiters.Statement.{statement}
 use Rattle.packing.proofs.reading.waiters.Tie as tie
 
 abbrev Inv-loop : tie.InvT-loop
-Inv-loop words all₀ k₀ all k = Taking waiterAt noWaiter 5 tasks waitersAt words all k
+Inv-loop words all₀ k₀ all k = Taking waiterAt noWaiter waiterSize tasks waitersAt words all k
 
 abbrev μ-loop : tie.MeasureT-loop
 μ-loop words all₀ k₀ all k = tasks - k

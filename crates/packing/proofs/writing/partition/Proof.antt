@@ -66,6 +66,15 @@ mul-words-7 c = search needs
 slice-write-words-7 : tie.Need-slice-write-words-7
 slice-write-words-7 c = simp length-set (omega (arith, c .pre))
 
+add-words-7 : tie.Need-add-words-7
+add-words-7 c = search needs
+
+mul-words-8 : tie.Need-mul-words-8
+mul-words-8 c = search needs
+
+slice-write-words-8 : tie.Need-slice-write-words-8
+slice-write-words-8 c = simp length-set (omega (arith, c .pre))
+
 same-length : tie.Need-same-length
 same-length c = search needs
 
@@ -96,5 +105,8 @@ partition-spec =
     add-words-6
     mul-words-7
     slice-write-words-7
+    add-words-7
+    mul-words-8
+    slice-write-words-8
     same-length
     returns)

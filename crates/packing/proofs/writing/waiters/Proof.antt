@@ -1,14 +1,14 @@
 -- The waiters before k are put, and those from k on give the whole. Assumes nothing.
 use Rattle.manager.specs.Record.{tasks}
 use Prim.Native.Nat.{_-_}
-use Rattle.packing.specs.Packing.{waiterWords, waitersAt}
+use Rattle.packing.specs.Packing.{waiterSize, waiterWords, waitersAt}
 use Rattle.packing.proofs.Laws.{packing, Putting}
 use borrow.Author.Needs.{needs}
 use Rattle.packing.proofs.writing.waiters.Statement.{statement}
 use Rattle.packing.proofs.writing.waiters.Tie as tie
 
 abbrev Inv-loop : tie.InvT-loop
-Inv-loop words₀ all k₀ words k = Putting waiterWords 5 tasks waitersAt all words₀ words k
+Inv-loop words₀ all k₀ words k = Putting waiterWords waiterSize tasks waitersAt all words₀ words k
 
 abbrev μ-loop : tie.MeasureT-loop
 μ-loop words₀ all k₀ words k = tasks - k

@@ -49,8 +49,8 @@ reply-requires-6 c κs = search (needs, creating)
 returns-6 : tie.Need-returns-6
 returns-6 c = search (needs, creating)
 
-partition-named-requires : tie.Need-partition-named-requires
-partition-named-requires c κs = search (needs, creating)
+unspent-partition-requires : tie.Need-unspent-partition-requires
+unspent-partition-requires c κs = search (needs, creating)
 
 reply-requires-7 : tie.Need-reply-requires-7
 reply-requires-7 c κs = search (needs, creating)
@@ -86,7 +86,7 @@ create-spec =
     overlaps-requires
     reply-requires-6
     returns-6
-    partition-named-requires
+    unspent-partition-requires
     reply-requires-7
     returns-7
     make-requires

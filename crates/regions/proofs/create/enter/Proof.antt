@@ -1,6 +1,6 @@
 -- `enter` meets its contract: each exit is one of the definition. Assumes nothing.
-use borrow.Author.Needs.{needs}
 use Rattle.regions.proofs.Making.{entry}
+use borrow.Author.Needs.{needs}
 use Rattle.regions.proofs.create.enter.Statement.{statement}
 use Rattle.regions.proofs.create.enter.Tie as tie
 
@@ -19,8 +19,7 @@ enter-spec =
     (λ c. search (needs, entry))
     (λ c κs. search (needs, entry))
     (λ c κs. search (needs, entry))
-    (λ c. search (needs, entry))
-    (λ c. search (needs, entry))
+    (λ c κs. search (needs, entry))
     (λ c κs. search (needs, entry))
     (λ c. search (needs, entry))
     (λ c. search (needs, entry)))

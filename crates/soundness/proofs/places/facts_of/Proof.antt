@@ -8,7 +8,7 @@ pub facts-of-spec : {M : Type 1} → statement M
 facts-of-spec =
     tie.close
     (tie.spec
-    (λ c. search (needs, facts-kept, facts-new))
+    (λ c. search (needs, facts-kept))
     (λ c κs. search needs)
     (λ c κs. search needs)
-    (λ c. search (needs, facts-kept, facts-new)))
+    (λ c. search (needs, facts-new)))

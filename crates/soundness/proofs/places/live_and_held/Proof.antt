@@ -9,6 +9,7 @@ pub live-and-held-spec : {M : Type 1} → statement M
 live-and-held-spec =
     tie.close
     (tie.spec
+    (λ c κs. search needs)
     (λ c. search (needs, tests))
     (λ c κs. search needs)
     (λ c κs. search needs)
