@@ -1,5 +1,5 @@
 /* What a firmware does with the library: a region with a task that waits and one whose time runs
- * out, a partition, and taking both down again. */
+ * out, a partition, taking both down again, and an old id that opens nothing. */
 #include <stdio.h>
 
 #include "steepleclay.h"
@@ -91,5 +91,7 @@ int main(void)
     say("get with a damaged map", scm_region_get_segment(&manager, region, 64, SC_NO_WAIT, 0, 0, 0));
     memory[1] = 30;
     say("delete the region, its map mended", scm_region_delete(&manager, region));
+    say("create it again", scm_region_create(&manager, 1, 4, 1020, 64, SC_PRIORITY));
+    say("get by the old id", scm_region_get_segment(&manager, region, 64, SC_NO_WAIT, 0, 0, 0));
     return 0;
 }

@@ -16,6 +16,11 @@
  * counted from the memory's first byte: word w is at 4 * w. Address 0 is NULL. Write only into
  * segments and buffers that you hold.
  *
+ * An id is slot + 16 * generation. Regions have slots 1 to SC_SLOTS, and partitions have their own;
+ * a slot's generation is 0 at first and rises by one whenever the object in it is deleted. So an id
+ * never opens another object than the one that it was given for. A slot that is deleted at
+ * generation 65,535 is spent and is not used again.
+ *
  * What the functions can't tell, and the caller must see to: each pointer is valid for the length
  * passed with it (not null, unless the length is 0) and aligned to 4 bytes, and no two buffers of
  * one call overlap. Calls on one record must not run at the same time. Everything else is checked,
@@ -40,23 +45,24 @@ extern "C" {
 #endif
 
 /* Sizes, in words and numbers of things. */
-#define SC_SLOTS 8u  /* regions, and partitions, at the same time; ids are 1 to SC_SLOTS */
+#define SC_SLOTS 8u  /* regions, and partitions, at the same time */
 #define SC_TASKS 16u /* waiting tasks are numbered 1 to SC_TASKS */
 #define SC_MEMORY_WORDS 16384u /* at most; at least 1 */
-#define SC_RECORD_WORDS 176u
+#define SC_RECORD_WORDS 192u
 #define SC_ANSWER_WORDS 55u
 
 /*
- * The layout of the record's words. 1: SC_SLOTS regions (name, start, length, page, order), then
- * SC_SLOTS partitions (name, start, length, size, front, rear, free count), then SC_TASKS waiters
- * (task, region's id, size, priority, ticks left), all zeros where unused. The number goes up when
- * a word changes its place or its meaning. Whoever keeps a record longer than a run of the program
- * keeps this number beside it, and hands the record to no library with another.
+ * The layout of the record's words. 2: SC_SLOTS regions (name, generation, start, length, page,
+ * order), then SC_SLOTS partitions (name, generation, start, length, size, front, rear, free
+ * count), then SC_TASKS waiters (task, region's id, size, priority, ticks left), all zeros where
+ * unused, but for the generation that an emptied slot keeps. (1 had no generations.) The number
+ * goes up when a word changes its place or its meaning. Whoever keeps a record longer than a run of
+ * the program keeps this number beside it, and hands the record to no library with another.
  */
-#define STEEPLECLAY_RECORD_VERSION 1
+#define STEEPLECLAY_RECORD_VERSION 2
 
 /*
- * The stack that a call needs: 10 KB were measured, rounded up here. tests/stack/run measures it:
+ * The stack that a call needs: 11 KB were measured, rounded up here. tests/stack/run measures it:
  * each function is called on a stack filled with a pattern, with fresh, full and damaged records,
  * and the deepest word that was written counts.
  */
@@ -79,8 +85,8 @@ extern "C" {
 /* Statuses: RTEMS numbers, but for SC_WAITING. */
 #define SC_SUCCESSFUL 0u        /* RTEMS_SUCCESSFUL */
 #define SC_INVALID_NAME 3u      /* RTEMS_INVALID_NAME: name 0, or not found */
-#define SC_INVALID_ID 4u        /* RTEMS_INVALID_ID: no live object under the id */
-#define SC_TOO_MANY 5u          /* RTEMS_TOO_MANY: every slot of the kind is in use */
+#define SC_INVALID_ID 4u        /* RTEMS_INVALID_ID: no live object has the id */
+#define SC_TOO_MANY 5u          /* RTEMS_TOO_MANY: every slot of the kind is in use or spent */
 #define SC_TIMEOUT 6u           /* RTEMS_TIMEOUT: in a notice */
 #define SC_INVALID_SIZE 8u      /* RTEMS_INVALID_SIZE: a size, length or page size not allowed */
 #define SC_INVALID_ADDRESS 9u   /* RTEMS_INVALID_ADDRESS: area not allowed, or nothing held there */
@@ -155,7 +161,7 @@ static inline uint32_t scm_region_create(sc_manager *m, uint32_t name, uint32_t 
     return sc_region_create(SC_OF(m), name, start, length, page, order);
 }
 
-/* Value: the id of the lowest region with the name.
+/* Value: the id of the region with the name; of several, the one in the lowest slot.
  * Statuses: SC_SUCCESSFUL, SC_INVALID_NAME. */
 static inline uint32_t scm_region_ident(sc_manager *m, uint32_t name)
 {
@@ -223,7 +229,7 @@ static inline uint32_t scm_partition_create(sc_manager *m, uint32_t name, uint32
     return sc_partition_create(SC_OF(m), name, start, length, size);
 }
 
-/* Value: the id of the lowest partition with the name.
+/* Value: the id of the partition with the name; of several, the one in the lowest slot.
  * Statuses: SC_SUCCESSFUL, SC_INVALID_NAME. */
 static inline uint32_t scm_partition_ident(sc_manager *m, uint32_t name)
 {

@@ -4,9 +4,10 @@
 //! succeed; the others are near the limits or anything at all. What is right
 //! is never read from the model here.
 
+pub mod cases;
 mod random;
 
-use directives::words::{SLOTS, TASKS};
+use directives::words::{generation_of, GENERATIONS, ID_STEP, SLOTS, TASKS};
 use directives::{Call, Directive};
 use model::Model;
 pub use random::Random;
@@ -146,26 +147,65 @@ impl Author<'_> {
         u32::from(self.random.chance(percent))
     }
 
-    /// One of some ids, if there is any.
-    fn id(&mut self, live: &[u32]) -> u32 {
+    /// One of some ids, if there is any, or an odd one, of the kind with these
+    /// slots.
+    fn id(&mut self, ids: &[u32], slots: &[(u32, bool)]) -> u32 {
         if self.is_odd() {
-            return match self.random.below(2) {
-                0 => self.random.between(0, SLOTS as u32 + 1),
-                _ => self
-                    .random
-                    .pick(&[0, 9, 10, 255, 256, 257, 1 << 31, u32::MAX]),
-            };
+            return self.odd_id(slots);
         }
-        let any = self.random.between(1, SLOTS as u32);
-        self.random.pick_any(live).unwrap_or(any)
+        let (any, _) = self.random.pick(slots);
+        self.random.pick_any(ids).unwrap_or(any)
+    }
+
+    /// An id of some slot, of another generation of it or of no slot.
+    fn odd_id(&mut self, slots: &[(u32, bool)]) -> u32 {
+        let (id, _) = self.random.pick(slots);
+        match self.random.below(9) {
+            0 => id,
+            1 => self.random.between(0, SLOTS as u32 + 1),
+            2 => self
+                .random
+                .pick(&[9, 255, 256, 257, 1 << 20, 1 << 31, u32::MAX]),
+            // No slot has these numbers.
+            3 => {
+                let number = self.random.pick(&[0, 9, 10, 11, 12, 13, 14, 15]);
+                ID_STEP * generation_of(id) + number
+            }
+            4 => id.wrapping_sub(ID_STEP.wrapping_mul(self.distance())),
+            5 => id.wrapping_add(ID_STEP.wrapping_mul(self.distance())),
+            _ => self.old_id(slots),
+        }
+    }
+
+    /// An id that a slot gave before, if one did.
+    fn old_id(&mut self, slots: &[(u32, bool)]) -> u32 {
+        let mut used = slots.to_vec();
+        used.retain(|(id, _)| generation_of(*id) > 0);
+        let (id, _) = self.random.pick_any(&used).unwrap_or(slots[0]);
+        let generations = generation_of(id);
+        let most = match self.random.chance(80) {
+            true => generations.min(3),
+            false => generations,
+        };
+        id - ID_STEP * self.random.between(most.min(1), most)
+    }
+
+    /// How far a generation is from another: mostly a little, or what is lost
+    /// where too few bits are kept.
+    fn distance(&mut self) -> u32 {
+        match self.random.below(4) {
+            0 => self.random.pick(&[255, 256, 4_096, 32_768, 65_535]),
+            1 => GENERATIONS << self.random.between(0, 11),
+            _ => self.random.between(1, 5),
+        }
     }
 
     pub fn region_id(&mut self) -> u32 {
-        self.id(&self.model.region_ids())
+        self.id(&self.model.region_ids(), &self.model.region_slots())
     }
 
     pub fn partition_id(&mut self) -> u32 {
-        self.id(&self.model.partition_ids())
+        self.id(&self.model.partition_ids(), &self.model.partition_slots())
     }
 
     /// The id of a region of which something is held, if there is one.
@@ -174,7 +214,7 @@ impl Author<'_> {
         ids.retain(|&id| self.model.segments(id).iter().any(|segment| segment.held));
         match ids[..] {
             [] => self.region_id(),
-            _ => self.id(&ids),
+            _ => self.id(&ids, &self.model.region_slots()),
         }
     }
 
@@ -184,7 +224,7 @@ impl Author<'_> {
         ids.retain(|&id| !self.model.held_buffers(id).is_empty());
         match ids[..] {
             [] => self.partition_id(),
-            _ => self.id(&ids),
+            _ => self.id(&ids, &self.model.partition_slots()),
         }
     }
 
@@ -448,6 +488,46 @@ impl Author<'_> {
             address,
             first,
             words,
+        }
+    }
+}
+
+#[cfg(test)]
+mod tests {
+    use super::*;
+    use std::collections::BTreeSet;
+
+    /// Odd ids are of earlier and later generations, of empty slots and of no
+    /// slot; the others are live.
+    #[test]
+    fn ids_of_all_sorts_are_made_up() {
+        let mut model = Model::fresh();
+        let create = Directive::CreateRegion.call(&[1, 4, 1_020, 64, 0]);
+        for id in [1, 17] {
+            model.call(&create);
+            model.call(&Directive::DeleteRegion.call(&[id]));
+        }
+        assert_eq!(model.call(&create).value, 33);
+        let mut random = Random::for_list(0, 0);
+        let mut ids = |odd: u32| -> BTreeSet<u32> {
+            let style = Style {
+                odd,
+                ..Style::default()
+            };
+            let mut author = Author {
+                random: &mut random,
+                style: &style,
+                model: &model,
+            };
+            (0..5_000).map(|_| author.region_id()).collect()
+        };
+        assert_eq!(ids(0), [33].into());
+        let odd = ids(100);
+        let expected = [
+            1, 17, 49, 65, 33, 2, 8, 0, 9, 15, 32, 41, 47, 1048609, 4294967295,
+        ];
+        for id in expected {
+            assert!(odd.contains(&id), "{id}");
         }
     }
 }

@@ -117,7 +117,7 @@ impl Builder {
 
     fn region(&mut self, index: u32, fill: Fill) {
         let (start, length, page) = self.load.region_shape(index);
-        let slot = [name_of(index), start, length, page, 0];
+        let slot = [name_of(index), 0, start, length, page, 0];
         self.record[region_at(index as usize)..][..REGION_WORDS].copy_from_slice(&slot);
         let layout = layout(start, length, page);
         let map = &mut self.memory[layout.map..][..layout.pages as usize];
@@ -150,6 +150,7 @@ impl Builder {
         }
         let slot = [
             name_of(index),
+            0,
             start,
             length,
             size,
@@ -164,7 +165,7 @@ impl Builder {
     fn waiter(&mut self, index: u32, pages: u32) {
         let (_, _, page) = self.load.region_shape(index);
         let task = self.waiters as u32 + 1;
-        let place = [task, index + 1, pages * page, 5, 9];
+        let place = [task, id_of(index as usize, 0), pages * page, 5, 9];
         self.record[waiter_at(self.waiters)..][..WAITER_WORDS].copy_from_slice(&place);
         self.waiters += 1;
     }
@@ -231,7 +232,7 @@ pub fn scene(row: &'static str, load: Load) -> Scene {
         _ => Target::Region,
     };
     let last = if load.is_full() { 7 } else { 0 };
-    let id = last + 1;
+    let id = id_of(last as usize, 0);
     let mut builder = Builder::new(load);
     let makes_target = !row.ends_with("create");
     let fill = match row {
@@ -267,7 +268,7 @@ pub fn scene(row: &'static str, load: Load) -> Scene {
 
     // The waiters: all want all pages, so that none is served, but for the
     // one that is to be.
-    let last_can_wait = builder.record[region_at(last as usize)] != 0
+    let last_can_wait = builder.record[region_at(last as usize) + NAME] != 0
         && !(target == Target::Region && fill == Fill::Free);
     if load.is_full() {
         let total = 15;

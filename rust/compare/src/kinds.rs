@@ -17,6 +17,7 @@ pub enum Kind {
     ManySegments,
     Layouts,
     Slots,
+    Generations,
     Edges,
     BadNumber,
     BadName,
@@ -42,6 +43,7 @@ impl Kind {
             Kind::ManySegments => "many segments",
             Kind::Layouts => "layouts",
             Kind::Slots => "all slots in use",
+            Kind::Generations => "slots used again",
             Kind::Edges => "numbers at the edges",
             Kind::BadNumber => "bad number",
             Kind::BadName => "bad name",
@@ -59,7 +61,7 @@ impl Kind {
 }
 
 /// The kinds in turn. Those with more to find come more often.
-pub const ROUND: [Kind; 43] = [
+pub const ROUND: [Kind; 46] = [
     Kind::Mixed,
     Kind::Waiting,
     Kind::Refused,
@@ -67,6 +69,7 @@ pub const ROUND: [Kind; 43] = [
     Kind::Resizing,
     Kind::Layouts,
     Kind::Slots,
+    Kind::Generations,
     Kind::Edges,
     Kind::BadNumber,
     Kind::DamagedBytes,
@@ -76,6 +79,7 @@ pub const ROUND: [Kind; 43] = [
     Kind::Partitions,
     Kind::Resizing,
     Kind::Layouts,
+    Kind::Generations,
     Kind::DamagedLines,
     Kind::CutOff,
     Kind::BadName,
@@ -96,6 +100,7 @@ pub const ROUND: [Kind; 43] = [
     Kind::Waiting,
     Kind::Refused,
     Kind::Partitions,
+    Kind::Generations,
     Kind::Edges,
     Kind::BadName,
     Kind::DamagedLines,
@@ -156,6 +161,7 @@ fn good_script(kind: Kind, random: &mut Random) -> Option<Vec<u8>> {
         Kind::ManySegments => many_segments(&mut script),
         Kind::Layouts => layouts(&mut script),
         Kind::Slots => slots(&mut script),
+        Kind::Generations => generations(&mut script),
         Kind::Edges => edges(&mut script),
         _ => return None,
     }
@@ -343,6 +349,26 @@ fn slots(script: &mut Script) {
         (6, One(GetBuffer)),
         (3, One(Tick)),
     ]);
+}
+
+/// Slots are used again and again, old ids are named, and tasks wait in several
+/// regions at a time.
+fn generations(script: &mut Script) {
+    script.style.odd = script.random.pick(&[3, 15, 30]);
+    script.style.longest = script.random.pick(&[100, 300, 1_000]);
+    script.style.waits = 90;
+    script.repeat(2, 5, One(CreateRegion));
+    script.repeat(1, 3, One(CreatePartition));
+    script.fill(&every_and(&[
+        (3, RenewRegion),
+        (3, RenewPartition),
+        (20, One(Get)),
+        (5, One(Return)),
+        (2, One(Resize)),
+        (3, One(GetBuffer)),
+        (2, One(ReturnBuffer)),
+        (4, One(Tick)),
+    ]));
 }
 
 fn edges(script: &mut Script) {

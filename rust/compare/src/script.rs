@@ -32,6 +32,10 @@ pub enum Step {
     ClearRegion,
     /// Returning all that a partition holds, and deleting it.
     ClearPartition,
+    /// The same of a region, and a new one, so that a slot is used again.
+    RenewRegion,
+    /// The same of a partition.
+    RenewPartition,
     /// Taking the buffers that a partition has left, and one more.
     DrainPartition,
     /// A region whose area ends at, or one byte around, the end of its last
@@ -116,6 +120,14 @@ impl Script {
                 self.clear_region(id);
             }
             Step::ClearPartition => self.clear_partition(),
+            Step::RenewRegion => {
+                self.take(Step::ClearRegion);
+                self.one(Directive::CreateRegion);
+            }
+            Step::RenewPartition => {
+                self.clear_partition();
+                self.one(Directive::CreatePartition);
+            }
             Step::DrainPartition => self.drain_partition(),
             Step::Layout => self.layout(),
         }

@@ -1,7 +1,9 @@
 //! Counts what the scripts have led to.
 
 use crate::kinds::{Kind, ROUND};
-use directives::SCRIPT;
+use author::cases::{Case, Ids};
+use directives::{Answer, Directive, Notice, SCRIPT};
+use model::Model;
 use std::collections::BTreeMap;
 use std::fmt;
 
@@ -12,9 +14,10 @@ const NOTICES: [u32; 2] = [0, 6];
 #[derive(Default)]
 pub struct Tally {
     kinds: BTreeMap<Kind, u64>,
-    calls: BTreeMap<(String, u32), u64>,
+    calls: BTreeMap<(Directive, u32), u64>,
     statuses: BTreeMap<u32, u64>,
     notices: BTreeMap<u32, u64>,
+    cases: BTreeMap<Case, u64>,
     too_long: u64,
     bad_lines: u64,
 }
@@ -23,26 +26,25 @@ impl Tally {
     /// Counts a script and the output on which both programs agreed.
     pub fn add(&mut self, kind: Kind, script: &[u8], output: &[u8]) {
         *self.kinds.entry(kind).or_default() += 1;
-        // Calls are answered in turn, so the names and the statuses pair up.
-        let mut names = call_names(script).into_iter();
-        for line in String::from_utf8_lossy(output).lines() {
-            let Some((key, number)) = line.split_once('=') else {
-                continue;
-            };
-            let Ok(number) = number.parse::<u32>() else {
-                continue;
-            };
-            match key {
-                "status" => {
-                    let name = names.next().unwrap_or_default();
-                    *self.statuses.entry(number).or_default() += 1;
-                    *self.calls.entry((name, number)).or_default() += 1;
-                }
-                "with" => *self.notices.entry(number).or_default() += 1,
-                "bad" if number == 0 => self.too_long += 1,
-                "bad" => self.bad_lines += 1,
-                _ => {}
+        let (answers, bad) = answers_of(output);
+        match bad {
+            Some(0) => self.too_long += 1,
+            Some(_) => self.bad_lines += 1,
+            None => {}
+        }
+        // Calls are answered in turn. The model tells which ids were live.
+        let mut model = Model::fresh();
+        for (call, answer) in second::calls(script).iter().zip(&answers) {
+            let called = (call.directive(), answer.status);
+            *self.calls.entry(called).or_default() += 1;
+            *self.statuses.entry(answer.status).or_default() += 1;
+            for notice in &answer.notices {
+                *self.notices.entry(notice.status).or_default() += 1;
             }
+            for case in Ids::new(&model).cases(call, answer) {
+                *self.cases.entry(case).or_default() += 1;
+            }
+            model.call(call);
         }
     }
 
@@ -55,11 +57,10 @@ impl Tally {
                 missing.push(title);
             }
         }
-        for directive in SCRIPT {
-            let name = directive.name();
+        for &directive in SCRIPT {
             for &status in directive.statuses() {
-                if !self.calls.contains_key(&(name.to_string(), status)) {
-                    missing.push(format!("status {status} of {name}"));
+                if !self.calls.contains_key(&(directive, status)) {
+                    missing.push(format!("status {status} of {}", directive.name()));
                 }
             }
         }
@@ -68,6 +69,9 @@ impl Tally {
                 missing.push(format!("status {status} in a notice"));
             }
         }
+        let cases = Case::of_scripts().into_iter();
+        let never = cases.filter(|case| !self.cases.contains_key(case));
+        missing.extend(never.map(|case| case.to_string()));
         if self.too_long == 0 {
             missing.push("bad=0".to_string());
         }
@@ -78,13 +82,39 @@ impl Tally {
     }
 }
 
-/// The names of the calls of a script, in order.
-fn call_names(script: &[u8]) -> Vec<String> {
-    let lines = script.split(|&byte| byte == b'\n');
-    let names = lines.filter_map(|line| line.strip_prefix(b"call="));
-    names
-        .map(|name| String::from_utf8_lossy(name).into_owned())
-        .collect()
+/// The answers that an output has, and the number of its bad line. A value
+/// behind a task is the address of its notice.
+fn answers_of(output: &[u8]) -> (Vec<Answer>, Option<u32>) {
+    let mut answers: Vec<Answer> = Vec::new();
+    let mut bad = None;
+    for line in String::from_utf8_lossy(output).lines() {
+        let Some((key, number)) = line.split_once('=') else {
+            continue;
+        };
+        let Ok(number) = number.parse::<u32>() else {
+            continue;
+        };
+        match (key, answers.last_mut()) {
+            ("status", _) => answers.push(Answer::status(number)),
+            ("bad", _) => bad = Some(number),
+            ("task", Some(answer)) => answer.notices.push(Notice {
+                task: number,
+                status: 0,
+                address: 0,
+            }),
+            ("with", Some(answer)) => {
+                if let Some(notice) = answer.notices.last_mut() {
+                    notice.status = number;
+                }
+            }
+            ("value", Some(answer)) => match answer.notices.last_mut() {
+                Some(notice) => notice.address = number,
+                None => answer.value = number,
+            },
+            _ => {}
+        }
+    }
+    (answers, bad)
 }
 
 impl fmt::Display for Tally {
@@ -105,14 +135,18 @@ impl fmt::Display for Tally {
         writeln!(out, "  {:<22}{:>9}", "bad=0", self.too_long)?;
         writeln!(out, "  {:<22}{:>9}", "bad= line number", self.bad_lines)?;
         writeln!(out, "Statuses (and how often) by call:")?;
-        for name in SCRIPT.iter().map(|directive| directive.name()) {
-            write!(out, "  {name:<16}")?;
-            for ((of, status), count) in &self.calls {
-                if of == name {
+        for &directive in SCRIPT {
+            write!(out, "  {:<16}", directive.name())?;
+            for (&(of, status), count) in &self.calls {
+                if of == directive {
                     write!(out, "  {status} ({count})")?;
                 }
             }
             writeln!(out)?;
+        }
+        writeln!(out, "Ids and generations:")?;
+        for (case, count) in &self.cases {
+            writeln!(out, "  {:<54}{count:>9}", case.to_string())?;
         }
         Ok(())
     }
@@ -130,14 +164,38 @@ mod tests {
                        status=4\nvalue=0\nstatus=9\nvalue=0\nbad=8\n";
         tally.add(Kind::Mixed, script, output);
         tally.add(Kind::AtLimit, b"", b"bad=0\n");
-        assert_eq!(tally.calls[&("tick".to_string(), 0)], 1);
-        assert_eq!(tally.calls[&("info".to_string(), 4)], 1);
-        assert_eq!(tally.calls[&("return".to_string(), 9)], 1);
+        assert_eq!(tally.calls[&(Directive::Tick, 0)], 1);
+        assert_eq!(tally.calls[&(Directive::Information, 4)], 1);
+        assert_eq!(tally.calls[&(Directive::Return, 9)], 1);
         assert_eq!(tally.notices[&6], 1);
         assert_eq!((tally.bad_lines, tally.too_long), (1, 1));
         let missing = tally.missing();
         assert!(missing.contains(&"status 0 in a notice".to_string()));
         assert!(missing.contains(&"status 255 of get".to_string()));
         assert!(!missing.contains(&"status 4 of info".to_string()));
+    }
+
+    /// Every case of ids is asked for, and one that a script reaches is counted.
+    #[test]
+    fn cases_are_counted() {
+        let mut tally = Tally::default();
+        let create = "call=create-region\nname=1\nstart=4\nlength=1020\npage=64\norder=0\n";
+        let script =
+            format!("{create}call=delete-region\nid=1\n{create}call=info\nid=1\ncall=tick\n");
+        tally.add(
+            Kind::Mixed,
+            script.as_bytes(),
+            &second::run(script.as_bytes()),
+        );
+        let expected = [
+            (Case::UsedAgain(Directive::CreateRegion), 1),
+            (Case::Earlier(Directive::Information), 1),
+        ];
+        assert_eq!(tally.cases, expected.into());
+        let missing = tally.missing();
+        for case in Case::of_scripts() {
+            let is_missing = missing.contains(&case.to_string());
+            assert_eq!(is_missing, !tally.cases.contains_key(&case), "{case}");
+        }
     }
 }

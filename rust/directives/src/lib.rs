@@ -142,6 +142,11 @@ impl Directive {
         self.function().starts_with("sc_partition_")
     }
 
+    /// Whether its first key is the id of an object.
+    pub fn has_id(self) -> bool {
+        self.keys().first() == Some(&"id")
+    }
+
     /// Whether the library's function fills in an answer.
     pub fn has_answer(self) -> bool {
         SCRIPT.contains(&self)
@@ -161,6 +166,19 @@ impl Call {
             Call::Get { wait, .. } => wait > 1,
             _ => false,
         }
+    }
+
+    /// The same call, but for its id if it has one.
+    pub fn with_id(&self, id: u32) -> Call {
+        let mut arguments = self.arguments();
+        if self.directive().has_id() {
+            arguments[0] = id;
+        }
+        let mut call = self.directive().call(&arguments);
+        if let (Call::Write { words, .. }, Call::Write { words: own, .. }) = (&mut call, self) {
+            words.clone_from(own);
+        }
+        call
     }
 
     /// The lines of the call in a script.
@@ -254,6 +272,19 @@ mod tests {
         assert_eq!(Directive::of_script(b"read"), None);
         assert!(Directive::Get.call(&[1, 2, 2, 4, 5, 6]).has_wrong_choice());
         assert!(!Directive::Resize.call(&[1, 2, 2]).has_wrong_choice());
+    }
+
+    #[test]
+    fn calls_with_another_id() {
+        let call = |id| Call::Write {
+            id,
+            address: 64,
+            first: 1,
+            words: vec![5, 6],
+        };
+        assert_eq!(call(1).with_id(17), call(17));
+        let ident = Directive::IdentRegion.call(&[1]);
+        assert_eq!(ident.with_id(17), ident);
     }
 
     #[test]

@@ -12,6 +12,7 @@ use crate::lists::{self, List};
 use crate::sound;
 use crate::state::State;
 use crate::tally::Tally;
+use author::cases::Ids;
 use author::Random;
 use directives::words::*;
 use directives::{Answer, Call, Directive};
@@ -135,7 +136,7 @@ impl<'a, L: Library> Comparison<'a, L> {
     }
 
     /// Makes one call on a sound state, by the library and by the model.
-    fn step(
+    pub(crate) fn step(
         &mut self,
         random: &mut Random,
         model: &mut Model,
@@ -154,11 +155,13 @@ impl<'a, L: Library> Comparison<'a, L> {
     ) -> Result<Answer, String> {
         let (record, memory) = (model.record(), model.memory().to_vec());
         let before = answer_before(random, call, model, words);
+        let ids = Ids::new(model);
         let answer = model.call(call);
         let (record_after, memory_after) = (model.record(), model.memory());
         sound::check(&record_after, memory_after)
             .map_err(|clause| format!("{call:?} leaves the model unsound: {clause}"))?;
-        self.tally.add_sound_call(&answer, model);
+        let cases = ids.cases(call, &answer);
+        self.tally.add_sound_call(cases, &answer, model);
 
         let buffers = [&record[..], &memory, &before];
         if answer.is_internal_error() {

@@ -27,6 +27,11 @@ pub struct Kind {
     pub apply: Apply,
 }
 
+/// Generations of live slots, of empty ones, and of no slot.
+const LIVE_GENERATIONS: [u32; 6] = [0, 1, 2, 256, 65_534, 65_535];
+const EMPTY_GENERATIONS: [u32; 6] = [0, 1, 2, 256, 65_535, 65_536];
+const NO_GENERATIONS: [u32; 4] = [65_537, 131_072, 1 << 31, MAX];
+
 /// Sets one field of a random live region.
 fn region_field(
     random: &mut Random,
@@ -60,6 +65,32 @@ fn waiter_field(
 ) -> Option<()> {
     let at = state.some_waiter(random)?;
     state.record[at + field] = random.pick(values);
+    Some(())
+}
+
+/// Sets the generation of a random one of some slots.
+fn generation(
+    random: &mut Random,
+    state: &mut State,
+    slots: Vec<usize>,
+    values: &[u32],
+) -> Option<()> {
+    let at = random.pick_any(&slots)?;
+    state.record[at + GENERATION] = random.pick(values);
+    Some(())
+}
+
+/// Sets one of some fields of a random empty slot to a word that is not 0; its
+/// generation is any that an empty slot may keep.
+fn empty_field(
+    random: &mut Random,
+    state: &mut State,
+    empty: Vec<usize>,
+    fields: &[usize],
+) -> Option<()> {
+    let at = random.pick_any(&empty)?;
+    state.record[at + GENERATION] = random.pick(&EMPTY_GENERATIONS);
+    state.record[at + random.pick(fields)] = random.pick(&[1, 8, 1 << 31, MAX]);
     Some(())
 }
 
@@ -229,12 +260,16 @@ pub const KINDS: &[Kind] = &[
         state.memory.truncate(words - random.below(words.min(3)));
         Some(())
     }),
-    unsound("record of 175 words", |_, state| {
+    unsound("record of 191 words", |_, state| {
         state.record.truncate(RECORD_WORDS - 1);
         Some(())
     }),
-    unsound("record of 177 words", |_, state| {
+    unsound("record of 193 words", |_, state| {
         state.record.push(0);
+        Some(())
+    }),
+    unsound("record of 176 words, as without generations", |_, state| {
+        state.record.truncate(176);
         Some(())
     }),
     unsound("record of 0 words", |_, state| {
@@ -253,6 +288,44 @@ pub const KINDS: &[Kind] = &[
         state.answer_words = 0;
         Some(())
     }),
+    // Generations of both kinds.
+    unsound("region's generation above 65,535", |random, state| {
+        let values = [&NO_GENERATIONS[..], &[65_536]].concat();
+        generation(random, state, state.regions(true), &values)
+    }),
+    unsound(
+        "empty region slot's generation above 65,536",
+        |random, state| generation(random, state, state.regions(false), &NO_GENERATIONS),
+    ),
+    unsound("partition's generation above 65,535", |random, state| {
+        let values = [&NO_GENERATIONS[..], &[65_536]].concat();
+        generation(random, state, state.partitions(true), &values)
+    }),
+    unsound(
+        "empty partition slot's generation above 65,536",
+        |random, state| generation(random, state, state.partitions(false), &NO_GENERATIONS),
+    ),
+    sound("generations: any that are allowed", |random, state| {
+        state.set_generations(|live| match live {
+            true => random.pick(&LIVE_GENERATIONS),
+            false => random.pick(&EMPTY_GENERATIONS),
+        });
+        Some(())
+    }),
+    sound("generations: the last ones", |random, state| {
+        state.set_generations(|live| match live {
+            true => 65_535,
+            false => random.pick(&[65_535, 65_536]),
+        });
+        Some(())
+    }),
+    sound("generations: every empty slot spent", |random, state| {
+        state.set_generations(|live| match live {
+            true => random.pick(&LIVE_GENERATIONS),
+            false => 65_536,
+        });
+        Some(())
+    }),
     // Slots of regions.
     unsound("order neither 0 nor 1", |random, state| {
         region_field(random, state, ORDER, &[2, 3, 256, MAX])
@@ -263,10 +336,8 @@ pub const KINDS: &[Kind] = &[
         Some(())
     }),
     unsound("empty region slot with a field not 0", |random, state| {
-        let at = random.pick_any(&state.regions(false))?;
-        let field = random.pick(&[START, LENGTH, PAGE]);
-        state.record[at + field] = random.pick(&[1, 8, 1 << 31, MAX]);
-        Some(())
+        let fields = [START, LENGTH, PAGE];
+        empty_field(random, state, state.regions(false), &fields)
     }),
     unsound("name of a live region 0", |random, state| {
         region_field(random, state, NAME, &[0])
@@ -331,10 +402,8 @@ pub const KINDS: &[Kind] = &[
     unsound(
         "empty partition slot with a field not 0",
         |random, state| {
-            let at = random.pick_any(&state.partitions(false))?;
-            state.record[at + random.pick(&[1, 2, 3, 4, 5, 6])] =
-                random.pick(&[1, 8, 1 << 31, MAX]);
-            Some(())
+            let fields = [START, LENGTH, SIZE, FRONT, REAR, FREE];
+            empty_field(random, state, state.partitions(false), &fields)
         },
     ),
     unsound("name of a live partition 0", |random, state| {
@@ -738,15 +807,38 @@ pub const KINDS: &[Kind] = &[
     unsound("waiter: task 0", |random, state| {
         waiter_field(random, state, TASK, &[0])
     }),
-    unsound("waiter: region id not 1 to 8", |random, state| {
-        waiter_field(random, state, REGION, &[0, 9, 10, 257, MAX])
+    unsound("waiter: region's id of no slot", |random, state| {
+        waiter_field(random, state, REGION, &[0, 9, 15, 16, 25, 32, MAX])
     }),
     unsound("waiter: empty region", |random, state| {
         let empty = random.pick_any(&state.regions(false))?;
         let at = state.some_waiter(random)?;
-        state.record[at + REGION] = (empty / REGION_WORDS) as u32 + 1;
+        state.record[at + REGION] = state.id(empty);
         Some(())
     }),
+    unsound(
+        "waiter: region's id of another generation",
+        |random, state| {
+            let at = state.some_waiter(random)?;
+            let distance = random.pick(&[1, 2, 256, 65_535, 65_536, 1 << 27]);
+            let by = ID_STEP * distance;
+            let id = &mut state.record[at + REGION];
+            *id = match random.chance(50) {
+                true => id.wrapping_add(by),
+                false => id.wrapping_sub(by),
+            };
+            Some(())
+        },
+    ),
+    unsound(
+        "waiter: its region of the next generation",
+        |random, state| {
+            let at = state.some_waiter(random)?;
+            let region = state.region_of(at)?;
+            state.record[region + GENERATION] += 1;
+            Some(())
+        },
+    ),
     unsound("waiter: in a region with nothing held", |random, state| {
         let mut regions = state.regions(true);
         regions.retain(|&region| !state.anything_held(region));
@@ -758,7 +850,7 @@ pub const KINDS: &[Kind] = &[
         "waiter: all segments of its region freed",
         |random, state| {
             let at = state.some_waiter(random)?;
-            let region = region_at(state.record[at + REGION] as usize - 1);
+            let region = state.region_of(at)?;
             let layout = state.layout(region);
             let map = &mut state.memory[layout.map..][..layout.pages as usize];
             map.fill(0);
@@ -771,7 +863,7 @@ pub const KINDS: &[Kind] = &[
     }),
     unsound("waiter: size above the region's pages", |random, state| {
         let at = state.some_waiter(random)?;
-        let region = region_at(state.record[at + REGION] as usize - 1);
+        let region = state.region_of(at)?;
         let page = state.record[region + PAGE];
         let most = page * state.layout(region).pages;
         state.record[at + WANTED] = random.pick(&[most + 1, MAX, MAX - page + 2, 1 << 31]);
@@ -779,7 +871,7 @@ pub const KINDS: &[Kind] = &[
     }),
     sound("waiter: size all of the region's pages", |random, state| {
         let at = state.some_waiter(random)?;
-        let region = region_at(state.record[at + REGION] as usize - 1);
+        let region = state.region_of(at)?;
         state.record[at + WANTED] = state.record[region + PAGE] * state.layout(region).pages;
         Some(())
     }),
@@ -794,7 +886,7 @@ pub const KINDS: &[Kind] = &[
     }),
     sound("waiter: ticks another", |random, state| {
         let at = state.some_waiter(random)?;
-        state.record[at + 4] = random.pick(&[0, 1, 2, MAX]);
+        state.record[at + TICKS] = random.pick(&[0, 1, 2, MAX]);
         Some(())
     }),
     unsound("queue: used place after an unused one", |random, state| {
@@ -843,6 +935,25 @@ pub const KINDS: &[Kind] = &[
             Some(())
         },
     ),
+    sound(
+        "queue: lower slot with the higher id, all time out",
+        |random, state| {
+            state.plant_two_queues(random)?;
+            for at in state.waiters() {
+                state.record[at + TICKS] = 1;
+            }
+            Some(())
+        },
+    ),
+    unsound("queue: by whole ids and not by slots", |random, state| {
+        state.plant_two_queues(random)?;
+        let used = WAITERS_AT..WAITERS_AT + state.waiters().len() * WAITER_WORDS;
+        let places = state.record[used.clone()].chunks(WAITER_WORDS);
+        let mut places: Vec<Vec<u32>> = places.map(<[u32]>::to_vec).collect();
+        places.sort_by_key(|place| place[REGION]);
+        state.record[used].copy_from_slice(&places.concat());
+        Some(())
+    }),
     unsound(
         "queue: more urgent waiter behind, by priority",
         |random, state| {
@@ -851,9 +962,8 @@ pub const KINDS: &[Kind] = &[
             let region = random.pick_any(&regions)?;
             state.plant_waiter_in(random, region)?;
             state.plant_waiter_in(random, region)?;
-            let id = (region / REGION_WORDS) as u32 + 1;
             let mut queue = state.waiters();
-            queue.retain(|&at| state.record[at + REGION] == id);
+            queue.retain(|&at| state.region_of(at) == Some(region));
             let (first, last) = (queue[0], queue[queue.len() - 1]);
             state.record[first + PRIORITY] = random.pick(&[2, 255]);
             state.record[last + PRIORITY] = 1;

@@ -10,6 +10,7 @@
 //! - [`state`]: the raw words that go into a call, read and changed by hand.
 //! - [`damage`]: made-up damage to a record, a memory or a length.
 //! - [`compare`]: runs made-up calls and compares every word with the model.
+//! - [`generations`]: the same with ids of every generation.
 //! - [`tally`]: counts what occurred.
 //! - `ffi` (feature `archive`): the library under test.
 
@@ -18,6 +19,7 @@ pub mod compare;
 pub mod damage;
 #[cfg(feature = "archive")]
 pub mod ffi;
+pub mod generations;
 pub mod lists;
 pub mod plain;
 pub mod sound;

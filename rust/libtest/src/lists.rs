@@ -15,14 +15,16 @@ pub struct List {
 impl List {
     /// A list over a memory of so many bytes.
     pub fn new(random: &mut Random, bytes: u32) -> List {
-        // Some lists make many objects; some give nothing back, some delete
-        // nothing.
+        // Some lists make many objects, some delete many, so that slots are used
+        // again; some give nothing back, some delete nothing.
         let creates = if random.chance(30) { 4 } else { 1 };
+        let deletes = if random.chance(40) { 5 } else { 1 };
         let weight = |directive: &Directive| {
             let usual = match directive {
                 Directive::Get => 24,
                 Directive::Return | Directive::GetBuffer => 14,
                 Directive::CreateRegion | Directive::CreatePartition => 12 * creates,
+                Directive::DeleteRegion | Directive::DeletePartition => 4 * deletes,
                 Directive::Resize | Directive::ReturnBuffer => 10,
                 Directive::Tick | Directive::Write => 6,
                 _ => 4,

@@ -19,10 +19,11 @@ Usage: libtest [--seed N] [--calls N] [--list N]
   --help      show this text
 
 The worked examples run first. Then lists of calls, with client writes between
-them, and every function on damaged copies of the states that they pass. After
-each call the returned number, the answer, the record, every memory word and
-the words around the buffers are compared. At the end the calls, statuses,
-kinds of damage and broken clauses are counted.
+them, and every function on damaged copies of the states that they pass; at last
+calls with ids of every generation. After each call the returned number, the
+answer, the record, every memory word and the words around the buffers are
+compared. At the end the calls, statuses, cases of ids, kinds of damage and
+broken clauses are counted.
 
 Exit code 0: no difference, and everything that should occur did.
 Exit code 1: a difference, or something never occurred.
@@ -102,9 +103,11 @@ fn run(seed: u64, calls: u64, list: Option<u64>) -> Result<String, String> {
         comparison.list(seed, index)?;
         index += 1;
     }
+    // What should occur has to do so without the calls that come last.
+    let missing = comparison.tally.missing();
+    comparison.generations()?;
     let tally = comparison.tally;
     let report = format!("Seed {seed}: no difference.\n{tally}");
-    let missing = tally.missing();
     if missing.is_empty() {
         return Ok(report);
     }

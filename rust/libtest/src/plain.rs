@@ -9,6 +9,7 @@ use crate::call::{Buffers, Call, Library};
 use crate::sound::{self, layout, Layout};
 use crate::words::*;
 use model::Model;
+use std::cmp::Ordering;
 
 /// The ordinary implementation. It has no state of its own.
 #[derive(Clone, Copy, Debug, Default)]
@@ -142,22 +143,20 @@ fn segment_words(
     Ok((address as usize / 4, words))
 }
 
-/// The slot index of an id.
-fn index_of(id: u32) -> Result<usize, u32> {
-    if (1..=SLOTS as u32).contains(&id) {
-        Ok(id as usize - 1)
-    } else {
-        Err(status::INVALID_ID)
-    }
-}
-
-/// The first word of a partition's live slot.
-fn find_partition(record: &[u32], id: u32) -> Result<usize, u32> {
-    let at = partition_at(index_of(id)?);
-    if record[at] == 0 {
+/// The first word of the live slot that an id names.
+fn find(record: &[u32], id: u32, slot_at: fn(usize) -> usize) -> Result<usize, u32> {
+    let at = slot_at(slot_of(id).ok_or(status::INVALID_ID)?);
+    if record[at + NAME] == 0 || record[at + GENERATION] != generation_of(id) {
         return Err(status::INVALID_ID);
     }
     Ok(at)
+}
+
+/// Empties a slot, which then has its next generation.
+fn empty(slot: &mut [u32]) {
+    let generation = slot[GENERATION] + 1;
+    slot.fill(0);
+    slot[GENERATION] = generation;
 }
 
 /// A live region: its slot, its page size and where its pages lie.
@@ -170,15 +169,12 @@ struct Region {
 
 impl Region {
     fn find(record: &[u32], id: u32) -> Result<Region, u32> {
-        let at = region_at(index_of(id)?);
-        if record[at] == 0 {
-            return Err(status::INVALID_ID);
-        }
-        let page = record[at + 3];
+        let at = find(record, id, region_at)?;
+        let page = record[at + PAGE];
         Ok(Region {
             at,
             page,
-            layout: layout(record[at + 1], record[at + 2], page),
+            layout: layout(record[at + START], record[at + LENGTH], page),
         })
     }
 
@@ -284,13 +280,14 @@ impl State<'_> {
         if self.is_taken(start, length) {
             return Err(status::INVALID_ADDRESS);
         }
-        let index = self.empty_slot(region_at)?;
+        let index = self.vacant_slot(region_at)?;
         let map = &mut self.memory[layout.map..][..layout.pages as usize];
         map.fill(0);
         map[0] = 2 * layout.pages;
-        let slot = [name, start, length, page, order];
-        self.record[region_at(index)..][..REGION_WORDS].copy_from_slice(&slot);
-        Ok(index as u32 + 1)
+        let slot = &mut self.record[region_at(index)..][..REGION_WORDS];
+        slot[NAME] = name;
+        slot[START..].copy_from_slice(&[start, length, page, order]);
+        Ok(id_of(index, slot[GENERATION]))
     }
 
     fn delete_region(&mut self, id: u32) -> Result<u32, u32> {
@@ -299,7 +296,7 @@ impl State<'_> {
         if self.memory[region.layout.map] != 2 * region.layout.pages {
             return Err(status::RESOURCE_IN_USE);
         }
-        self.record[region.at..][..REGION_WORDS].fill(0);
+        empty(&mut self.record[region.at..][..REGION_WORDS]);
         Ok(0)
     }
 
@@ -319,7 +316,7 @@ impl State<'_> {
             if priority == 0 || priority > 255 {
                 return Err(status::INVALID_PRIORITY);
             }
-            if self.waiters().any(|waiter| waiter[0] == task) {
+            if self.waiters().any(|waiter| waiter[TASK] == task) {
                 return Err(status::INCORRECT_STATE);
             }
         }
@@ -341,13 +338,13 @@ impl State<'_> {
 
     /// Serves the first waiter of a region for as long as there is room.
     fn serve(&mut self, id: u32, region: &Region) {
-        let Some(place) = self.waiters().position(|waiter| waiter[1] == id) else {
+        let Some(place) = self.waiters().position(|waiter| waiter[REGION] == id) else {
             return;
         };
         let mut served = 0;
         for waiter in self.record[waiter_at(place)..].chunks_exact(WAITER_WORDS) {
-            let (task, size) = (waiter[0], waiter[2]);
-            if task == 0 || waiter[1] != id {
+            let (task, size) = (waiter[TASK], waiter[WANTED]);
+            if task == 0 || waiter[REGION] != id {
                 break;
             }
             let Some(address) = region.take(self.memory, region.pages_for(size)) else {
@@ -436,7 +433,7 @@ impl State<'_> {
         if self.is_taken(start, length) {
             return Err(status::INVALID_ADDRESS);
         }
-        let index = self.empty_slot(partition_at)?;
+        let index = self.vacant_slot(partition_at)?;
         let free = length / size;
         let mut before = 0;
         let mut address = start;
@@ -448,25 +445,26 @@ impl State<'_> {
             before = address;
             address = next;
         }
-        let slot = [name, start, length, size, start, before, free];
-        self.record[partition_at(index)..][..PARTITION_WORDS].copy_from_slice(&slot);
-        Ok(index as u32 + 1)
+        let slot = &mut self.record[partition_at(index)..][..PARTITION_WORDS];
+        slot[NAME] = name;
+        slot[START..].copy_from_slice(&[start, length, size, start, before, free]);
+        Ok(id_of(index, slot[GENERATION]))
     }
 
     fn delete_partition(&mut self, id: u32) -> Result<u32, u32> {
-        let at = find_partition(self.record, id)?;
+        let at = find(self.record, id, partition_at)?;
         let slot = &mut self.record[at..][..PARTITION_WORDS];
-        if slot[6] != slot[2] / slot[3] {
+        if slot[FREE] != slot[LENGTH] / slot[SIZE] {
             return Err(status::RESOURCE_IN_USE);
         }
-        slot.fill(0);
+        empty(slot);
         Ok(0)
     }
 
     fn get_buffer(&mut self, id: u32) -> Result<u32, u32> {
-        let at = find_partition(self.record, id)?;
+        let at = find(self.record, id, partition_at)?;
         let slot = &mut self.record[at..][..PARTITION_WORDS];
-        let front = slot[4];
+        let front = slot[FRONT];
         if front == 0 {
             return Err(status::UNSATISFIED);
         }
@@ -475,24 +473,24 @@ impl State<'_> {
         self.memory[word] = 0;
         self.memory[word + 1] = 0;
         if next == 0 {
-            slot[5] = 0;
+            slot[REAR] = 0;
         } else {
             self.memory[next as usize / 4 + 1] = 0;
         }
-        slot[4] = next;
-        slot[6] -= 1;
+        slot[FRONT] = next;
+        slot[FREE] -= 1;
         Ok(front)
     }
 
     fn return_buffer(&mut self, id: u32, address: u32) -> Result<u32, u32> {
-        let at = find_partition(self.record, id)?;
+        let at = find(self.record, id, partition_at)?;
         let slot = &mut self.record[at..][..PARTITION_WORDS];
-        let (start, length, size) = (slot[1], slot[2], slot[3]);
+        let (start, length, size) = (slot[START], slot[LENGTH], slot[SIZE]);
         let offset = address.wrapping_sub(start);
         if address < start || offset % size != 0 || offset / size >= length / size {
             return Err(status::INVALID_ADDRESS);
         }
-        let mut free = slot[4];
+        let mut free = slot[FRONT];
         while free != 0 {
             if free == address {
                 return Err(status::INVALID_ADDRESS);
@@ -500,16 +498,16 @@ impl State<'_> {
             free = self.memory[free as usize / 4];
         }
         let word = address as usize / 4;
-        let rear = slot[5];
+        let rear = slot[REAR];
         self.memory[word] = 0;
         self.memory[word + 1] = rear;
         if rear == 0 {
-            slot[4] = address;
+            slot[FRONT] = address;
         } else {
             self.memory[rear as usize / 4] = address;
         }
-        slot[5] = address;
-        slot[6] += 1;
+        slot[REAR] = address;
+        slot[FREE] += 1;
         Ok(0)
     }
 
@@ -518,17 +516,17 @@ impl State<'_> {
         let mut left = 0;
         for place in 0..TASKS {
             let at = waiter_at(place);
-            let task = self.record[at];
+            let task = self.record[at + TASK];
             if task == 0 {
                 break;
             }
-            let ticks = self.record[at + 4];
+            let ticks = self.record[at + TICKS];
             if ticks == 1 {
                 put_notice(self.answer, left, [task, status::TIMEOUT, 0]);
                 left += 1;
                 continue;
             }
-            self.record[at + 4] = ticks.saturating_sub(1);
+            self.record[at + TICKS] = ticks.saturating_sub(1);
             if staying < place {
                 let from = at..at + WAITER_WORDS;
                 self.record.copy_within(from, waiter_at(staying));
@@ -543,15 +541,19 @@ impl State<'_> {
         if name == 0 {
             return Err(status::INVALID_NAME);
         }
-        let index = (0..SLOTS).find(|&index| self.record[slot_at(index)] == name);
-        index
-            .map(|index| index as u32 + 1)
+        let mut slots = (0..SLOTS).map(|index| (index, slot_at(index)));
+        let slot = slots.find(|(_, at)| self.record[at + NAME] == name);
+        slot.map(|(index, at)| id_of(index, self.record[at + GENERATION]))
             .ok_or(status::INVALID_NAME)
     }
 
-    fn empty_slot(&self, slot_at: fn(usize) -> usize) -> Result<usize, u32> {
-        let index = (0..SLOTS).find(|&index| self.record[slot_at(index)] == 0);
-        index.ok_or(status::TOO_MANY)
+    /// The lowest empty slot that is not spent.
+    fn vacant_slot(&self, slot_at: fn(usize) -> usize) -> Result<usize, u32> {
+        let is_vacant = |index: &usize| {
+            let at = slot_at(*index);
+            self.record[at + NAME] == 0 && self.record[at + GENERATION] < GENERATIONS
+        };
+        (0..SLOTS).find(is_vacant).ok_or(status::TOO_MANY)
     }
 
     fn is_inside(&self, start: u32, length: u32) -> bool {
@@ -563,22 +565,25 @@ impl State<'_> {
     fn is_taken(&self, start: u32, length: u32) -> bool {
         let slots = (0..SLOTS).map(region_at);
         slots.chain((0..SLOTS).map(partition_at)).any(|at| {
-            let (other, other_length) = (self.record[at + 1], self.record[at + 2]);
-            self.record[at] != 0 && start < other + other_length && other < start + length
+            let (other, other_length) = (self.record[at + START], self.record[at + LENGTH]);
+            self.record[at + NAME] != 0 && start < other + other_length && other < start + length
         })
     }
 
     /// The used places of the queue.
     fn waiters(&self) -> impl Iterator<Item = &[u32]> {
         let places = self.record[WAITERS_AT..].chunks_exact(WAITER_WORDS);
-        places.take_while(|waiter| waiter[0] != 0)
+        places.take_while(|waiter| waiter[TASK] != 0)
     }
 
     /// Puts a waiter in its place; there is an unused one.
     fn enqueue(&mut self, region_at: usize, new: [u32; WAITER_WORDS]) {
-        let by_priority = self.record[region_at + 4] == 1;
-        let is_ahead = |other: &[u32]| {
-            other[1] < new[1] || other[1] == new[1] && (!by_priority || other[3] <= new[3])
+        let by_priority = self.record[region_at + ORDER] == 1;
+        let slot = slot_of(new[REGION]);
+        let is_ahead = |other: &[u32]| match slot_of(other[REGION]).cmp(&slot) {
+            Ordering::Less => true,
+            Ordering::Equal => !by_priority || other[PRIORITY] <= new[PRIORITY],
+            Ordering::Greater => false,
         };
         let place = self.waiters().take_while(|other| is_ahead(other)).count();
         let at = waiter_at(place);
@@ -639,6 +644,11 @@ mod tests {
             (Directive::Information, &[1]),
             (Directive::Tick, &[]),
             (Directive::Return, &[1, 3]),
+            (Directive::CreatePartition, &[3, 612, 8, 8]),
+            (Directive::DeletePartition, &[2]),
+            (Directive::CreatePartition, &[3, 612, 8, 8]),
+            (Directive::IdentPartition, &[3]),
+            (Directive::GetBuffer, &[2]),
         ] {
             let call = asked.call(arguments);
             let mut others = words.clone();

@@ -30,16 +30,20 @@ macro_rules! clauses {
 }
 
 clauses! {
-    RecordLength => "record not of 176 words",
+    RecordLength => "record not of 192 words",
     MemoryLength => "memory not of 1 to 16,384 words",
     OrderChoice => "order neither 0 nor 1",
-    RegionSlotNotZero => "empty region slot not zero",
+    RegionSlotNotZero => "empty region slot not zero but for its generation",
+    EmptyRegionGeneration => "empty region slot's generation above 65,536",
+    RegionGeneration => "region's generation above 65,535",
     RegionStartZero => "region's start 0",
     RegionPastMemory => "region past the memory",
     PageNotRounded => "page 0 or not a multiple of 8",
     PageTooLarge => "page above 4,096",
     RegionWithoutPage => "region without a page",
-    PartitionSlotNotZero => "empty partition slot not zero",
+    PartitionSlotNotZero => "empty partition slot not zero but for its generation",
+    EmptyPartitionGeneration => "empty partition slot's generation above 65,536",
+    PartitionGeneration => "partition's generation above 65,535",
     PartitionStartZero => "partition's start 0",
     PartitionStartUnaligned => "partition's start not a multiple of 4",
     PartitionPastMemory => "partition past the memory",
@@ -64,13 +68,14 @@ clauses! {
     UsedPlaceAfterUnused => "used waiter's place after an unused one",
     TaskNumber => "waiter: task above 16",
     TaskTwice => "waiter: task waits twice",
-    WaiterRegionId => "waiter: region id not 1 to 8",
+    WaiterRegionId => "waiter: region's id of no slot",
     WaiterRegionEmpty => "waiter: region's slot empty",
+    WaiterRegionGeneration => "waiter: region's id of another generation",
     NothingHeld => "waiter: nothing held in the region",
     WaiterSizeZero => "waiter: size 0",
     WaiterSizeTooLarge => "waiter: size above the region's pages",
     WaiterPriority => "waiter: priority not 1 to 255",
-    RegionsNotAscending => "queue: regions not ascending",
+    RegionsNotAscending => "queue: regions' slots not ascending",
     PriorityOrder => "queue: priorities not ascending",
 }
 
@@ -143,8 +148,8 @@ pub fn check(record: &[u32], memory: &[u32]) -> Result<(), Clause> {
     let mut held = [false; SLOTS];
     for index in 0..SLOTS {
         let region = &record[region_at(index)..][..REGION_WORDS];
-        if region[0] != 0 {
-            let layout = layout(region[1], region[2], region[3]);
+        if region[NAME] != 0 {
+            let layout = layout(region[START], region[LENGTH], region[PAGE]);
             ask(layout.pages > 0, Clause::RegionWithoutPage)?;
             held[index] = check_map(&memory[layout.map..][..layout.pages as usize])?;
             layouts[index] = layout;
@@ -152,7 +157,7 @@ pub fn check(record: &[u32], memory: &[u32]) -> Result<(), Clause> {
     }
     for index in 0..SLOTS {
         let partition = &record[partition_at(index)..][..PARTITION_WORDS];
-        if partition[0] != 0 {
+        if partition[NAME] != 0 {
             check_chain(partition, memory)?;
         }
     }
@@ -163,29 +168,50 @@ fn is_inside(start: u32, length: u32, bytes: u32) -> bool {
     start.checked_add(length).is_some_and(|end| end <= bytes)
 }
 
-fn check_region(slot: &[u32], bytes: u32) -> Result<(), Clause> {
-    let (name, start, length, page, order) = (slot[0], slot[1], slot[2], slot[3], slot[4]);
-    ask(order <= 1, Clause::OrderChoice)?;
-    if name == 0 {
-        return ask(all_zero(slot), Clause::RegionSlotNotZero);
+/// Checks what a slot of either kind has, and gives whether it is live. The
+/// clauses: empty but not zero, and too high a generation, empty and live.
+fn check_slot(slot: &[u32], [not_zero, empty, live]: [Clause; 3]) -> Result<bool, Clause> {
+    let generation = slot[GENERATION];
+    if slot[NAME] == 0 {
+        ask(all_zero(&slot[START..]), not_zero)?;
+        ask(generation <= GENERATIONS, empty)?;
+        return Ok(false);
     }
-    ask(start != 0, Clause::RegionStartZero)?;
-    ask(is_inside(start, length, bytes), Clause::RegionPastMemory)?;
-    ask(page != 0 && page % 8 == 0, Clause::PageNotRounded)?;
-    ask(page <= 4_096, Clause::PageTooLarge)
+    ask(generation < GENERATIONS, live)?;
+    Ok(true)
+}
+
+fn check_region(slot: &[u32], bytes: u32) -> Result<(), Clause> {
+    use Clause::*;
+    ask(slot[ORDER] <= 1, OrderChoice)?;
+    let clauses = [RegionSlotNotZero, EmptyRegionGeneration, RegionGeneration];
+    if !check_slot(slot, clauses)? {
+        return Ok(());
+    }
+    let (start, length, page) = (slot[START], slot[LENGTH], slot[PAGE]);
+    ask(start != 0, RegionStartZero)?;
+    ask(is_inside(start, length, bytes), RegionPastMemory)?;
+    ask(page != 0 && page % 8 == 0, PageNotRounded)?;
+    ask(page <= 4_096, PageTooLarge)
 }
 
 fn check_partition(slot: &[u32], bytes: u32) -> Result<(), Clause> {
-    let (name, start, length, size) = (slot[0], slot[1], slot[2], slot[3]);
-    if name == 0 {
-        return ask(all_zero(slot), Clause::PartitionSlotNotZero);
+    use Clause::*;
+    let clauses = [
+        PartitionSlotNotZero,
+        EmptyPartitionGeneration,
+        PartitionGeneration,
+    ];
+    if !check_slot(slot, clauses)? {
+        return Ok(());
     }
-    ask(start != 0, Clause::PartitionStartZero)?;
-    ask(start % 4 == 0, Clause::PartitionStartUnaligned)?;
-    ask(is_inside(start, length, bytes), Clause::PartitionPastMemory)?;
-    ask(size % 4 == 0, Clause::BufferSizeUnaligned)?;
-    ask(size >= 8, Clause::BufferSizeTooSmall)?;
-    ask(length >= size, Clause::PartitionWithoutBuffer)
+    let (start, length, size) = (slot[START], slot[LENGTH], slot[SIZE]);
+    ask(start != 0, PartitionStartZero)?;
+    ask(start % 4 == 0, PartitionStartUnaligned)?;
+    ask(is_inside(start, length, bytes), PartitionPastMemory)?;
+    ask(size % 4 == 0, BufferSizeUnaligned)?;
+    ask(size >= 8, BufferSizeTooSmall)?;
+    ask(length >= size, PartitionWithoutBuffer)
 }
 
 /// Checks that no two live areas overlap; each lies inside the memory.
@@ -200,8 +226,9 @@ fn check_overlaps(record: &[u32]) -> Result<(), Clause> {
         } else {
             partition_at(index - SLOTS)
         };
-        if record[at] != 0 {
-            areas[count] = (record[at + 1], record[at + 1] + record[at + 2]);
+        if record[at + NAME] != 0 {
+            let start = record[at + START];
+            areas[count] = (start, start + record[at + LENGTH]);
             count += 1;
             if index < SLOTS {
                 regions += 1;
@@ -247,8 +274,8 @@ fn check_map(map: &[u32]) -> Result<bool, Clause> {
 /// As every back link is checked, no buffer can be met twice: it would have
 /// two buffers before it.
 fn check_chain(slot: &[u32], memory: &[u32]) -> Result<(), Clause> {
-    let (start, length, size) = (slot[1], slot[2], slot[3]);
-    let (front, rear, free) = (slot[4], slot[5], slot[6]);
+    let (start, length, size) = (slot[START], slot[LENGTH], slot[SIZE]);
+    let (front, rear, free) = (slot[FRONT], slot[REAR], slot[FREE]);
     let buffers = length / size;
     // One division tells a buffer: the offset is in the buffers' bytes, and a
     // multiple of their size.
@@ -279,10 +306,10 @@ fn check_waiters(
 ) -> Result<(), Clause> {
     let mut tasks_seen = 0_u32;
     let mut unused_seen = false;
-    let (mut last_region, mut last_priority) = (0, 0);
+    let (mut last_index, mut last_priority) = (0, 0);
     for place in 0..TASKS {
         let waiter = &record[waiter_at(place)..][..WAITER_WORDS];
-        let (task, region, size, priority) = (waiter[0], waiter[1], waiter[2], waiter[3]);
+        let (task, size, priority) = (waiter[TASK], waiter[WANTED], waiter[PRIORITY]);
         if task == 0 {
             ask(all_zero(waiter), Clause::PlaceNotZero)?;
             unused_seen = true;
@@ -292,23 +319,29 @@ fn check_waiters(
         ask(task as usize <= TASKS, Clause::TaskNumber)?;
         ask(tasks_seen & 1 << task == 0, Clause::TaskTwice)?;
         tasks_seen |= 1 << task;
-        ask((1..=SLOTS as u32).contains(&region), Clause::WaiterRegionId)?;
-        let index = region as usize - 1;
+        let index = waiters_region(record, waiter[REGION])?;
         let slot = &record[region_at(index)..][..REGION_WORDS];
-        ask(slot[0] != 0, Clause::WaiterRegionEmpty)?;
         ask(held[index], Clause::NothingHeld)?;
         ask(size > 0, Clause::WaiterSizeZero)?;
-        ask(
-            size.div_ceil(slot[3]) <= layouts[index].pages,
-            Clause::WaiterSizeTooLarge,
-        )?;
+        let fits = size.div_ceil(slot[PAGE]) <= layouts[index].pages;
+        ask(fits, Clause::WaiterSizeTooLarge)?;
         ask((1..=255).contains(&priority), Clause::WaiterPriority)?;
-        ask(last_region <= region, Clause::RegionsNotAscending)?;
-        let by_priority = slot[4] == 1;
-        if by_priority && last_region == region {
+        ask(last_index <= index, Clause::RegionsNotAscending)?;
+        let by_priority = slot[ORDER] == 1;
+        if by_priority && last_index == index {
             ask(last_priority <= priority, Clause::PriorityOrder)?;
         }
-        (last_region, last_priority) = (region, priority);
+        (last_index, last_priority) = (index, priority);
     }
     Ok(())
+}
+
+/// The index of a waiter's region, whose id must be live.
+fn waiters_region(record: &[u32], id: u32) -> Result<usize, Clause> {
+    let index = slot_of(id).ok_or(Clause::WaiterRegionId)?;
+    let slot = &record[region_at(index)..][..REGION_WORDS];
+    ask(slot[NAME] != 0, Clause::WaiterRegionEmpty)?;
+    let same = slot[GENERATION] == generation_of(id);
+    ask(same, Clause::WaiterRegionGeneration)?;
+    Ok(index)
 }

@@ -13,23 +13,6 @@ pub struct State {
     pub answer_words: usize,
 }
 
-// Fields of a region's slot.
-pub const NAME: usize = 0;
-pub const START: usize = 1;
-pub const LENGTH: usize = 2;
-pub const PAGE: usize = 3;
-pub const ORDER: usize = 4;
-// Fields of a partition's slot, after the first three.
-pub const SIZE: usize = 3;
-pub const FRONT: usize = 4;
-pub const REAR: usize = 5;
-pub const FREE: usize = 6;
-// Fields of a waiter's place.
-pub const TASK: usize = 0;
-pub const REGION: usize = 1;
-pub const WANTED: usize = 2;
-pub const PRIORITY: usize = 3;
-
 pub const MAX: u32 = u32::MAX;
 
 /// Reading a sound state.
@@ -47,6 +30,16 @@ impl State {
     pub fn partitions(&self, live: bool) -> Vec<usize> {
         let slots = (0..SLOTS).map(partition_at);
         slots.filter(|&at| (self.record[at] != 0) == live).collect()
+    }
+
+    /// The id of a region, or of the next one in an empty slot.
+    pub fn id(&self, region: usize) -> u32 {
+        id_of(region / REGION_WORDS, self.record[region + GENERATION])
+    }
+
+    /// The slot of a waiter's region.
+    pub fn region_of(&self, waiter: usize) -> Option<usize> {
+        slot_of(self.record[waiter + REGION]).map(region_at)
     }
 
     /// The used places of the queue.
@@ -150,21 +143,64 @@ impl State {
         let waits = |task: u32| used.iter().any(|&at| self.record[at + TASK] == task);
         let tasks: Vec<u32> = (1..=TASKS as u32).filter(|&task| !waits(task)).collect();
         let task = random.pick_any(&tasks)?;
-        let id = (region / REGION_WORDS) as u32 + 1;
         let most = self.layout(region).pages * self.record[region + PAGE];
         let size = random.between(1, most);
         let priority = random.pick(&[1, 2, 3, 254, 255]);
         let by_priority = self.record[region + ORDER] == 1;
         let is_ahead = |at: usize| {
-            let (other, urgency) = (self.record[at + REGION], self.record[at + PRIORITY]);
-            other < id || other == id && (!by_priority || urgency <= priority)
+            let (other, urgency) = (self.region_of(at), self.record[at + PRIORITY]);
+            other < Some(region) || other == Some(region) && (!by_priority || urgency <= priority)
         };
         let place = used.iter().filter(|&&at| is_ahead(at)).count();
         let at = waiter_at(place);
         self.record.copy_within(at..end, at + WAITER_WORDS);
         let ticks = random.pick(&[0, 1, 2, MAX]);
-        self.record[at..at + WAITER_WORDS].copy_from_slice(&[task, id, size, priority, ticks]);
+        let words = [task, self.id(region), size, priority, ticks];
+        self.record[at..at + WAITER_WORDS].copy_from_slice(&words);
         Some(at)
+    }
+
+    /// Sets a region's generation, and the id of its waiters.
+    fn set_generation(&mut self, region: usize, generation: u32) {
+        let mut queue = self.waiters();
+        queue.retain(|&at| self.region_of(at) == Some(region));
+        self.record[region + GENERATION] = generation;
+        for at in queue {
+            self.record[at + REGION] = self.id(region);
+        }
+    }
+
+    /// Sets the generation of every slot, by whether it is live; the state
+    /// stays sound where these are allowed.
+    pub fn set_generations(&mut self, mut generation: impl FnMut(bool) -> u32) {
+        for live in [false, true] {
+            for at in self.regions(live) {
+                self.set_generation(at, generation(live));
+            }
+            for at in self.partitions(live) {
+                self.record[at + GENERATION] = generation(live);
+            }
+        }
+    }
+
+    /// Sees to it that tasks wait in two regions, of which the one in the lower
+    /// slot has the higher id; the state stays sound.
+    pub fn plant_two_queues(&mut self, random: &mut Random) -> Option<()> {
+        let regions = self.regions(true);
+        let (low, high) = (*regions.first()?, *regions.last()?);
+        for region in [low, high] {
+            let (first, ..) = self.segments(region)[0];
+            if !self.anything_held(region) {
+                self.memory[first] += 1;
+            }
+            let waits = |at: &usize| self.region_of(*at) == Some(region);
+            if !self.waiters().iter().any(waits) {
+                self.plant_waiter_in(random, region)?;
+            }
+        }
+        let generation = self.record[high + GENERATION] + random.between(1, 3);
+        self.set_generation(low, generation);
+        (low < high).then_some(())
     }
 
     /// A used place of the queue; one is added if there is none.
@@ -178,8 +214,9 @@ impl State {
     /// Adds a partition with all its buffers held, and gives its slot.
     pub fn plant_partition(&mut self, start: u32, length: u32) -> Option<usize> {
         let at = *self.partitions(false).first()?;
-        let slot = [77, start, length, 8, 0, 0, 0];
-        self.record[at..at + PARTITION_WORDS].copy_from_slice(&slot);
+        self.record[at + NAME] = 77;
+        let words = [start, length, 8, 0, 0, 0];
+        self.record[at + START..at + PARTITION_WORDS].copy_from_slice(&words);
         Some(at)
     }
 
@@ -191,7 +228,9 @@ impl State {
         if place.pages == 0 {
             return None;
         }
-        self.record[at..at + REGION_WORDS].copy_from_slice(&[78, start, length, 8, 0]);
+        self.record[at + NAME] = 78;
+        let words = [start, length, 8, 0];
+        self.record[at + START..at + REGION_WORDS].copy_from_slice(&words);
         let map = &mut self.memory[place.map..][..place.pages as usize];
         map.fill(0);
         map[0] = 2 * place.pages;

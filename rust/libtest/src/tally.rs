@@ -2,6 +2,7 @@
 
 use crate::damage;
 use crate::sound::Clause;
+use author::cases::Case;
 use directives::words::{status, SLOTS, TASKS};
 use directives::{Answer, Directive};
 use model::Model;
@@ -20,6 +21,8 @@ pub struct Tally {
     pub lists: u64,
     statuses: BTreeMap<(Directive, u32), u64>,
     notices: BTreeMap<u32, u64>,
+    /// Cases of ids and generations, on sound records.
+    cases: BTreeMap<Case, u64>,
     full_reads: u64,
     empty_reads: u64,
     /// For each kind of damage: how often, and how often still sound.
@@ -43,9 +46,13 @@ impl Tally {
         self.memories = Some((least.min(words), most.max(words)));
     }
 
-    /// A call on sound words: what the model answers, and the state it is in then.
-    pub fn add_sound_call(&mut self, answer: &Answer, model: &Model) {
+    /// A call on sound words: its cases, what the model answers, and the state
+    /// it is in then.
+    pub fn add_sound_call(&mut self, cases: Vec<Case>, answer: &Answer, model: &Model) {
         self.sound_calls += 1;
+        for case in cases {
+            *self.cases.entry(case).or_default() += 1;
+        }
         for notice in &answer.notices {
             *self.notices.entry(notice.status).or_default() += 1;
         }
@@ -125,6 +132,9 @@ impl Tally {
         if self.fullest != [SLOTS, SLOTS, TASKS] {
             missing.push("full tables of regions, partitions and waiters".to_string());
         }
+        let cases = Case::of_library().into_iter();
+        let never = cases.filter(|case| !self.cases.contains_key(case));
+        missing.extend(never.map(|case| case.to_string()));
         let titles = damage::KINDS.iter().map(|kind| kind.title);
         let never = titles.filter(|title| !self.damages.contains_key(title));
         missing.extend(never.map(|title| format!("damage: {title}")));
@@ -196,6 +206,14 @@ impl Tally {
         )
     }
 
+    fn write_cases(&self, f: &mut fmt::Formatter) -> fmt::Result {
+        writeln!(f, "\nIds and generations:")?;
+        for (case, count) in &self.cases {
+            writeln!(f, "  {:<52}{count:>9}", case.to_string())?;
+        }
+        Ok(())
+    }
+
     fn write_damage(&self, f: &mut fmt::Formatter) -> fmt::Result {
         writeln!(
             f,
@@ -236,6 +254,7 @@ impl fmt::Display for Tally {
         )?;
         self.write_calls(f)?;
         self.write_statuses(f)?;
+        self.write_cases(f)?;
         self.write_damage(f)
     }
 }

@@ -10,7 +10,6 @@ use libtest::sound::{self, Clause};
 /// Runs lists until so many calls are made, or a difference is found.
 fn run(library: &mut impl Library, calls: u64) -> Result<libtest::tally::Tally, String> {
     let mut comparison = Comparison::new(library);
-    comparison.examples()?;
     let mut index = 0;
     while comparison.tally.calls < calls {
         comparison.list(1, index)?;
@@ -19,11 +18,22 @@ fn run(library: &mut impl Library, calls: u64) -> Result<libtest::tally::Tally, 
     Ok(comparison.tally)
 }
 
+/// Lists alone reach everything that should occur.
 #[test]
 fn the_ordinary_implementation_agrees_with_the_model() {
-    let tally = run(&mut Plain, 120_000).unwrap_or_else(|problem| panic!("{problem}"));
+    let tally = run(&mut Plain, 200_000).unwrap_or_else(|problem| panic!("{problem}"));
     println!("{tally}");
     assert_eq!(tally.missing(), Vec::<String>::new());
+}
+
+#[test]
+fn the_ordinary_implementation_passes_the_examples_and_all_generations() {
+    let mut plain = Plain;
+    let mut comparison = Comparison::new(&mut plain);
+    assert_eq!(comparison.examples(), Ok(()));
+    let before = comparison.tally.calls;
+    assert_eq!(comparison.generations(), Ok(()));
+    assert!(comparison.tally.calls - before > 2 * u64::from(GENERATIONS));
 }
 
 /// A library with a fault.
@@ -96,6 +106,148 @@ fn faults_of_arguments_are_found() {
     );
 }
 
+/// The slot that an id names, where it is live: its first word and its
+/// generation.
+fn live_slot(record: &[u32], call: &Call) -> Option<(usize, u32)> {
+    let slot_at = match call.directive().is_of_partitions() {
+        true => partition_at,
+        false => region_at,
+    };
+    let has_id = call.directive().has_id() && record.len() == RECORD_WORDS;
+    let id = has_id.then(|| call.arguments()[0])?;
+    let at = slot_at(slot_of(id)?);
+    (record[at + NAME] != 0).then(|| (at, record[at + GENERATION]))
+}
+
+/// The call with the live id of the slot that its id names, where the
+/// generations are the same in some bits.
+fn with_bits(b: &Buffers, call: &Call, bits: u32) -> Call {
+    let id = call.arguments().first().copied().unwrap_or_default();
+    match live_slot(b.record, call) {
+        Some((_, generation)) if (generation ^ generation_of(id)) & bits == 0 => {
+            call.with_id(id % ID_STEP + ID_STEP.wrapping_mul(generation))
+        }
+        _ => call.clone(),
+    }
+}
+
+/// A few wrong generations of one directive are found among all of them; the
+/// directives take turns.
+#[test]
+fn a_wrong_generation_is_found() {
+    for (directive, wrong) in [(Directive::Size, 12_345), (Directive::GetBuffer, 65_535)] {
+        let mut faulty = Faulty(|b: &mut Buffers, call: &Call| {
+            let id = call.arguments().first().copied().unwrap_or_default();
+            let is_wrong = call.directive() == directive && generation_of(id).abs_diff(wrong) < 6;
+            let call = if is_wrong {
+                with_bits(b, call, 0)
+            } else {
+                call.clone()
+            };
+            plain(b, &call)
+        });
+        let mut comparison = Comparison::new(&mut faulty);
+        assert!(comparison.generations().is_err());
+    }
+}
+
+#[test]
+fn faults_of_ids_are_found() {
+    for bits in [0, 0xff, 0xffff, 0x7_ffff] {
+        must_be_found(&format!("generations read by {bits:#x}"), |b, call| {
+            let call = with_bits(b, call, bits);
+            plain(b, &call)
+        });
+    }
+    for directive in [
+        Directive::CreateRegion,
+        Directive::IdentRegion,
+        Directive::CreatePartition,
+        Directive::IdentPartition,
+    ] {
+        must_be_found("the slot's number for its id", |b, call| {
+            let returned = plain(b, call);
+            if call.directive() == directive && returned == 0 {
+                b.answer[0] %= ID_STEP;
+            }
+            returned
+        });
+    }
+}
+
+#[test]
+fn faults_of_generations_are_found() {
+    for (directive, by) in [
+        (Directive::DeleteRegion, -1),
+        (Directive::DeleteRegion, 1),
+        (Directive::DeletePartition, -1),
+        (Directive::DeletePartition, 1),
+    ] {
+        must_be_found("a delete that raises by 0 or 2", |b, call| {
+            let slot = live_slot(b.record, call);
+            let returned = plain(b, call);
+            if let (true, 0, Some((at, _))) = (call.directive() == directive, returned, slot) {
+                let generation = &mut b.record[at + GENERATION];
+                *generation = generation.wrapping_add_signed(by);
+            }
+            returned
+        });
+    }
+    for (directive, slot_at) in [
+        (Directive::CreateRegion, region_at as fn(usize) -> usize),
+        (Directive::CreatePartition, partition_at),
+    ] {
+        must_be_found("a spent slot starts again", |b, call| {
+            let is_sound = sound::check(b.record, b.memory).is_ok();
+            let slots = (0..SLOTS).map(|index| slot_at(index) + GENERATION);
+            if call.directive() == directive && is_sound && b.answer.len() >= ANSWER_WORDS {
+                for at in slots {
+                    b.record[at] %= GENERATIONS;
+                }
+            }
+            plain(b, call)
+        });
+    }
+}
+
+/// The used places of the queue.
+fn used(record: &mut [u32]) -> &mut [[u32; WAITER_WORDS]] {
+    let (places, _) = record[WAITERS_AT..].as_chunks_mut();
+    let count = places.iter().take_while(|place| place[TASK] != 0).count();
+    &mut places[..count]
+}
+
+#[test]
+fn faults_of_the_queue_are_found() {
+    must_be_found("a queue by whole ids", |b, call| {
+        let returned = plain(b, call);
+        if call.directive() == Directive::Get && returned == 255 {
+            used(b.record).sort_by_key(|place| place[REGION]);
+        }
+        returned
+    });
+    must_be_found("a waiter with its region's slot alone", |b, call| {
+        let returned = plain(b, call);
+        if let (Call::Get { task, .. }, 255) = (call, returned) {
+            let mut places = used(b.record).iter_mut();
+            let place = places.find(|place| place[TASK] == *task);
+            place.unwrap()[REGION] %= ID_STEP;
+        }
+        returned
+    });
+    must_be_found("notices of a tick by whole ids", |b, call| {
+        let mut before = b.record.to_vec();
+        let returned = plain(b, call);
+        if call.directive() == Directive::Tick && returned == 0 {
+            let places = used(&mut before);
+            let region = |task: u32| places.iter().find(|p| p[TASK] == task).map(|p| p[REGION]);
+            let (notices, _) = b.answer[NOTICES_AT..].as_chunks_mut::<NOTICE_WORDS>();
+            notices.sort_by_key(|notice| region(notice[0]).unwrap_or(u32::MAX));
+        }
+        returned
+    });
+}
+
 #[test]
 fn faults_of_words_are_found() {
     must_be_found("a refusal changes a memory word", |b, call| {
@@ -127,7 +279,8 @@ fn faults_of_words_are_found() {
         let record = b.record.to_vec();
         let returned = plain(b, call);
         if let (Call::DeleteRegion { id }, 0) = (call, returned) {
-            let start = record[region_at(*id as usize - 1) + 1];
+            let region = region_at(slot_of(*id).unwrap());
+            let start = record[region + START];
             b.memory[start.div_ceil(4) as usize] = 0;
         }
         returned

@@ -79,6 +79,14 @@ fn set(word: usize, value: u32) -> Result<(), Clause> {
     after(|state| state.record[word] = value)
 }
 
+/// Gives region 1 another generation, and its two waiters its id.
+fn renew(state: &mut State, generation: u32) {
+    state.record[region(1, GENERATION)] = generation;
+    for place in [1, 2] {
+        state.record[waiter(place, REGION)] = id_of(0, generation);
+    }
+}
+
 /// A change of one map word of region 1.
 fn map(page: usize, value: u32) -> Result<(), Clause> {
     after(|state| state.memory[MAP_1 + page] = value)
@@ -102,21 +110,29 @@ fn sound_states_pass() {
 #[test]
 fn sound_changes_pass() {
     // Another name, an order that the waiters allow, ticks, a FIFO priority.
-    assert_eq!(set(region(1, 0), u32::MAX), Ok(()));
-    assert_eq!(set(region(2, 4), 0), Ok(()));
-    assert_eq!(set(waiter(1, 4), u32::MAX), Ok(()));
-    assert_eq!(set(waiter(1, 4), 0), Ok(()));
-    assert_eq!(set(waiter(1, 3), 255), Ok(()));
-    assert_eq!(set(waiter(2, 0), 16), Ok(()));
-    assert_eq!(set(waiter(2, 2), 1), Ok(()));
-    assert_eq!(set(waiter(5, 3), 7), Ok(()));
+    assert_eq!(set(region(1, NAME), u32::MAX), Ok(()));
+    assert_eq!(set(region(2, ORDER), 0), Ok(()));
+    assert_eq!(set(waiter(1, TICKS), u32::MAX), Ok(()));
+    assert_eq!(set(waiter(1, TICKS), 0), Ok(()));
+    assert_eq!(set(waiter(1, PRIORITY), 255), Ok(()));
+    assert_eq!(set(waiter(2, TASK), 16), Ok(()));
+    assert_eq!(set(waiter(2, WANTED), 1), Ok(()));
+    assert_eq!(set(waiter(5, PRIORITY), 7), Ok(()));
+    // Generations of regions without waiters, of partitions and of empty slots.
+    assert_eq!(set(region(3, GENERATION), 65_535), Ok(()));
+    assert_eq!(set(region(8, GENERATION), 65_536), Ok(()));
+    assert_eq!(set(partition(1, GENERATION), 65_535), Ok(()));
+    assert_eq!(set(partition(8, GENERATION), 65_536), Ok(()));
+    // Region 1 is before region 2, whatever its generation.
+    assert_eq!(after(|state| renew(state, 1)), Ok(()));
+    assert_eq!(after(|state| renew(state, 65_535)), Ok(()));
     // The free segment of region 1 is held.
     assert_eq!(map(3, 25), Ok(()));
     // Two held segments adjoin.
     let two = |state: &mut State| state.memory[MAP_1..MAP_1 + 2].fill(3);
     assert_eq!(after(two), Ok(()));
     // A partition that is longer by a part of a buffer.
-    assert_eq!(set(partition(1, 2), 119), Ok(()));
+    assert_eq!(set(partition(1, LENGTH), 119), Ok(()));
     // A word that belongs to nothing, and one of a held buffer.
     assert_eq!(link(2_800, 1), Ok(()));
     assert_eq!(link(PARTITION_1, 1), Ok(()));
@@ -127,12 +143,12 @@ fn sound_changes_pass() {
 /// Every clause with the changes that break it.
 fn broken() -> Vec<(Clause, Vec<Result<(), Clause>>)> {
     use Clause::*;
-    let free_of = |state: &State, id| state.record[partition(id, 6)];
+    let free_of = |state: &State, id| state.record[partition(id, FREE)];
     vec![
         (
             RecordLength,
             vec![
-                after(|state| state.record.truncate(175)),
+                after(|state| state.record.truncate(RECORD_WORDS - 1)),
                 after(|state| state.record.push(0)),
                 after(|state| state.record.clear()),
             ],
@@ -147,116 +163,156 @@ fn broken() -> Vec<(Clause, Vec<Result<(), Clause>>)> {
         (
             OrderChoice,
             vec![
-                set(region(1, 4), 2),
-                set(region(2, 4), u32::MAX),
-                set(region(8, 4), 2),
+                set(region(1, ORDER), 2),
+                set(region(2, ORDER), u32::MAX),
+                set(region(8, ORDER), 2),
             ],
         ),
         (
             RegionSlotNotZero,
             vec![
-                set(region(3, 0), 0),
-                set(region(8, 1), 1),
-                set(region(8, 2), 1),
-                set(region(8, 3), 8),
-                set(region(8, 4), 1),
+                set(region(3, NAME), 0),
+                set(region(8, START), 1),
+                set(region(8, LENGTH), 1),
+                set(region(8, PAGE), 8),
+                set(region(8, ORDER), 1),
+                after(|state| {
+                    state.record[region(8, GENERATION)] = 65_536;
+                    state.record[region(8, PAGE)] = 8;
+                }),
             ],
         ),
-        (RegionStartZero, vec![set(region(1, 1), 0)]),
+        (
+            EmptyRegionGeneration,
+            vec![
+                set(region(8, GENERATION), 65_537),
+                set(region(8, GENERATION), u32::MAX),
+            ],
+        ),
+        (
+            RegionGeneration,
+            vec![
+                set(region(3, GENERATION), 65_536),
+                set(region(3, GENERATION), u32::MAX),
+                after(|state| renew(state, 65_536)),
+            ],
+        ),
+        (RegionStartZero, vec![set(region(1, START), 0)]),
         (
             RegionPastMemory,
             vec![
-                set(region(3, 2), 4_000 - 1_601 + 1),
-                set(region(3, 1), u32::MAX),
-                set(region(3, 1), u32::MAX - 398),
-                set(region(3, 2), u32::MAX),
-                set(region(3, 2), u32::MAX - 1_600),
+                set(region(3, LENGTH), 4_000 - 1_601 + 1),
+                set(region(3, START), u32::MAX),
+                set(region(3, START), u32::MAX - 398),
+                set(region(3, LENGTH), u32::MAX),
+                set(region(3, LENGTH), u32::MAX - 1_600),
             ],
         ),
         (
             PageNotRounded,
             vec![
-                set(region(1, 3), 0),
-                set(region(1, 3), 63),
-                set(region(1, 3), 68),
-                set(region(1, 3), 4_097),
+                set(region(1, PAGE), 0),
+                set(region(1, PAGE), 63),
+                set(region(1, PAGE), 68),
+                set(region(1, PAGE), 4_097),
             ],
         ),
         (
             PageTooLarge,
-            vec![set(region(1, 3), 4_104), set(region(1, 3), u32::MAX - 7)],
+            vec![
+                set(region(1, PAGE), 4_104),
+                set(region(1, PAGE), u32::MAX - 7),
+            ],
         ),
         (
             RegionWithoutPage,
             vec![
-                set(region(1, 2), 0),
-                set(region(1, 2), 123),
-                set(region(3, 3), 4_096),
+                set(region(1, LENGTH), 0),
+                set(region(1, LENGTH), 123),
+                set(region(3, PAGE), 4_096),
             ],
         ),
         (
             PartitionSlotNotZero,
             vec![
-                set(partition(1, 0), 0),
-                set(partition(3, 1), 4),
-                set(partition(3, 4), 1),
-                set(partition(3, 6), 1),
+                set(partition(1, NAME), 0),
+                set(partition(3, START), 4),
+                set(partition(3, FRONT), 1),
+                set(partition(3, FREE), 1),
+                after(|state| {
+                    state.record[partition(8, GENERATION)] = 65_536;
+                    state.record[partition(8, REAR)] = 8;
+                }),
             ],
         ),
-        (PartitionStartZero, vec![set(partition(1, 1), 0)]),
+        (
+            EmptyPartitionGeneration,
+            vec![
+                set(partition(8, GENERATION), 65_537),
+                set(partition(8, GENERATION), u32::MAX),
+            ],
+        ),
+        (
+            PartitionGeneration,
+            vec![
+                set(partition(1, GENERATION), 65_536),
+                set(partition(2, GENERATION), u32::MAX),
+            ],
+        ),
+        (PartitionStartZero, vec![set(partition(1, START), 0)]),
         (
             PartitionStartUnaligned,
             vec![
-                set(partition(1, 1), PARTITION_1 + 1),
-                set(partition(1, 1), PARTITION_1 - 2),
+                set(partition(1, START), PARTITION_1 + 1),
+                set(partition(1, START), PARTITION_1 - 2),
             ],
         ),
         (
             PartitionPastMemory,
             vec![
-                set(partition(2, 2), 1_001),
-                set(partition(2, 2), u32::MAX),
-                set(partition(2, 1), u32::MAX - 3),
-                set(partition(2, 1), u32::MAX - 15),
+                set(partition(2, LENGTH), 1_001),
+                set(partition(2, LENGTH), u32::MAX),
+                set(partition(2, START), u32::MAX - 3),
+                set(partition(2, START), u32::MAX - 15),
             ],
         ),
         (
             BufferSizeUnaligned,
-            vec![set(partition(1, 3), 25), set(partition(1, 3), 7)],
+            vec![set(partition(1, SIZE), 25), set(partition(1, SIZE), 7)],
         ),
         (
             BufferSizeTooSmall,
-            vec![set(partition(1, 3), 0), set(partition(1, 3), 4)],
+            vec![set(partition(1, SIZE), 0), set(partition(1, SIZE), 4)],
         ),
         (
             PartitionWithoutBuffer,
             vec![
-                set(partition(1, 3), 104),
-                set(partition(1, 2), 23),
-                set(partition(1, 2), 0),
+                set(partition(1, SIZE), 104),
+                set(partition(1, LENGTH), 23),
+                set(partition(1, LENGTH), 0),
             ],
         ),
         (
             RegionsOverlap,
             vec![
-                set(region(2, 2), 401),
-                set(region(3, 1), 1_599),
-                set(region(3, 1), 1_100),
+                set(region(2, LENGTH), 401),
+                set(region(3, START), 1_599),
+                set(region(3, START), 1_100),
             ],
         ),
         (
             PartitionsOverlap,
             vec![after(|state| {
-                let planted = [9, PARTITION_1 + 96, 8, 8, 0, 0, 0];
-                state.record[partition(8, 0)..][..7].copy_from_slice(&planted);
+                let planted = [9, 0, PARTITION_1 + 96, 8, 8, 0, 0, 0];
+                state.record[partition(8, NAME)..][..PARTITION_WORDS].copy_from_slice(&planted);
             })],
         ),
         (
             RegionAndPartitionOverlap,
             vec![
-                set(region(1, 2), 1_021),
-                set(partition(1, 2), 178),
-                set(partition(1, 1), 1_020),
+                set(region(1, LENGTH), 1_021),
+                set(partition(1, LENGTH), 178),
+                set(partition(1, START), 1_020),
             ],
         ),
         (SegmentWithoutPage, vec![map(0, 0), map(0, 1), map(3, 0)]),
@@ -293,31 +349,34 @@ fn broken() -> Vec<(Clause, Vec<Result<(), Clause>>)> {
         (
             EndsOfEmptyChain,
             vec![
-                set(partition(2, 4), 3_000),
-                set(partition(2, 5), 3_000),
-                set(partition(1, 6), 0),
+                set(partition(2, FRONT), 3_000),
+                set(partition(2, REAR), 3_000),
+                set(partition(1, FREE), 0),
             ],
         ),
         (
             FreeCountTooLarge,
-            vec![set(partition(1, 6), 5), set(partition(1, 6), u32::MAX)],
+            vec![
+                set(partition(1, FREE), 5),
+                set(partition(1, FREE), u32::MAX),
+            ],
         ),
         (
             ChainTooShort,
             vec![
-                set(partition(1, 6), 4),
-                set(partition(1, 4), 0),
-                set(partition(2, 6), 1),
+                set(partition(1, FREE), 4),
+                set(partition(1, FRONT), 0),
+                set(partition(2, FREE), 1),
                 link(1_048, 0),
-                after(|state| state.record[partition(1, 6)] = free_of(state, 1) + 1),
+                after(|state| state.record[partition(1, FREE)] = free_of(state, 1) + 1),
             ],
         ),
         (
             NotABuffer,
             vec![
-                set(partition(1, 4), 1_047),
-                set(partition(1, 4), 1_000),
-                set(partition(1, 4), 1_120),
+                set(partition(1, FRONT), 1_047),
+                set(partition(1, FRONT), 1_000),
+                set(partition(1, FRONT), 1_120),
                 link(1_048, 1_073),
                 link(1_048, 1_120),
                 link(1_048, 1_076),
@@ -338,66 +397,89 @@ fn broken() -> Vec<(Clause, Vec<Result<(), Clause>>)> {
         ),
         (
             ChainTooLong,
-            vec![set(partition(1, 6), 2), link(1_096, 1_024)],
+            vec![set(partition(1, FREE), 2), link(1_096, 1_024)],
         ),
         (
             Rear,
             vec![
-                set(partition(1, 5), 1_072),
-                set(partition(1, 5), 0),
-                set(partition(1, 5), 1_024),
+                set(partition(1, REAR), 1_072),
+                set(partition(1, REAR), 0),
+                set(partition(1, REAR), 1_024),
             ],
         ),
         (
             PlaceNotZero,
             vec![
-                set(waiter(5, 0), 0),
-                set(waiter(6, 1), 1),
-                set(waiter(16, 2), 1),
-                set(waiter(16, 3), 1),
-                set(waiter(16, 4), 1),
+                set(waiter(5, TASK), 0),
+                set(waiter(6, REGION), 1),
+                set(waiter(16, WANTED), 1),
+                set(waiter(16, PRIORITY), 1),
+                set(waiter(16, TICKS), 1),
             ],
         ),
         (
             UsedPlaceAfterUnused,
             vec![
-                after(|state| state.record[waiter(4, 0)..][..5].fill(0)),
+                after(|state| state.record[waiter(4, TASK)..][..5].fill(0)),
                 after(|state| {
-                    let at = waiter(5, 0);
-                    state.record.copy_within(at..at + 5, waiter(16, 0));
-                    state.record[waiter(16, 0)] = 16;
+                    let at = waiter(5, TASK);
+                    state.record.copy_within(at..at + 5, waiter(16, TASK));
+                    state.record[waiter(16, TASK)] = 16;
                 }),
             ],
         ),
         (
             TaskNumber,
             vec![
-                set(waiter(1, 0), 17),
-                set(waiter(5, 0), 32),
-                set(waiter(5, 0), u32::MAX),
+                set(waiter(1, TASK), 17),
+                set(waiter(5, TASK), 32),
+                set(waiter(5, TASK), u32::MAX),
             ],
         ),
         (
             TaskTwice,
             vec![
-                set(waiter(2, 0), 1),
-                set(waiter(5, 0), 1),
-                set(waiter(1, 0), 5),
+                set(waiter(2, TASK), 1),
+                set(waiter(5, TASK), 1),
+                set(waiter(1, TASK), 5),
             ],
         ),
         (
             WaiterRegionId,
             vec![
-                set(waiter(1, 1), 0),
-                set(waiter(5, 1), 9),
-                set(waiter(5, 1), u32::MAX),
+                set(waiter(1, REGION), 0),
+                set(waiter(5, REGION), 9),
+                set(waiter(5, REGION), 15),
+                set(waiter(5, REGION), 16),
+                set(waiter(5, REGION), u32::MAX),
             ],
         ),
-        (WaiterRegionEmpty, vec![set(waiter(5, 1), 8)]),
+        (
+            WaiterRegionEmpty,
+            vec![
+                set(waiter(5, REGION), 8),
+                after(|state| {
+                    state.record[region(8, GENERATION)] = 1;
+                    state.record[waiter(5, REGION)] = id_of(7, 1);
+                }),
+            ],
+        ),
+        (
+            WaiterRegionGeneration,
+            vec![
+                set(waiter(1, REGION), id_of(0, 1)),
+                set(waiter(5, REGION), id_of(1, 65_536)),
+                set(region(1, GENERATION), 1),
+                after(|state| {
+                    renew(state, 2);
+                    state.record[waiter(2, REGION)] = id_of(0, 1);
+                }),
+            ],
+        ),
         (
             NothingHeld,
             vec![
-                set(waiter(5, 1), 3),
+                set(waiter(5, REGION), 3),
                 after(|state| {
                     state.memory[MAP_1..MAP_1 + 15].fill(0);
                     state.memory[MAP_1] = 30;
@@ -406,34 +488,40 @@ fn broken() -> Vec<(Clause, Vec<Result<(), Clause>>)> {
         ),
         (
             WaiterSizeZero,
-            vec![set(waiter(1, 2), 0), set(waiter(5, 2), 0)],
+            vec![set(waiter(1, WANTED), 0), set(waiter(5, WANTED), 0)],
         ),
         (
             WaiterSizeTooLarge,
             vec![
-                set(waiter(1, 2), 961),
-                set(waiter(1, 2), u32::MAX),
-                set(waiter(1, 2), u32::MAX - 62),
+                set(waiter(1, WANTED), 961),
+                set(waiter(1, WANTED), u32::MAX),
+                set(waiter(1, WANTED), u32::MAX - 62),
             ],
         ),
         (
             WaiterPriority,
             vec![
-                set(waiter(1, 3), 0),
-                set(waiter(1, 3), 256),
-                set(waiter(5, 3), u32::MAX),
+                set(waiter(1, PRIORITY), 0),
+                set(waiter(1, PRIORITY), 256),
+                set(waiter(5, PRIORITY), u32::MAX),
             ],
         ),
         (
             RegionsNotAscending,
             vec![
-                set(waiter(5, 1), 1),
-                after(|state| state.record[waiter(1, 1)..][..2].copy_from_slice(&[2, 1])),
+                set(waiter(5, REGION), 1),
+                after(|state| state.record[waiter(1, REGION)..][..2].copy_from_slice(&[2, 1])),
+                // By whole ids: 2, 2, 2, 17, 17.
+                after(|state| {
+                    renew(state, 1);
+                    let used = waiter(1, TASK)..waiter(6, TASK);
+                    state.record[used].rotate_left(2 * WAITER_WORDS);
+                }),
             ],
         ),
         (
             PriorityOrder,
-            vec![set(waiter(5, 3), 6), set(waiter(3, 3), 8)],
+            vec![set(waiter(5, PRIORITY), 6), set(waiter(3, PRIORITY), 8)],
         ),
     ]
 }

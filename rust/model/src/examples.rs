@@ -2,6 +2,7 @@
 //! `examples.txt`, where their form is told.
 
 use crate::Model;
+use directives::words::*;
 use directives::{Answer, Call, Directive, Notice};
 
 /// A list of steps from a fresh start, over the largest memory.
@@ -9,6 +10,8 @@ pub struct Example {
     pub title: &'static str,
     /// What all words of the memory are before.
     pub fill: u32,
+    /// The generation of every slot before; only with 0 a script can start so.
+    pub generation: u32,
     pub steps: Vec<Step>,
 }
 
@@ -33,6 +36,7 @@ pub fn all() -> Vec<Example> {
             examples.push(Example {
                 title,
                 fill: 0,
+                generation: 0,
                 steps: Vec::new(),
             });
         } else if let Some(example) = examples.last_mut() {
@@ -65,6 +69,10 @@ impl Example {
         let step = match (name, &arguments[..]) {
             ("fill", &[word]) => {
                 self.fill = word;
+                return;
+            }
+            ("generation", &[generation]) => {
+                self.generation = generation;
                 return;
             }
             ("set", &[word, value]) => Step::Set(word as usize, value),
@@ -126,9 +134,11 @@ fn answer_of(call: &Call, text: &str) -> Answer {
 impl Example {
     /// A model at the example's start.
     pub fn start(&self) -> Model {
-        let mut model = Model::fresh();
-        model.memory.fill(self.fill);
-        model
+        let mut record = [0; RECORD_WORDS];
+        for at in (0..SLOTS).flat_map(|index| [region_at(index), partition_at(index)]) {
+            record[at + GENERATION] = self.generation;
+        }
+        Model::from_record(&record, &vec![self.fill; MEMORY_WORDS])
     }
 
     /// Whether a model that took all steps up to this one is as it says. The

@@ -13,12 +13,14 @@
 pub mod examples;
 mod partition;
 mod region;
+mod slots;
 
 use directives::words::*;
 use directives::{Answer, Call};
 use partition::Partition;
 pub use region::Segment;
 use region::{Region, Waiter};
+use slots::{Slot, Slots};
 
 /// The bytes of a word.
 const WORD: u64 = 4;
@@ -50,9 +52,6 @@ impl Area {
     }
 }
 
-/// The slots of one kind of object; the id of the first is 1.
-type Slots<T> = [Option<T>; SLOTS];
-
 /// What a refusal hands back: its status.
 type Refusal = u32;
 
@@ -62,38 +61,6 @@ fn refuse_if(refused: bool, status: u32) -> Result<(), Refusal> {
     } else {
         Ok(())
     }
-}
-
-/// The slot index of an id that is in range.
-fn index_of(id: u32) -> Result<usize, Refusal> {
-    refuse_if(id == 0 || id as usize > SLOTS, status::INVALID_ID)?;
-    Ok(id as usize - 1)
-}
-
-fn live<T>(slots: &Slots<T>, id: u32) -> Result<&T, Refusal> {
-    slots[index_of(id)?].as_ref().ok_or(status::INVALID_ID)
-}
-
-fn live_mut<T>(slots: &mut Slots<T>, id: u32) -> Result<&mut T, Refusal> {
-    slots[index_of(id)?].as_mut().ok_or(status::INVALID_ID)
-}
-
-fn live_ids<T>(slots: &Slots<T>) -> Vec<u32> {
-    let live = (1..).zip(slots).filter(|(_, slot)| slot.is_some());
-    live.map(|(id, _)| id).collect()
-}
-
-/// The lowest slot for which something holds, or a refusal.
-fn lowest<T>(slots: &Slots<T>, is: impl Fn(&Option<T>) -> bool, status: u32) -> Result<usize, u32> {
-    slots.iter().position(is).ok_or(status)
-}
-
-/// Answers with the id of the lowest object with a name.
-fn ident<T>(slots: &Slots<T>, name: u32, name_of: impl Fn(&T) -> u32) -> Result<Answer, Refusal> {
-    refuse_if(name == 0, status::INVALID_NAME)?;
-    let has_name = |slot: &Option<T>| slot.as_ref().is_some_and(|object| name_of(object) == name);
-    let index = lowest(slots, has_name, status::INVALID_NAME)?;
-    Ok(Answer::value(index as u32 + 1))
 }
 
 /// All objects over one memory, and the memory.
@@ -108,12 +75,7 @@ pub struct Model {
 impl Model {
     /// No object, over a memory of 1 to [`MEMORY_WORDS`] words.
     pub fn new(memory: Vec<u32>) -> Model {
-        assert!((1..=MEMORY_WORDS).contains(&memory.len()));
-        Model {
-            memory,
-            regions: Default::default(),
-            partitions: Default::default(),
-        }
+        Model::from_record(&[0; RECORD_WORDS], &memory)
     }
 
     /// No object, over the largest memory, all zeros.
@@ -123,19 +85,28 @@ impl Model {
 
     /// The state that a record and a memory describe. They must be sound.
     pub fn from_record(record: &[u32], memory: &[u32]) -> Model {
-        let mut model = Model::new(memory.to_vec());
-        for index in 0..SLOTS {
-            let slot = &record[region_at(index)..][..REGION_WORDS];
-            model.regions[index] = (slot[0] != 0).then(|| Region::from_words(slot, memory));
-            let slot = &record[partition_at(index)..][..PARTITION_WORDS];
-            model.partitions[index] = (slot[0] != 0).then(|| Partition::from_words(slot, memory));
-        }
+        assert!((1..=MEMORY_WORDS).contains(&memory.len()));
+        let region = |index: usize| {
+            let words = &record[region_at(index)..][..REGION_WORDS];
+            let region = (words[NAME] != 0).then(|| Region::from_words(words, memory));
+            Slot::new(index, words[GENERATION], region)
+        };
+        let partition = |index: usize| {
+            let words = &record[partition_at(index)..][..PARTITION_WORDS];
+            let partition = (words[NAME] != 0).then(|| Partition::from_words(words, memory));
+            Slot::new(index, words[GENERATION], partition)
+        };
+        let mut model = Model {
+            memory: memory.to_vec(),
+            regions: Slots::new(region),
+            partitions: Slots::new(partition),
+        };
         for place in record[WAITERS_AT..].chunks(WAITER_WORDS) {
             let [task, region, size, priority, ticks] = *place else {
                 unreachable!("a place has so many words");
             };
             if task != 0 {
-                let region = live_mut(&mut model.regions, region);
+                let region = model.regions.live_mut(region);
                 let region = region.expect("a waiter's region is live");
                 let waiter = Waiter::new(task, size, priority, ticks);
                 region.queue.push_back(waiter);
@@ -153,14 +124,20 @@ impl Model {
     pub fn record(&self) -> [u32; RECORD_WORDS] {
         let mut record = [0; RECORD_WORDS];
         let mut places = Vec::new();
-        for (index, region) in self.regions.iter().enumerate() {
-            let Some(region) = region else { continue };
-            record[region_at(index)..][..REGION_WORDS].copy_from_slice(&region.slot());
-            places.extend(region.places(index as u32 + 1).flatten());
+        for (index, slot) in self.regions.iter().enumerate() {
+            let words = &mut record[region_at(index)..][..REGION_WORDS];
+            if let Some(region) = &slot.object {
+                words.copy_from_slice(&region.slot());
+                places.extend(region.places(slot.id).flatten());
+            }
+            words[GENERATION] = slot.generation();
         }
-        for (index, partition) in self.partitions.iter().enumerate() {
-            let Some(partition) = partition else { continue };
-            record[partition_at(index)..][..PARTITION_WORDS].copy_from_slice(&partition.slot());
+        for (index, slot) in self.partitions.iter().enumerate() {
+            let words = &mut record[partition_at(index)..][..PARTITION_WORDS];
+            if let Some(partition) = &slot.object {
+                words.copy_from_slice(&partition.slot());
+            }
+            words[GENERATION] = slot.generation();
         }
         record[WAITERS_AT..][..places.len()].copy_from_slice(&places);
         record
@@ -171,10 +148,10 @@ impl Model {
     /// to write, as far as the rules are concerned.
     pub fn bookkeeping(&self) -> Vec<bool> {
         let mut marks = vec![false; self.memory.len()];
-        for region in self.regions.iter().flatten() {
+        for region in self.regions.objects() {
             marks[region.map..][..region.page_count()].fill(true);
         }
-        for partition in self.partitions.iter().flatten() {
+        for partition in self.partitions.objects() {
             for &address in &partition.chain {
                 marks[address as usize / 4..][..2].fill(true);
             }
@@ -208,7 +185,7 @@ impl Model {
                 page,
                 order,
             } => self.create_region(name, Area::new(start, length), page, order == 1),
-            Call::IdentRegion { name } => ident(&self.regions, name, |region| region.name),
+            Call::IdentRegion { name } => self.regions.ident(name, |region| region.name),
             Call::DeleteRegion { id } => self.delete_region(id),
             Call::Get {
                 id,
@@ -231,7 +208,7 @@ impl Model {
                 length,
                 size,
             } => self.create_partition(name, Area::new(start, length), size),
-            Call::IdentPartition { name } => ident(&self.partitions, name, |p| p.name),
+            Call::IdentPartition { name } => self.partitions.ident(name, |p| p.name),
             Call::DeletePartition { id } => self.delete_partition(id),
             Call::GetBuffer { id } => self.get_buffer(id),
             Call::ReturnBuffer { id, address } => self.return_buffer(id, address),
@@ -261,23 +238,22 @@ impl Model {
         let region = Region::new(name, area, page, by_priority);
         refuse_if(region.page_count() == 0, status::INVALID_SIZE)?;
         refuse_if(self.is_taken(&area), status::INVALID_ADDRESS)?;
-        let index = lowest(&self.regions, Option::is_none, status::TOO_MANY)?;
+        let slot = self.regions.vacant()?;
 
         region.draw(&mut self.memory);
-        self.regions[index] = Some(region);
-        Ok(Answer::value(index as u32 + 1))
+        Ok(Answer::value(slot.fill(region)))
     }
 
     fn delete_region(&mut self, id: u32) -> Result<Answer, Refusal> {
-        let region = live(&self.regions, id)?;
+        let region = self.regions.live(id)?;
         refuse_if(region.anything_held(), status::RESOURCE_IN_USE)?;
-        self.regions[index_of(id)?] = None;
+        self.regions.delete(id);
         Ok(Answer::default())
     }
 
     fn get(&mut self, id: u32, size: u32, waiter: Option<Waiter>) -> Result<Answer, Refusal> {
         refuse_if(size == 0, status::INVALID_SIZE)?;
-        let region = live(&self.regions, id)?;
+        let region = self.regions.live(id)?;
         let pages = region.pages_for(size);
         refuse_if(pages > region.page_count(), status::INVALID_SIZE)?;
         if let Some(Waiter { task, priority, .. }) = waiter {
@@ -289,7 +265,7 @@ impl Model {
             refuse_if(waits, status::INCORRECT_STATE)?;
         }
 
-        let region = live_mut(&mut self.regions, id)?;
+        let region = self.regions.live_mut(id)?;
         if let Some(address) = region.lend(pages) {
             region.draw(&mut self.memory);
             return Ok(Answer::value(address));
@@ -299,7 +275,7 @@ impl Model {
     }
 
     fn return_segment(&mut self, id: u32, address: u32) -> Result<Answer, Refusal> {
-        let region = live_mut(&mut self.regions, id)?;
+        let region = self.regions.live_mut(id)?;
         let (page, pages) = region.held_at(address)?;
         region.take_back(page, page + pages);
         let notices = region.serve();
@@ -314,7 +290,7 @@ impl Model {
 
     fn resize(&mut self, id: u32, address: u32, size: u32) -> Result<Answer, Refusal> {
         refuse_if(size == 0, status::INVALID_SIZE)?;
-        let region = live_mut(&mut self.regions, id)?;
+        let region = self.regions.live_mut(id)?;
         let (page, old) = region.held_at(address)?;
         let mut answer = Answer::value(old as u32 * region.page);
         let new = region.pages_for(size);
@@ -329,13 +305,13 @@ impl Model {
 
     fn information(&self, id: u32) -> Result<Answer, Refusal> {
         Ok(Answer {
-            information: live(&self.regions, id)?.information(),
+            information: self.regions.live(id)?.information(),
             ..Answer::default()
         })
     }
 
     fn tick(&mut self) -> Answer {
-        let regions = self.regions.iter_mut().flatten();
+        let regions = self.regions.objects_mut();
         Answer::notices(regions.flat_map(Region::tick).collect())
     }
 
@@ -349,24 +325,23 @@ impl Model {
         refuse_if(!size.is_multiple_of(4), status::INVALID_SIZE)?;
         refuse_if(size < MIN_BUFFER, status::INVALID_SIZE)?;
         refuse_if(self.is_taken(&area), status::INVALID_ADDRESS)?;
-        let index = lowest(&self.partitions, Option::is_none, status::TOO_MANY)?;
+        let slot = self.partitions.vacant()?;
 
         let partition = Partition::new(name, area, size);
         partition.draw(&mut self.memory);
-        self.partitions[index] = Some(partition);
-        Ok(Answer::value(index as u32 + 1))
+        Ok(Answer::value(slot.fill(partition)))
     }
 
     fn delete_partition(&mut self, id: u32) -> Result<Answer, Refusal> {
-        let partition = live(&self.partitions, id)?;
+        let partition = self.partitions.live(id)?;
         let anything_held = partition.chain.len() != partition.count();
         refuse_if(anything_held, status::RESOURCE_IN_USE)?;
-        self.partitions[index_of(id)?] = None;
+        self.partitions.delete(id);
         Ok(Answer::default())
     }
 
     fn get_buffer(&mut self, id: u32) -> Result<Answer, Refusal> {
-        let partition = live_mut(&mut self.partitions, id)?;
+        let partition = self.partitions.live_mut(id)?;
         let address = partition.chain.pop_front().ok_or(status::UNSATISFIED)?;
         self.memory[address as usize / 4..][..2].fill(0);
         partition.draw(&mut self.memory);
@@ -374,7 +349,7 @@ impl Model {
     }
 
     fn return_buffer(&mut self, id: u32, address: u32) -> Result<Answer, Refusal> {
-        let partition = live_mut(&mut self.partitions, id)?;
+        let partition = self.partitions.live_mut(id)?;
         refuse_if(!partition.is_held(address), status::INVALID_ADDRESS)?;
         partition.chain.push_back(address);
         partition.draw(&mut self.memory);
@@ -399,7 +374,7 @@ impl Model {
 
     /// The memory words of a held segment.
     fn segment_words(&self, id: u32, address: u32) -> Result<&[u32], Refusal> {
-        let region = live(&self.regions, id)?;
+        let region = self.regions.live(id)?;
         let (_, pages) = region.held_at(address)?;
         let words = pages * region.page as usize / 4;
         Ok(&self.memory[address as usize / 4..][..words])
@@ -420,37 +395,50 @@ impl Model {
         4 * self.memory.len() as u32
     }
 
-    /// The areas of all live objects: regions first, then by rising id.
+    /// The areas of all live objects: regions first, then by rising slot.
     pub fn areas(&self) -> Vec<Area> {
-        let regions = self.regions.iter().flatten().map(|region| region.area);
-        let partitions = self.partitions.iter().flatten();
-        regions.chain(partitions.map(|p| p.area)).collect()
+        let regions = self.regions.objects().map(|region| region.area);
+        let partitions = self.partitions.objects().map(|p| p.area);
+        regions.chain(partitions).collect()
     }
 
+    /// The id of each region's slot, which an empty one keeps for the next
+    /// region, and whether it is live.
+    pub fn region_slots(&self) -> Vec<(u32, bool)> {
+        self.regions.ids()
+    }
+
+    /// The same of the partitions' slots.
+    pub fn partition_slots(&self) -> Vec<(u32, bool)> {
+        self.partitions.ids()
+    }
+
+    /// The live ids of regions, by rising slot.
     pub fn region_ids(&self) -> Vec<u32> {
-        live_ids(&self.regions)
+        live_ids(self.region_slots())
     }
 
+    /// The live ids of partitions, by rising slot.
     pub fn partition_ids(&self) -> Vec<u32> {
-        live_ids(&self.partitions)
+        live_ids(self.partition_slots())
     }
 
     /// The names of the live regions, then of the live partitions.
     pub fn names(&self) -> Vec<u32> {
-        let regions = self.regions.iter().flatten().map(|region| region.name);
-        let partitions = self.partitions.iter().flatten().map(|p| p.name);
+        let regions = self.regions.objects().map(|region| region.name);
+        let partitions = self.partitions.objects().map(|p| p.name);
         regions.chain(partitions).collect()
     }
 
     /// The page size and the page count of a live region.
     pub fn pages(&self, id: u32) -> Option<(u32, u32)> {
-        let region = live(&self.regions, id).ok()?;
+        let region = self.regions.live(id).ok()?;
         Some((region.page, region.page_count() as u32))
     }
 
     /// All segments of a live region by rising address.
     pub fn segments(&self, id: u32) -> Vec<Segment> {
-        let segments = live(&self.regions, id).map(Region::segments);
+        let segments = self.regions.live(id).map(Region::segments);
         segments.unwrap_or_default()
     }
 
@@ -461,28 +449,44 @@ impl Model {
         segments
     }
 
-    /// The tasks that wait: lowest region first, then in the queue's order.
+    /// The tasks that wait, each with its region's id: lowest slot first, then
+    /// in the queue's order.
+    pub fn waiting(&self) -> Vec<(u32, u32)> {
+        let places = |slot: &Slot<Region>| {
+            let queue = slot.object.iter().flat_map(|region| &region.queue);
+            queue
+                .map(|waiter| (waiter.task, slot.id))
+                .collect::<Vec<_>>()
+        };
+        self.regions.iter().flat_map(places).collect()
+    }
+
+    /// The tasks that wait, in the same order.
     pub fn waiting_tasks(&self) -> Vec<u32> {
-        let queues = self.regions.iter().flatten().flat_map(|r| &r.queue);
-        queues.map(|waiter| waiter.task).collect()
+        self.waiting().iter().map(|(task, _)| *task).collect()
     }
 
     /// The start, the buffer size and the number of buffers of a live partition.
     pub fn buffers(&self, id: u32) -> Option<(u32, u32, u32)> {
-        let partition = live(&self.partitions, id).ok()?;
+        let partition = self.partitions.live(id).ok()?;
         let count = partition.count() as u32;
         Some((partition.area.start, partition.size, count))
     }
 
     /// The addresses of a live partition's free buffers, the front first.
     pub fn free_buffers(&self, id: u32) -> Vec<u32> {
-        let chain = live(&self.partitions, id).map(|partition| &partition.chain);
+        let chain = self.partitions.live(id).map(|partition| &partition.chain);
         chain.map_or(Vec::new(), |chain| chain.iter().copied().collect())
     }
 
     /// The addresses of a live partition's held buffers, rising.
     pub fn held_buffers(&self, id: u32) -> Vec<u32> {
-        let held = live(&self.partitions, id).map(Partition::held);
+        let held = self.partitions.live(id).map(Partition::held);
         held.unwrap_or_default()
     }
+}
+
+fn live_ids(slots: Vec<(u32, bool)>) -> Vec<u32> {
+    let live = slots.into_iter().filter(|(_, live)| *live);
+    live.map(|(id, _)| id).collect()
 }

@@ -28,25 +28,29 @@ impl Partition {
 
     /// The partition that a slot and the links in the memory describe.
     pub fn from_words(slot: &[u32], memory: &[u32]) -> Partition {
+        let [name, _, start, length, size, front, ..] = *slot else {
+            unreachable!("a slot has so many words");
+        };
         let mut chain = VecDeque::new();
-        let mut address = slot[4];
+        let mut address = front;
         while address != 0 {
             chain.push_back(address);
             address = memory[address as usize / 4];
         }
         Partition {
-            name: slot[0],
-            area: Area::new(slot[1], slot[2]),
-            size: slot[3],
+            name,
+            area: Area::new(start, length),
+            size,
             chain,
         }
     }
 
-    /// The words of its slot.
+    /// The words of its slot, but for the generation.
     pub fn slot(&self) -> [u32; PARTITION_WORDS] {
         let end = |address: Option<&u32>| address.copied().unwrap_or(0);
         [
             self.name,
+            0,
             self.area.start,
             self.area.length,
             self.size,

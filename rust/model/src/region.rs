@@ -84,7 +84,7 @@ impl Region {
     /// The region that a slot and the map in the memory describe, with nobody
     /// in its queue.
     pub fn from_words(slot: &[u32], memory: &[u32]) -> Region {
-        let [name, start, length, page, order] = slot else {
+        let [name, _, start, length, page, order] = slot else {
             unreachable!("a slot has so many words");
         };
         let area = Area::new(*start, *length);
@@ -101,14 +101,14 @@ impl Region {
         region
     }
 
-    /// The words of its slot.
+    /// The words of its slot, but for the generation.
     pub fn slot(&self) -> [u32; REGION_WORDS] {
         let Area { start, length } = self.area;
         let order = u32::from(self.by_priority);
-        [self.name, start, length, self.page, order]
+        [self.name, 0, start, length, self.page, order]
     }
 
-    /// The words of its waiters' places.
+    /// The words of its waiters' places, by its id.
     pub fn places(&self, id: u32) -> impl Iterator<Item = [u32; WAITER_WORDS]> + '_ {
         let words = move |w: &Waiter| [w.task, id, w.size, w.priority, w.ticks];
         self.queue.iter().map(words)

@@ -18,10 +18,7 @@ pub fn run(script: &[u8]) -> Vec<u8> {
         return output;
     }
     let mut model = Model::fresh();
-    let mut reader = Reader {
-        rest: script,
-        line: 0,
-    };
+    let mut reader = Reader::new(script);
     while !reader.rest.is_empty() {
         let Some(call) = reader.call() else {
             write_line(&mut output, "bad", reader.line);
@@ -31,6 +28,15 @@ pub fn run(script: &[u8]) -> Vec<u8> {
         write_answer(&mut output, call.directive(), &answer);
     }
     output
+}
+
+/// The calls of a script that it runs: those before the first bad line.
+pub fn calls(script: &[u8]) -> Vec<Call> {
+    if script.len() > MAX_SCRIPT {
+        return Vec::new();
+    }
+    let mut reader = Reader::new(script);
+    std::iter::from_fn(|| reader.call()).collect()
 }
 
 /// Takes a script apart from its front. A part that gives nothing has met a
@@ -43,6 +49,13 @@ struct Reader<'a> {
 }
 
 impl<'a> Reader<'a> {
+    fn new(script: &'a [u8]) -> Reader<'a> {
+        Reader {
+            rest: script,
+            line: 0,
+        }
+    }
+
     /// Reads a line that must be there and gives it without its newline.
     fn line(&mut self) -> Option<&'a [u8]> {
         self.line += 1;

@@ -90,6 +90,47 @@ fn every_call_and_every_status() {
 }
 
 #[test]
+fn slots_are_used_again_under_other_ids() {
+    assert_answers(
+        "create-region name=1 start=4 length=1020 page=64 order=0 -> 0 1
+         delete-region id=1 -> 0 0
+         create-region name=2 start=4 length=1020 page=64 order=0 -> 0 17
+         ident-region name=2 -> 0 17
+         get id=1 size=960 wait=0 task=0 priority=0 ticks=0 -> 4 0
+         get id=17 size=960 wait=0 task=0 priority=0 ticks=0 -> 0 64
+         create-region name=3 start=1024 length=128 page=64 order=0 -> 0 2
+         get id=2 size=64 wait=0 task=0 priority=0 ticks=0 -> 0 1088
+         get id=2 size=64 wait=1 task=1 priority=1 ticks=1 -> 255 0
+         get id=17 size=64 wait=1 task=2 priority=1 ticks=1 -> 255 0
+         tick -> 0 0 task 2 with 6 0 task 1 with 6 0
+         create-partition name=1 start=2048 length=16 size=8 -> 0 1
+         delete-partition id=1 -> 0 0
+         create-partition name=1 start=2048 length=16 size=8 -> 0 17
+         get-buffer id=1 -> 4 0
+         ident-partition name=1 -> 0 17",
+    );
+}
+
+/// The scripts that the program is tried on are answered in the same way.
+#[test]
+fn the_scripts_with_expected_answers() {
+    let folder = concat!(env!("CARGO_MANIFEST_DIR"), "/../../tests/examples");
+    let mut scripts = 0;
+    for entry in std::fs::read_dir(folder).unwrap() {
+        let path = entry.unwrap().path();
+        if path
+            .extension()
+            .is_some_and(|extension| extension == "script")
+        {
+            let read = |path: &std::path::Path| std::fs::read_to_string(path).unwrap();
+            assert_output(&read(&path), &read(&path.with_extension("expected")));
+            scripts += 1;
+        }
+    }
+    assert!(scripts > 0);
+}
+
+#[test]
 fn too_many_and_wrong_sizes() {
     let create = |index: u32| {
         let answer = if index < 8 {
