@@ -1,59 +1,74 @@
--- The page count by one division and a correction of at most one. The quotient of the room from the map's start on by (page + 4) is
--- at least any number that fits; where it does not fit itself, one less does, since rounding up costs less than a page. Assumes nothing.
-use Prim.Native.Nat.{ℕ, zero, suc, _+_, _-_, _*_, _/_, _≤_, _<_}
-use mathlib.Core.Path.{_≡_}
+-- TICKET 2: the page count by one division and a correction of at most one. No more fit than the quotient, and one less always does:
+-- rounding the map's start up costs at most 3 bytes and rounding the first page up less than a page, together less than the page and the
+-- word that are left out. Assumes nothing.
+use Prim.Native.Nat.{ℕ, zero, suc, _+_, _-_, _*_, _≤_, _<_}
+use mathlib.Core.Path.{_≡_, refl, sym, _∙_, ap}
+use mathlib.Core.Logic.{_⊎_, inl, inr, ⊎-elim}
 use mathlib.Core.Bool.{true}
-use mathlib.Core.Logic.{⊎-elim}
-use native.Mathlib.Nat.{div-mul-le-self, le-div-iff-mul-le, mul-add, suc-mul, eq-or-lt-of-le}
-use native.Mathlib.Numerals.{sub-one}
+use native.Mathlib.Nat.{suc-mul, eq-or-lt-of-le, eq-zero-or-pos}
 use native.Mathlib.Omega.{arith}
-use Rattle.arith.specs.Layout.{mapStart, firstPage, fits, pageCount}
-use Rattle.arith.proofs.Laws.Layout.{fits-le, le-fits, fits-room, first-lt, count-unique}
+use Rattle.arith.specs.Layout.{mapStart, firstPage, fits, mostPages, pageCount, layoutWith, layoutOf}
+use Rattle.arith.specs.declared.Layout.{Layout}
+use Rattle.arith.proofs.Laws.Round.{round-under, multiples-under}
+use Rattle.arith.proofs.Laws.Layout.{fits-le, le-fits, map-lt, first-lt, most-zero, most-room, count-under, count-fits, count-over}
 
--- what the quotient's pages and words take of the room
-pub quotient-room : (room page : ℕ) → room / (page + 4) * page + room / (page + 4) * 4 ≤ room
-quotient-room room page = rw (← mul-add (room / (page + 4)) page 4) (div-mul-le-self room (page + 4))
+module _ (start length page : ℕ) where
+  -- one less than the quotient fits
+  less-fits : (n : ℕ) → suc n ≡ mostPages length page → fits start length page n ≡ true
+  less-fits n e =
+      ⊎-elim (λ (z : page ≡ 0). absurd (omega (arith, most-zero length page z)))
+      (λ (h : 0 < page). le-fits start length page n
+      (omega (arith, most-room length page (suc n) e, suc-mul n page, map-lt start, first-lt start page h n)))
+      (eq-zero-or-pos page)
 
--- where the map itself would start past the end nothing fits
-pub count-none : (start length page map : ℕ) → 0 < page → map ≡ mapStart start → start + length < map
-    → pageCount start length page ≡ 0
-count-none start length page map hp e h =
-    count-unique start length page hp 0 (λ z. absurd (omega arith))
-    (λ m z f. omega (arith, fits-room start length page hp m f))
+  under-next : (n : ℕ) → n ≡ mostPages length page → n ≤ pageCount start length page + 1
+  under-next zero e = omega arith
+  under-next (suc n) e = omega (arith, count-over start length page n (omega arith) (less-fits n e))
 
--- one less than a number of pages whose sizes, with a word each, are within the room fits
-less-fits : (start length page n : ℕ) → 0 < page → 0 < n → mapStart start + (n * page + n * 4) ≤ start + length
-    → firstPage start page (n - 1) * page + (n - 1) * page ≤ start + length
-less-fits start length page zero hp k g = absurd (omega arith)
-less-fits start length page (suc n) hp k g =
-    rw (sub-one (suc n)) (omega (arith, first-lt start page hp n, suc-mul n page))
+  -- THE CORRECTION IS AT MOST ONE: the quotient is the page count, or one more
+  pub correction : (mostPages length page ≡ pageCount start length page) ⊎ (mostPages length page ≡ pageCount start length page + 1)
+  correction =
+      ⊎-elim (λ (e : pageCount start length page ≡ mostPages length page). inl (sym e))
+      (λ (l : pageCount start length page < mostPages length page). inr (omega (arith, under-next (mostPages length page) refl)))
+      (eq-or-lt-of-le (count-under start length page))
 
-module _ (start length page map n first : ℕ) (hp : 0 < page) (em : map ≡ mapStart start) (hm : map ≤ start + length)
-    (en : n ≡ (start + length - map) / (page + 4)) (ef : first ≡ firstPage start page n) where
-  -- no more fit than the quotient
-  most : (m : ℕ) → fits start length page m ≡ true → m ≤ n
-  most m f = rw en
-      (le-div-iff-mul-le {k = page + 4} {x = m} {y = start + length - map} (omega arith) .1
-      (omega (arith, fits-room start length page hp m f)))
+  module _ (n : ℕ) (e : n ≡ mostPages length page) where
+    -- the quotient is right where it fits
+    count-exact : firstPage start page n * page + n * page ≤ start + length → n ≡ pageCount start length page
+    count-exact h =
+        omega (arith, count-under start length page, count-over start length page n (omega arith) (le-fits start length page n h))
 
-  used : n * page + n * 4 ≤ start + length - map
-  used = rw en (quotient-room (start + length - map) page)
+    -- and one too large, but for 0, where it does not
+    count-less : start + length < firstPage start page n * page + n * page → n - 1 ≡ pageCount start length page
+    count-less h =
+        ⊎-elim
+        (λ (z : mostPages length page ≡ pageCount start length page). ⊎-elim (λ (g : n ≡ 0). omega arith)
+        (λ (g : 0 < n). let f = count-fits start length page (omega arith) in
+        absurd (omega (arith, h, fits-le start length page n (rw (e ∙ z) f))))
+        (eq-zero-or-pos n))
+        (λ (z : mostPages length page ≡ pageCount start length page + 1). omega arith)
+        correction
 
-  -- the quotient, where it fits
-  pub count-exact : first * page + n * page ≤ start + length → pageCount start length page ≡ n
-  count-exact h =
-      count-unique start length page hp n (λ z. le-fits start length page n (rw ef at h)) (λ m z f. most m f)
+    -- the same of layouts, by the layout of the quotient's pages
+    module _ (l : Layout) (el : l ≡ layoutWith start page n) where
+      first-is : l .first ≡ firstPage start page n
+      first-is = ap (λ (k : Layout). k .first) el
 
-  -- one less, where it does not
-  pub count-less : start + length < first * page + n * page → pageCount start length page ≡ n - 1
-  count-less h =
-      count-unique start length page hp (n - 1)
-      (λ z. le-fits start length page (n - 1) (less-fits start length page n hp (omega arith) (omega (arith, used))))
-      (λ m z f. ⊎-elim
-      (λ (e : m ≡ n). absurd (omega (arith, rw ef at h, fits-le start length page n (rw e at f))))
-      (λ (l : m < n). omega arith)
-      (eq-or-lt-of-le (most m f)))
+      pub stop-under : l .first * page + n * page ≤ start + length + page + 3
+      stop-under =
+          omega (
+            arith,
+            most-room length page n e,
+            round-under start 4,
+            multiples-under (mapStart start + 4 * n) page (l .first) first-is,
+          )
 
-  -- and 0, where there is none less
-  pub count-empty : start + length < first * page + n * page → n ≡ 0 → pageCount start length page ≡ 0
-  count-empty h e = omega (arith, count-less h)
+      pub layout-exact : l .first * page + n * page ≤ start + length → l ≡ layoutOf start length page
+      layout-exact h = el ∙ ap (layoutWith start page) (count-exact (rw first-is at h))
+
+      pub layout-none : n ≡ 0 → l ≡ layoutOf start length page
+      layout-none z = el ∙ ap (layoutWith start page) (omega (arith, count-under start length page))
+
+      pub layout-less : start + length < l .first * page + n * page → (k : Layout) → k ≡ layoutWith start page (n - 1)
+          → k ≡ layoutOf start length page
+      layout-less h k ek = ek ∙ ap (layoutWith start page) (count-less (rw first-is at h))

@@ -23,13 +23,18 @@ unfoldable pub largest : ℕ → (ℕ → Bool) → ℕ
 largest zero t = 0
 largest (suc k) t = cond (t (suc k)) (suc k) (largest k t)
 
--- "Regions: Layout": the largest n for which all fits. Each page takes a word of the map and itself, so none above the
--- bound that is searched can fit
-unfoldable pub pageCount : ℕ → ℕ → ℕ → ℕ
-pageCount start length page = cond (eqb page 0) 0 (largest (length / (page + 4)) (fits start length page))
+-- no more pages than this fit: each takes its size and a word of the map. None of size 0
+unfoldable pub mostPages : ℕ → ℕ → ℕ
+mostPages length page = cond (eqb page 0) 0 (length / (page + 4))
 
--- all of it: the place of the map's first word, the page count, the number of the first page
+-- "Regions: Layout": the largest n for which all fits
+unfoldable pub pageCount : ℕ → ℕ → ℕ → ℕ
+pageCount start length page = largest (mostPages length page) (fits start length page)
+
+-- an area with n pages: the place of the map's first word, the page count, the number of the first page
+abbrev pub layoutWith : ℕ → ℕ → ℕ → Layout
+layoutWith start page n = record { map = mapStart start / 4; pages = n; first = firstPage start page n }
+
+-- and with as many as fit
 abbrev pub layoutOf : ℕ → ℕ → ℕ → Layout
-layoutOf start length page =
-    let n = pageCount start length page in
-    record { map = mapStart start / 4; pages = n; first = firstPage start page n }
+layoutOf start length page = layoutWith start page (pageCount start length page)

@@ -3,7 +3,7 @@
 ghost use mathlib.Core.Path.{_≡_};
 ghost use Prim.Native.Nat.{_<_};
 ghost use Rattle.arith.specs.Round.{roundUp, pagesFor};
-ghost use Rattle.arith.specs.Layout.{firstPage, pageCount, layoutOf};
+ghost use Rattle.arith.specs.Layout.{mostPages, layoutWith, layoutOf};
 
 // Where the map and the pages of an area lie: the index of the map's first word, how many pages there are, and the number of the
 // first one. Page p starts at p times the page size.
@@ -39,47 +39,43 @@ pub fn pages_for(bytes: u32, page: u32) -> u32
     multiples(bytes as u64, page) as u32
 }
 
-// The number of the page with which pages start, after a map of n words; 0 where the page size is 0.
-fn first_page(start: u32, page: u32, n: u32) -> u64
-    ensures { λ r. ⌜ r ≡ firstPage start page n ⌝ }
-{
-    let map = round_up(start, 4);
-    multiples(map + 4 * n as u64, page)
-}
-
-// The largest number of pages that fit in the area with their map. Of the room from the map's start on each page takes
-// its size and a word, so one division gives a number that is right or, where rounding the first page up costs room, one
-// too large.
-fn page_count(start: u32, length: u32, page: u32) -> u32
-    ensures { λ r. ⌜ r ≡ pageCount start length page ⌝ }
+// The one division. Each page takes its size and a word of the map, so no more than this fit in an area of that length; none of
+// size 0.
+fn most_pages(length: u32, page: u32) -> u32
+    ensures { λ r. ⌜ r ≡ mostPages length page ⌝ }
 {
     if page == 0 {
         return 0;
     }
-    let end = start as u64 + length as u64;
-    let map = round_up(start, 4);
-    if end < map {
-        return 0;
-    }
-    let n = ((end - map) / (page as u64 + 4)) as u32;
-    let stop = first_page(start, page, n) * page as u64 + n as u64 * page as u64;
-    if stop <= end {
-        return n;
-    }
-    if n == 0 {
-        return 0;
-    }
-    n - 1
+    (length as u64 / (page as u64 + 4)) as u32
 }
 
-// The layout of an area.
+// The layout of an area with n pages; its first page has number 0 where the page size is 0.
+fn with_pages(start: u32, page: u32, n: u32) -> Layout
+    ensures { λ l. ⌜ l ≡ layoutWith start page n ⌝ }
+{
+    let map = round_up(start, 4);
+    Layout {
+        map: (map / 4) as usize,
+        pages: n,
+        first: multiples(map + 4 * n as u64, page),
+    }
+}
+
+// The layout of an area with the largest number of pages that fit. The division gives that number or, where rounding the map's start
+// and the first page up costs room, one more.
 pub fn layout_of(start: u32, length: u32, page: u32) -> Layout
     ensures { λ l. ⌜ l ≡ layoutOf start length page ⌝ }
 {
-    let pages = page_count(start, length, page);
-    Layout {
-        map: (round_up(start, 4) / 4) as usize,
-        pages,
-        first: first_page(start, page, pages),
+    let n = most_pages(length, page);
+    let l = with_pages(start, page, n);
+    if n == 0 {
+        return l;
     }
+    let first = l.first;
+    let stop = first * page as u64 + n as u64 * page as u64;
+    if stop <= start as u64 + length as u64 {
+        return l;
+    }
+    with_pages(start, page, n - 1)
 }

@@ -1,7 +1,7 @@
 -- All that a worked example computes with, in three parts: maps and checks of lists; the queue, the chain and the sound record; the
 -- directives. An example unfolds these names. Assumes nothing.
 use Prim.Native.Nat.{_+_}
-use Rattle.arith.specs.Layout.{largest, pageCount}
+use Rattle.arith.specs.Layout.{largest, mostPages, pageCount}
 use Rattle.manager.specs.Record.{slotOf, generationOf, idOf, objectOf}
 use Rattle.manager.specs.Result.{checked}
 use Rattle.manager.specs.Lists.{every, any, indexOf, pairwise, adjacent}
@@ -18,7 +18,7 @@ use Rattle.manager.specs.Access.{readSegment, writeSegment}
 use Rattle.manager.specs.Perform.{perform}
 
 unfoldable pub maps : Unit {0}
-unfolding largest pageCount checked every any indexOf pairwise adjacent draw decode tiledFrom tiled soundMap apart freeSizes heldSizes largestOf sumOf total free+ lead rest placeFrom occupyFrom heldFrom reachFrom changeFrom
+unfolding largest mostPages pageCount checked every any indexOf pairwise adjacent draw decode tiledFrom tiled soundMap apart freeSizes heldSizes largestOf sumOf total free+ lead rest placeFrom occupyFrom heldFrom reachFrom changeFrom
 maps = tt
 
 unfoldable pub records : Unit {0}

@@ -5,7 +5,7 @@ use mathlib.Core.Bool.{Bool, true, false, _&&_}
 use mathlib.Core.List.{List, [], _∷_}
 use lib.ListN.{replicate}
 use lib.Dec.{eqb}
-use Rattle.arith.specs.Layout.{pageCount, firstPage}
+use Rattle.arith.specs.Layout.{mostPages, pageCount, firstPage}
 use Rattle.manager.specs.Status.{numberOf}
 use Rattle.manager.specs.Record.{slots, tasks, mostWords, emptiedRegion, emptiedPartition, noWaiter, fresh, regionOf}
 use Rattle.manager.specs.Result.{Result}
@@ -22,10 +22,10 @@ use Rattle.manager.specs.declared.Notice.{Notice}
 pub data Step : Type 0 where
   step : Call → ℕ → ℕ → List ℕ → Step
 
--- A row: an area and its page size, with its page count, first page and last byte; calls from a fresh start, with their answers; such
+-- A row: an area and its page size, with what the one division gives, its page count, first page and last byte; calls from a fresh start, with their answers; such
 -- calls with the words of region 1's map after them; and calls from a start where every slot was deleted so often
 pub data Row : Type 0 where
-  layout : ℕ → ℕ → ℕ → ℕ → ℕ → ℕ → Row
+  layout : ℕ → ℕ → ℕ → ℕ → ℕ → ℕ → ℕ → Row
   calls : List Step → Row
   words : List Step → List ℕ → Row
   later : ℕ → List Step → Row
@@ -55,8 +55,9 @@ abbrev pub atGeneration : ℕ → Manager
 atGeneration g = record { regions = replicate slots (emptiedRegion g); partitions = replicate slots (emptiedPartition g); waiters = replicate tasks noWaiter }
 
 abbrev pub holds : Row → Bool
-holds (layout start bytes page n first last) =
-    eqb (pageCount start bytes page) n && (eqb (firstPage start page n * page) first && eqb (first + n * page) (last + 1))
+holds (layout start bytes page most n first last) =
+    eqb (mostPages bytes page) most
+    && (eqb (pageCount start bytes page) n && (eqb (firstPage start page n * page) first && eqb (first + n * page) (last + 1)))
 holds (calls ss) = follows (replicate mostWords 0) fresh ss (λ m d. true)
 holds (words ss ws) = follows (replicate mostWords 0) fresh ss (λ m d. same (mapWords m (regionOf d 1)) ws)
 holds (later g ss) = follows (replicate mostWords 0) (atGeneration g) ss (λ m d. true)
@@ -92,10 +93,10 @@ back address = step (ReturnBuffer 1 address) 0 0 []
 abbrev pub table : List Row
 table =
     -- 1. A has 15 pages, from 64 to 1,023. Length 1,019 gives 14.
-    layout 4 1020 64 15 64 1023
-    ∷ layout 4 1019 64 14 64 959
+    layout 4 1020 64 15 15 64 1023
+    ∷ layout 4 1019 64 14 14 64 959
     -- 2. Start 4, page 64: length 124 gives 1 page, 123 gives 8.
-    ∷ layout 4 124 64 1 64 127
+    ∷ layout 4 124 64 1 1 64 127
     ∷ calls (step (CreateRegion 1 4 123 64 Fifo) 8 0 [] ∷ [])
     -- 3. Get 65: 64. Then get 1: 192. The map is 5, 0, 3, 24, then eleven zeros.
     ∷ words (a ∷ get 65 0 64 ∷ get 1 0 192 ∷ []) (5 ∷ 0 ∷ 3 ∷ 24 ∷ replicate 11 0)
@@ -143,4 +144,10 @@ table =
     ∷ later 65535 (divide 1048561 ∷ step (DeletePartition 1048561) 0 0 [] ∷ divide 1048562 ∷ [])
     -- With every slot spent there is none: 5.
     ∷ later 65536 (step (CreateRegion 1 4 1020 64 Fifo) 5 0 [] ∷ step (CreatePartition 1 4 100 24) 5 0 [] ∷ [])
+    -- Request 2. The division is right where rounding costs nothing, as for A, and else it may be one too large: 4 bytes on, where a map
+    -- of 15 words ends past 64; at 53, where the map's start is rounded up to 56; and where not one page fits.
+    ∷ layout 8 1020 64 15 14 64 959
+    ∷ layout 56 136 64 2 2 64 191
+    ∷ layout 53 136 64 2 1 64 127
+    ∷ layout 4 123 64 1 0 64 63
     ∷ []

@@ -9,7 +9,7 @@ ghost use Rattle.manager.specs.Paged.{apart};
 ghost use Rattle.manager.specs.Region.{layoutOf, wordsAt, pagesAsked};
 ghost use Rattle.map.specs.Word.{heldWord, heldWordAt, oneFree};
 
-// Where the region's map and pages lie: worked out once in a call, and handed on.
+// Where the region's map and pages lie: a directive works it out once, and hands it on.
 pub fn layout_of(r: Region) -> Layout
     ensures { λ l. ⌜ l ≡ layoutOf r ⌝ }
 {

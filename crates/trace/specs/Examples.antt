@@ -40,7 +40,7 @@ abbrev atGeneration : ℕ → Receipts
 atGeneration g = record { regions = λ id. none; partitions = λ id. none; regionDeletes = λ slot. g; partitionDeletes = λ slot. g; waits = [] }
 
 abbrev pub holds : Row → Bool
-holds (layout start bytes page n first last) =
+holds (layout start bytes page most n first last) =
     lies (record { name = 1; start = start; bytes = bytes; page = page; order = Fifo; loans = [] }) n first last
 holds (calls ss) = follows blank ss (λ t. true)
 holds (words ss ws) = follows blank ss (λ t. same (drawnWords (t .regions 1)) ws)

@@ -1,15 +1,15 @@
--- The page count is the largest number of pages that fits, and there is only one such number. A page takes a word and itself of what
--- lies from the map's start on, so no more fit than the room divided by (page + 4); and one less than that always fits, since
--- rounding the first page up costs less than a page. Assumes nothing.
+-- The page count is the largest number of pages that fits. It is searched from `mostPages` down, and no number above that fits, since
+-- a page takes its size and a word of what lies from the area's start on. Assumes nothing.
 use Prim.Native.Nat.{ℕ, zero, suc, _+_, _*_, _/_, _≤_, _<_}
-use mathlib.Core.Path.{_≡_, refl, _∙_}
+use mathlib.Core.Path.{_≡_, refl}
 use mathlib.Core.Logic.{⊎-elim}
 use mathlib.Core.Bool.{Bool, true, false, cond, true≢false}
-use native.Mathlib.Nat.{le-div-iff-mul-le, mul-add, le-antisymm, eq-or-lt-of-le, eq-zero-or-pos}
+use native.Mathlib.Nat.{le-div-iff-mul-le, div-mul-le-self, mul-add, eq-or-lt-of-le, eq-zero-or-pos}
 use native.Mathlib.Omega.{arith}
 use borrow.Author.Tests.{leb-true, le-leb, eq-eqb, ne-eqb}
 use Rattle.arith.proofs.Laws.Round.{round-ge, round-lt}
-use Rattle.arith.specs.Layout.{mapStart, firstPage, fits, largest, pageCount, layoutOf}
+use Rattle.arith.specs.Round.{pagesFor}
+use Rattle.arith.specs.Layout.{mapStart, firstPage, fits, largest, mostPages, pageCount, layoutWith}
 
 -- one step of the search
 pick-passes : (t : ℕ → Bool) (k r : ℕ) (b : Bool) → t k ≡ b → (0 < r → t r ≡ true) → 0 < cond b k r
@@ -46,16 +46,6 @@ unfolding largest
 largest-most zero t m h p = h
 largest-most (suc k) t m h p = pick-most t k (largest k t) m (t (suc k)) refl (λ g. largest-most k t m g p) h p
 
--- and it is the only number of which this holds
-pub largest-unique : (k : ℕ) (t : ℕ → Bool) (n : ℕ) → n ≤ k → (0 < n → t n ≡ true)
-    → ((m : ℕ) → 0 < m → m ≤ k → t m ≡ true → m ≤ n) → largest k t ≡ n
-largest-unique k t n u p q =
-    le-antisymm
-    (⊎-elim (λ (e : largest k t ≡ 0). omega arith)
-    (λ (h : 0 < largest k t). q (largest k t) h (largest-under k t) (largest-passes k t h))
-    (eq-zero-or-pos (largest k t)))
-    (⊎-elim (λ (e : n ≡ 0). omega arith) (λ (h : 0 < n). largest-most k t n u (p h)) (eq-zero-or-pos n))
-
 module _ (start length page : ℕ) where
   -- the test as an order, and back
   pub fits-le : (n : ℕ) → fits start length page n ≡ true → firstPage start page n * page + n * page ≤ start + length
@@ -64,13 +54,12 @@ module _ (start length page : ℕ) where
   pub le-fits : (n : ℕ) → firstPage start page n * page + n * page ≤ start + length → fits start length page n ≡ true
   le-fits n h = le-leb (firstPage start page n * page + n * page) (start + length) h
 
-  pub count-zero : page ≡ 0 → pageCount start length page ≡ 0
-  unfolding pageCount
-  count-zero e = rw (eq-eqb page 0 e)
-
 -- the map starts at or above the area's start, and within 3 bytes of it
 pub map-ge : (start : ℕ) → start ≤ mapStart start
 map-ge start = round-ge start 4 (omega arith)
+
+pub map-lt : (start : ℕ) → mapStart start < start + 4
+map-lt start = round-lt start 4 (omega arith)
 
 -- the pages start at or above the map's end, and within a page of it
 pub first-ge : (start page : ℕ) → 0 < page → (n : ℕ) → mapStart start + 4 * n ≤ firstPage start page n * page
@@ -79,32 +68,54 @@ first-ge start page hp n = round-ge (mapStart start + 4 * n) page hp
 pub first-lt : (start page : ℕ) → 0 < page → (n : ℕ) → firstPage start page n * page < mapStart start + 4 * n + page
 first-lt start page hp n = round-lt (mapStart start + 4 * n) page hp
 
--- the page count, for a page size that is not 0
+-- the bound of the search, by the page size
+pub most-zero : (length page : ℕ) → page ≡ 0 → mostPages length page ≡ 0
+unfolding mostPages
+most-zero length page e = rw (eq-eqb page 0 e)
+
+pub most-is : (length page : ℕ) → 0 < page → mostPages length page ≡ length / (page + 4)
+unfolding mostPages
+most-is length page h = rw (ne-eqb page 0 (λ (e : page ≡ 0). omega arith))
+
+-- what so many pages and their words take
+pub most-room : (length page n : ℕ) → n ≡ mostPages length page → n * page + n * 4 ≤ length
+most-room length page n e =
+    ⊎-elim (λ (z : page ≡ 0). rw (e, most-zero length page z) (omega arith))
+    (λ (h : 0 < page). rw (e, most-is length page h, ← mul-add (length / (page + 4)) page 4) (div-mul-le-self length (page + 4)))
+    (eq-zero-or-pos page)
+
+module _ (start length page : ℕ) where
+  -- the count is a number that was searched, and fits where it is not 0
+  pub count-under : pageCount start length page ≤ mostPages length page
+  unfolding pageCount
+  count-under = largest-under (mostPages length page) (fits start length page)
+
+  pub count-fits : 0 < pageCount start length page → fits start length page (pageCount start length page) ≡ true
+  unfolding pageCount
+  count-fits = largest-passes (mostPages length page) (fits start length page)
+
+  pub count-zero : page ≡ 0 → pageCount start length page ≡ 0
+  count-zero e = omega (arith, count-under, most-zero length page e)
+
+  -- none that was searched and fits is above it
+  pub count-over : (n : ℕ) → n ≤ mostPages length page → fits start length page n ≡ true → n ≤ pageCount start length page
+  unfolding pageCount
+  count-over = largest-most (mostPages length page) (fits start length page)
+
+-- for a page size that is not 0
 module _ (start length page : ℕ) (hp : 0 < page) where
   -- what fits has a word and a page each
   pub fits-room : (n : ℕ) → fits start length page n ≡ true → mapStart start + n * (page + 4) ≤ start + length
   fits-room n e = rw (mul-add n page 4) (omega (arith, fits-le start length page n e, first-ge start page hp n))
 
-  pub fits-bound : (n : ℕ) → fits start length page n ≡ true → n ≤ length / (page + 4)
-  fits-bound n e =
-      le-div-iff-mul-le {k = page + 4} {x = n} {y = length} (omega arith) .1
-      (omega (arith, fits-room n e, map-ge start))
+  pub fits-most : (n : ℕ) → fits start length page n ≡ true → n ≤ mostPages length page
+  fits-most n e =
+      rw (most-is length page hp)
+      (le-div-iff-mul-le {k = page + 4} {x = n} {y = length} (omega arith) .1 (omega (arith, fits-room n e, map-ge start)))
 
-  count-is : pageCount start length page ≡ largest (length / (page + 4)) (fits start length page)
-  unfolding pageCount
-  count-is = rw (ne-eqb page 0 (λ (e : page ≡ 0). omega arith))
-
-  -- the count fits, where it is not 0; none that fits is above it; and it is the only number of which both hold
-  pub count-fits : 0 < pageCount start length page → fits start length page (pageCount start length page) ≡ true
-  count-fits = rw count-is (largest-passes (length / (page + 4)) (fits start length page))
-
-  pub count-unique : (n : ℕ) → (0 < n → fits start length page n ≡ true)
-      → ((m : ℕ) → 0 < m → fits start length page m ≡ true → m ≤ n) → pageCount start length page ≡ n
-  count-unique n f m =
-      count-is ∙
-      largest-unique (length / (page + 4)) (fits start length page) n
-      (⊎-elim (λ (e : n ≡ 0). omega arith) (λ (h : 0 < n). fits-bound n (f h)) (eq-zero-or-pos n))
-      f (λ k h u e. m k h e)
+  -- of all numbers none that fits is above the count
+  pub count-most : (n : ℕ) → fits start length page n ≡ true → n ≤ pageCount start length page
+  count-most n e = count-over start length page n (fits-most n e) e
 
 -- what the count's pages take: all within the area, the map before the pages, a word and a page each
 module _ (start length page : ℕ) where
@@ -114,9 +125,9 @@ module _ (start length page : ℕ) where
 
   pub count-end : 0 < page → 0 < pageCount start length page
       → firstPage start page (pageCount start length page) * page + pageCount start length page * page ≤ start + length
-  count-end hp h = fits-le start length page (pageCount start length page) (count-fits start length page hp h)
+  count-end hp h = fits-le start length page (pageCount start length page) (count-fits start length page h)
 
 -- a layout by its parts
-pub layout-is : (start length page map n first : ℕ) → map ≡ mapStart start → n ≡ pageCount start length page → first ≡ firstPage start page n
-    → record { map = map / 4; pages = n; first = first } ≡ layoutOf start length page
-layout-is start length page map n first em en ef = rw (ef, en, em)
+pub layout-is : (start page n map first : ℕ) → map ≡ mapStart start → first ≡ pagesFor (map + 4 * n) page
+    → record { map = map / 4; pages = n; first = first } ≡ layoutWith start page n
+layout-is start page n map first em ef = rw (ef, em)
