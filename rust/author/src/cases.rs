@@ -1,5 +1,5 @@
-//! Cases of ids and generations that a comparison has to reach, and how to
-//! tell that a call is one.
+//! Cases that a comparison has to reach, of ids, generations and page counts,
+//! and how to tell that a call is one.
 
 use directives::words::*;
 use directives::Directive::*;
@@ -20,6 +20,11 @@ pub enum Case {
     /// The notices of a tick come from two regions, and the one in the lower
     /// slot has the higher id.
     SlotsBeforeIds,
+    /// A new region has as many pages as its length divided by the size of a
+    /// page and a word ..
+    AllPages,
+    /// .. or one less.
+    OneLess,
     /// A delete leaves a spent slot.
     Spends(Directive),
     /// A create takes a slot above a spent one.
@@ -49,7 +54,7 @@ impl Case {
         let with_id = directives.iter().copied().filter(|of| of.has_id());
         let mut cases = answer_ids.map(UsedAgain).to_vec();
         cases.extend(with_id.flat_map(|directive| [Earlier(directive), Later(directive)]));
-        cases.push(SlotsBeforeIds);
+        cases.extend([SlotsBeforeIds, AllPages, OneLess]);
         cases
     }
 }
@@ -61,6 +66,8 @@ impl fmt::Display for Case {
             Earlier(of) => write!(out, "{}: refused for an earlier generation", of.name()),
             Later(of) => write!(out, "{}: refused for a later generation", of.name()),
             SlotsBeforeIds => write!(out, "tick: the lower slot first, with the higher id"),
+            AllPages => write!(out, "{}: as many pages as divided", CreateRegion.name()),
+            OneLess => write!(out, "{}: one page less than divided", CreateRegion.name()),
             Spends(of) => write!(out, "{}: leaves a spent slot", of.name()),
             PassesSpent(of) => write!(out, "{}: takes a slot above a spent one", of.name()),
             OnlySpent(of) => write!(out, "{}: status 5 with a spent slot", of.name()),
@@ -85,11 +92,16 @@ impl Ids {
         }
     }
 
-    /// The cases that a call is, by its answer.
-    pub fn cases(&self, call: &Call, answer: &Answer) -> Vec<Case> {
+    /// The cases that a call is, by its answer and the state after it.
+    pub fn cases(&self, call: &Call, answer: &Answer, after: &Model) -> Vec<Case> {
         let directive = call.directive();
         let cases = match directive {
-            CreateRegion | CreatePartition => self.of_create(directive, answer),
+            CreateRegion => {
+                let mut cases = self.of_create(directive, answer);
+                cases.extend(of_pages(call, answer, after));
+                cases
+            }
+            CreatePartition => self.of_create(directive, answer),
             IdentRegion | IdentPartition => vec![(answer.value >= ID_STEP, UsedAgain(directive))],
             Tick => vec![(self.is_by_slots(answer), SlotsBeforeIds)],
             _ if directive.has_id() => self.of_id(directive, call.arguments()[0], answer),
@@ -153,6 +165,17 @@ impl Ids {
     }
 }
 
+/// How a new region's page count stands to the division.
+fn of_pages(create: &Call, answer: &Answer, after: &Model) -> Vec<(bool, Case)> {
+    let length = create.arguments()[2];
+    let region = after.pages(answer.value);
+    let Some((page, pages)) = region.filter(|_| answer.status == status::SUCCESSFUL) else {
+        return vec![];
+    };
+    let most = length / (page + 4);
+    vec![(pages == most, AllPages), (pages + 1 == most, OneLess)]
+}
+
 #[cfg(test)]
 mod tests {
     use super::*;
@@ -163,7 +186,8 @@ mod tests {
         for (directive, arguments) in calls {
             let call = directive.call(arguments);
             let ids = Ids::new(model);
-            all.push(ids.cases(&call, &model.call(&call)));
+            let answer = model.call(&call);
+            all.push(ids.cases(&call, &answer, model));
         }
         all
     }
@@ -192,7 +216,9 @@ mod tests {
             (Tick, &[]),
         ];
         let mut expected = vec![vec![]; calls.len()];
-        expected[3] = vec![UsedAgain(CreateRegion)];
+        expected[0] = vec![AllPages];
+        expected[1] = vec![AllPages];
+        expected[3] = vec![UsedAgain(CreateRegion), AllPages];
         expected[4] = vec![UsedAgain(IdentRegion)];
         expected[5] = vec![Earlier(Information)];
         expected[6] = vec![Later(Information)];
@@ -212,11 +238,23 @@ mod tests {
         let last = id_of(4, GENERATIONS - 1);
         let calls: [(_, &[u32]); 4] = [LOW, HIGH, (DeleteRegion, &[last]), LOW];
         let expected = [
-            vec![UsedAgain(CreateRegion), PassesSpent(CreateRegion)],
+            vec![UsedAgain(CreateRegion), PassesSpent(CreateRegion), AllPages],
             vec![OnlySpent(CreateRegion)],
             vec![Spends(DeleteRegion)],
             vec![OnlySpent(CreateRegion)],
         ];
         assert_eq!(cases(&mut model, &calls), expected);
+    }
+
+    #[test]
+    fn cases_of_page_counts() {
+        let calls: [(_, &[u32]); 4] = [
+            (CreateRegion, &[1, 56, 136, 64, 0]),
+            (CreateRegion, &[1, 1_024, 123, 64, 0]),
+            (CreateRegion, &[1, 1_077, 136, 64, 0]),
+            (CreateRegion, &[1, 2_056, 1_020, 64, 0]),
+        ];
+        let expected = [vec![AllPages], vec![], vec![OneLess], vec![OneLess]];
+        assert_eq!(cases(&mut Model::fresh(), &calls), expected);
     }
 }

@@ -41,10 +41,11 @@ impl Tally {
             for notice in &answer.notices {
                 *self.notices.entry(notice.status).or_default() += 1;
             }
-            for case in Ids::new(&model).cases(call, answer) {
+            let ids = Ids::new(&model);
+            model.call(call);
+            for case in ids.cases(call, answer, &model) {
                 *self.cases.entry(case).or_default() += 1;
             }
-            model.call(call);
         }
     }
 
@@ -144,7 +145,7 @@ impl fmt::Display for Tally {
             }
             writeln!(out)?;
         }
-        writeln!(out, "Ids and generations:")?;
+        writeln!(out, "Ids, generations and page counts:")?;
         for (case, count) in &self.cases {
             writeln!(out, "  {:<54}{count:>9}", case.to_string())?;
         }
@@ -175,7 +176,7 @@ mod tests {
         assert!(!missing.contains(&"status 4 of info".to_string()));
     }
 
-    /// Every case of ids is asked for, and one that a script reaches is counted.
+    /// Every case is asked for, and one that a script reaches is counted.
     #[test]
     fn cases_are_counted() {
         let mut tally = Tally::default();
@@ -190,6 +191,7 @@ mod tests {
         let expected = [
             (Case::UsedAgain(Directive::CreateRegion), 1),
             (Case::Earlier(Directive::Information), 1),
+            (Case::AllPages, 2),
         ];
         assert_eq!(tally.cases, expected.into());
         let missing = tally.missing();

@@ -160,7 +160,7 @@ impl<'a, L: Library> Comparison<'a, L> {
         let (record_after, memory_after) = (model.record(), model.memory());
         sound::check(&record_after, memory_after)
             .map_err(|clause| format!("{call:?} leaves the model unsound: {clause}"))?;
-        let cases = ids.cases(call, &answer);
+        let cases = ids.cases(call, &answer, model);
         self.tally.add_sound_call(cases, &answer, model);
 
         let buffers = [&record[..], &memory, &before];
