@@ -1,18 +1,19 @@
--- WRONG ANSWERS: the managers 1 to 31 and 49, each of which breaks one rule (those that it shuts out by name and those of its slips
+-- WRONG ANSWERS: the managers 1 to 31, 49, 55 and 56, each of which breaks one rule (those that it shuts out by name and those of its slips
 -- among them), and for each a list of calls of which the last is not answered as the receipts say. So none of them meets demand 3. The
 -- managers 32 to 46, which don't meet demand 1, are in Effects; those that are wrong about ids are in Ids. Assumes nothing.
 use mathlib.Core.Path.{refl}
-use mathlib.Core.Bool.{Bool, true, cond, not}
+use mathlib.Core.Bool.{Bool, true, cond, not, _&&_}
 use mathlib.Core.List.{List, [], _∷_, reverse}
 use Prim.Native.Nat.{ℕ, zero, suc, _+_, _-_, _*_, _/_, _%_}
 use lib.ListN.{getD}
 use lib.Seq.{sets}
 use lib.Dec.{eqb, leb}
+use Rattle.arith.specs.Layout.{mostPages}
 use Rattle.manager.specs.Record.{noWaiter, slotOf, regionOf, partitionOf, withRegion, withPartition}
 use Rattle.manager.specs.Result.{refused, done}
 use Rattle.manager.specs.Map.{Segment, freeSizes, sumOf, total}
 use Rattle.manager.specs.Paged.{placeFrom, allocate, paged}
-use Rattle.manager.specs.Region.{firstPageOf, addressOf, pageAt, mapAt, segments, withSegments, heldAt, pagesAsked, placed, taken}
+use Rattle.manager.specs.Region.{firstPageOf, addressOf, pageAt, mapAt, segments, withSegments, heldAt, pagesOf, pagesAsked, placed, taken}
 use Rattle.manager.specs.Queue.{enqueue, dequeue}
 use Rattle.manager.specs.Paged.{onPlace}
 use Rattle.manager.specs.Partition.{setBefore, link}
@@ -25,11 +26,11 @@ use Rattle.manager.specs.declared.Notice.{Notice}
 use Rattle.manager.specs.declared.Call.the-variants.{CreateRegion, GetSegment, ReturnSegment, SegmentSize, ResizeSegment, RegionInformation}
 use Rattle.manager.specs.declared.Order.the-variants.{Fifo, Priority}
 use Rattle.manager.specs.declared.Wait.the-variants.{Yes}
-use Rattle.manager.specs.declared.Status.the-variants.{InvalidName, InvalidAddress, ResourceInUse, Unsatisfied, InternalError}
+use Rattle.manager.specs.declared.Status.the-variants.{InvalidName, InvalidAddress, InvalidSize, ResourceInUse, Unsatisfied, InternalError}
 use Rattle.trace.specs.Trace.{Ask, call, read, write}
 use Rattle.trace.specs.Claims.{Demand3}
 use Rattle.refuted.proofs.Refute.{differs}
-use Rattle.refuted.proofs.Calls.{create, get, wait, return, ident, delete, clock, divide, buffer, back, everything}
+use Rattle.refuted.proofs.Calls.{create, createUneven, get, wait, return, ident, delete, clock, divide, buffer, back, everything}
 use Rattle.refuted.proofs.Wrong.{region-create, region-ident, region-delete, segment-get, segment-return, segment-resize, region-information, buffer-get, buffer-return, clock-tick, answering, but, valued, noticing, keeping, emptied}
 
 -- 1. EVERY CALL IS REFUSED WITH 13, creates included
@@ -349,3 +350,25 @@ countsFromFirst =
 not-countsFromFirst : ¬ Demand3 countsFromFirst
 unfolding everything
 not-countsFromFirst = differs countsFromFirst (create ∷ get 64 ∷ []) refl
+
+-- 55. THE DIVISION IS NOT CORRECTED: a get of as many pages as the division gives is answered with the first one, where they don't fit
+abbrev countsUncorrected : Implementation
+countsUncorrected =
+    but segment-get 8 λ m d c a.
+    let r = regionOf d (asked c .id) in
+    cond (eqb (pagesAsked r (asked c .number)) (mostPages (r .length) (r .page))) (done m d (addressOf r (firstPageOf r))) a
+
+not-countsUncorrected : ¬ Demand3 countsUncorrected
+unfolding everything
+not-countsUncorrected = differs countsUncorrected (createUneven ∷ get 65 ∷ []) refl
+
+-- 56. THE DIVISION IS CORRECTED BY TWO: a get of all pages is refused, where the division is one too large
+abbrev countsTwoLess : Implementation
+countsTwoLess =
+    but segment-get 0 λ m d c a.
+    let r = regionOf d (asked c .id) in
+    cond (eqb (pagesAsked r (asked c .number)) (pagesOf r) && eqb (pagesOf r + 1) (mostPages (r .length) (r .page))) (refused m d InvalidSize) a
+
+not-countsTwoLess : ¬ Demand3 countsTwoLess
+unfolding everything
+not-countsTwoLess = differs countsTwoLess (createUneven ∷ get 64 ∷ []) refl

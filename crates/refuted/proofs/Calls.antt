@@ -11,6 +11,10 @@ use Rattle.trace.proofs.Computing.{receipts}
 abbrev pub create : Ask
 create = call (CreateRegion 1 4 252 64 Fifo)
 
+-- a region of one page, at 64, where the division gives two: its map starts at 56
+abbrev pub createUneven : Ask
+createUneven = call (CreateRegion 1 53 136 64 Fifo)
+
 abbrev pub get : ℕ → Ask
 get size = call (GetSegment 1 size No 0 0 0)
 
