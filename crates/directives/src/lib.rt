@@ -42,6 +42,6 @@ pub fn perform(mem: &mut [u32], d: Manager, call: Call) -> Answer
         Call::DeletePartition { id } => partitions::delete_partition(mem, d, id),
         Call::GetBuffer { id } => partitions::get_buffer(mem, d, id),
         Call::ReturnBuffer { id, address } => partitions::return_buffer(mem, d, id, address),
-        Call::Tick => clock::tick(mem, d),
+        Call::Tick => segments::tick(mem, d),
     }
 }

@@ -24,8 +24,8 @@ use Rattle.manager.specs.declared.Status.{Status}
 use Rattle.manager.specs.declared.Status.the-variants.{Successful, InternalError}
 use Rattle.effects.specs.Effects.{writeAnswers, WriteEffects, ReadEffects}
 use Rattle.manager.proofs.Laws.Result.{Passed, by-answer}
-use Rattle.effects.proofs.Answers.{other-status, unchanged, rightly}
-use Rattle.effects.proofs.Words.{stored}
+use Rattle.effects.proofs.Answers.{other-status, rightly}
+use Rattle.manager.proofs.Laws.Words.{unchanged, stored}
 
 module _ (m : List ℕ) (d : Manager) (id address : ℕ) where
   module _ (first : ℕ) (words : List ℕ) where

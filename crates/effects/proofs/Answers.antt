@@ -14,12 +14,14 @@ use Rattle.manager.specs.Result.{Result, Check, replied, refused}
 use Rattle.manager.specs.Regions.{answered}
 use Rattle.manager.specs.Sound.{sound}
 use Rattle.manager.proofs.Laws.Result.{Passed, by-answer}
+use Rattle.manager.specs.Words.{Only}
+use Rattle.manager.proofs.Laws.Words.{unchanged}
 use Rattle.manager.proofs.Laws.Distinct.{On, on-in}
 use Rattle.manager.specs.declared.Manager.{Manager}
 use Rattle.manager.specs.declared.Call.{Call}
 use Rattle.manager.specs.declared.Status.{Status}
 use Rattle.manager.specs.declared.Status.the-variants.{Successful, InternalError, Waiting}
-use Rattle.effects.specs.Effects.{answersOf, refusedValue, Bookkeeping, Only, Whole, CallEffects}
+use Rattle.effects.specs.Effects.{answersOf, refusedValue, Bookkeeping, Whole, CallEffects}
 
 -- a status by its number
 pub other-status : (s t : Status) → eqb (numberOf s) (numberOf t) ≡ false → ¬ (s ≡ t)
@@ -29,10 +31,6 @@ other-status s t n e =
   where
     eqb-same : (n : ℕ) → eqb n n ≡ true
     eqb-same n = eq-eqb n n refl
-
--- nothing is written
-pub unchanged : {W : ℕ → Type 0} {m : List ℕ} → Only W m m
-unchanged = record { size = refl; same = λ j h. refl }
 
 -- of sound records an answer other than 25 is right
 pub rightly : (m : List ℕ) (d : Manager) (s : Status) → sound m d ≡ true → ¬ (s ≡ InternalError) → (s ≡ InternalError) ↔ (sound m d ≡ false)

@@ -1,4 +1,4 @@
 pub mod Answers
-pub mod Words
+pub mod Rounds
 pub mod Access
 pub mod Theorem

@@ -9,15 +9,15 @@ use lib.Dec.{leb, eqb}
 use lib.ListN.{length}
 use borrow.Author.Tests.{leb-true, leb-false, eqb-true, eqb-false, ltb-false, not-false}
 use Rattle.manager.specs.Lists.{every, any}
-use Rattle.manager.specs.Record.{slots, tasks, noRegion, regionOf, idOf, withRegion, noPartition, slotOf, generationOf, partitionOf, withPartition}
+use Rattle.manager.specs.Record.{slots, noRegion, regionOf, idOf, withRegion, noPartition, slotOf, generationOf, partitionOf, withPartition}
 use Rattle.manager.specs.Result.{Result, done, replied}
 use Rattle.manager.specs.Map.{total}
 use Rattle.manager.specs.Paged.{free+, allocate, paged, reachFrom, changeFrom, onPlace}
 use Rattle.manager.proofs.Laws.Paged.{total-free, total-take, total-change}
-use Rattle.manager.specs.Queue.{enqueue}
+use Rattle.manager.specs.Queue.{enqueue, leaving}
 use Rattle.manager.proofs.Laws.Appended.{by-case, some-append}
 use Rattle.manager.specs.Region.{dead, pagesOf, firstPageOf, pageAt, addressOf, segments, withSegments, heldAt, pagesAsked, placed, taken}
-use Rattle.manager.specs.Serve.{serve}
+use Rattle.manager.specs.Serve.{serve, fromServed}
 use Rattle.manager.specs.Sound.{sound, LaidPartition}
 use Rattle.manager.proofs.Laws.Sound.{sited}
 use Rattle.manager.specs.Regions.{unspentRegion, regionGeneration, newRegion, unplaced, createRegion, identRegion, deleteRegion, getSegment, returnSegment, segmentSize, resizeSegment, regionInformation, tick}
@@ -45,9 +45,12 @@ use Rattle.manager.specs.Partitions.{unspentPartition, partitionGeneration, new
 use Rattle.manager.specs.declared.Partition.{Partition}
 use Rattle.manager.specs.Perform.{perform, defined}
 use Rattle.manager.specs.declared.Call.{Call}
-use Rattle.effects.specs.Effects.{MapWord, Only, Whole, CallEffects, LinkWord, Demand1}
-use Rattle.effects.proofs.Answers.{unchanged, rightly, other-status, refuses, acts, effects}
-use Rattle.effects.proofs.Words.{only-then, drawn-only, Mapped, sited-mapped, drawn-mapped, served-only}
+use Rattle.effects.specs.Effects.{Whole, CallEffects, LinkWord, Demand1}
+use Rattle.effects.proofs.Answers.{rightly, other-status, refuses, acts, effects}
+use Rattle.manager.specs.Words.{MapWord, Only}
+use Rattle.manager.proofs.Laws.Words.{unchanged, only-then, drawn-only, Mapped, sited-mapped, drawn-mapped, served-only}
+use Rattle.manager.proofs.Laws.Notices.{told-once}
+use Rattle.effects.proofs.Rounds.{after-only}
 use Rattle.effects.proofs.Access.{write-effects, read-effects}
 
 -- ---- REGIONS, AND THE CLOCK
@@ -96,9 +99,10 @@ module _ (m : List ℕ) (d : Manager) where
   unfolding regionInformation every any
   region-information id = effects m d (RegionInformation id) _ _ refl refl (λ ok p. acts m d (RegionInformation id) ok _ refl refl (λ w. unchanged))
 
+  -- a tick: the maps of live regions, where anyone was sent away
   clock-tick : CallEffects m d Tick (tick m d)
   unfolding tick every any
-  clock-tick = effects m d Tick _ _ refl refl (λ ok p. acts m d Tick ok _ refl refl (λ w. unchanged))
+  clock-tick = effects m d Tick _ _ refl refl (λ ok p. acts m d Tick ok _ refl refl (λ w. after-only (leaving (d .waiters)) m d ok w))
 
   -- a get: pages taken, or a refusal, or the task waits
   module _ (id size task priority ticks : ℕ) where
@@ -141,7 +145,7 @@ module _ (m : List ℕ) (d : Manager) where
 
   -- a return: the map with the segment freed, and then the queue served
   return-segment : (id address : ℕ) → CallEffects m d (ReturnSegment id address) (returnSegment m d id address)
-  unfolding returnSegment serve every any Passed
+  unfolding returnSegment every any Passed
   return-segment id address =
       let r = regionOf d id in
       let p = pageAt r address in
@@ -150,9 +154,9 @@ module _ (m : List ℕ) (d : Manager) where
       let s = mapped id ok (c .0) in
       let g = changeFrom p 0 (firstPageOf r) (segments m r) in
       let t : total g ≡ pagesOf r = total-change p 0 (firstPageOf r) (segments m r) (omega arith) ∙ s .pages in
-      only-then (drawn-only m r g t) (served-only tasks _ d id (drawn-mapped m r s g t))))
+      only-then (drawn-only m r g t) (served-only _ d id (drawn-mapped m r s g t))))
 
-  -- a resize: the map with the segment changed, or 13 with the old length
+  -- a resize: the map with the segment changed, and then the queue served; or 13 with the old length
   resize-segment : (id address size : ℕ) → CallEffects m d (ResizeSegment id address size) (resizeSegment m d id address size)
   unfolding resizeSegment every any Passed
   resize-segment id address size =
@@ -165,9 +169,11 @@ module _ (m : List ℕ) (d : Manager) where
       let c = ResizeSegment id address size in
       effects m d c _ _ refl refl (λ ok q.
       by-case (leb k most)
-      (λ b. CallEffects m d c (cond b (done (withSegments m r g) d old) (replied m d Unsatisfied old)))
+      (λ b. CallEffects m d c (cond b (fromServed old (serve (withSegments m r g) d id)) (replied m d Unsatisfied old)))
       (λ e. acts m d c ok _ refl refl (λ w.
-      drawn-only m r g (total-change p k (firstPageOf r) (segments m r) (leb-true k most e) ∙ mapped id ok (q .1 .0) .pages)))
+      let s = mapped id ok (q .1 .0) in
+      let t : total g ≡ pagesOf r = total-change p k (firstPageOf r) (segments m r) (leb-true k most e) ∙ s .pages in
+      only-then (drawn-only m r g t) (served-only _ d id (drawn-mapped m r s g t))))
       (λ e. refuses m d c ok Unsatisfied old refl refl refl refl))
 
 -- ---- PARTITIONS: a get and a return write links of buffers on the chain, a create those of all the new partition's buffers, which are all
@@ -293,4 +299,11 @@ calls m d Tick = clock-tick m d
 
 -- THE THEOREM
 pub theorem : Demand1 defined
-theorem = record { call = calls; write = write-effects; read = read-effects }
+theorem =
+    record {
+      call = calls;
+      once = λ m d c w. told-once m d (w .waiters) c .once;
+      few = λ m d c w. told-once m d (w .waiters) c .few;
+      write = write-effects;
+      read = read-effects;
+    }

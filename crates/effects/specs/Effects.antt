@@ -5,20 +5,20 @@ use mathlib.Core.Path.{_≡_}
 use mathlib.Core.Bool.{Bool, true, false, cond, not, _&&_}
 use mathlib.Core.List.{List, [], _∷_}
 use mathlib.Core.Logic.{_⊎_, _↔_}
-use Prim.Native.Nat.{ℕ, _+_, _*_, _/_, _≤_, _<_}
-use lib.ListN.{length, getD, take, drop}
+use Prim.Native.Nat.{ℕ, _+_, _*_, _/_, _≤_}
+use lib.ListN.{length, take, drop}
 use lib.Dec.{eqb}
 use Rattle.manager.specs.Status.{numberOf}
-use Rattle.manager.specs.Record.{slots, regionOf, partitionOf, withQueue}
-use Rattle.manager.specs.Result.{Result, replied, refused}
-use Rattle.manager.specs.Region.{pagesOf, mapAt, heldAt}
+use Rattle.manager.specs.Record.{slots, tasks, regionOf, partitionOf, withQueue}
+use Rattle.manager.specs.Result.{Result, tasksTold, replied, refused}
+use Rattle.manager.specs.Region.{dead, heldAt}
+use Rattle.manager.specs.Words.{OneOf, MapWord, Only}
 use Rattle.manager.specs.Partition.{isFree}
-use Rattle.manager.specs.Lists.{In}
+use Rattle.manager.specs.Lists.{In, Distinct}
 use Rattle.manager.specs.Sound.{sound}
 use Rattle.manager.specs.Access.{wordsIn}
 use Rattle.manager.specs.Perform.{Implementation}
 use Rattle.manager.specs.declared.Manager.{Manager}
-use Rattle.manager.specs.declared.Region.{Region}
 use Rattle.manager.specs.declared.Partition.{Partition}
 use Rattle.manager.specs.declared.Call.{Call}
 use Rattle.manager.specs.declared.Call.the-variants.{CreateRegion, IdentRegion, DeleteRegion, GetSegment, ReturnSegment, SegmentSize, ResizeSegment, RegionInformation, CreatePartition, IdentPartition, DeletePartition, GetBuffer, ReturnBuffer, Tick}
@@ -72,19 +72,13 @@ oldLength m d Tick = 0
 abbrev pub refusedValue : List ℕ → Manager → Call → Status → ℕ
 refusedValue m d c s = cond (eqb (numberOf s) 13) (oldLength m d c) 0
 
--- WORDS: word j is one of the n words from b on; a word of a region's map; word 0 or 1 of a buffer on a partition's chain
-abbrev pub OneOf : ℕ → ℕ → ℕ → Type 0
-OneOf b n j = (b ≤ j) × (j < b + n)
-
-abbrev pub MapWord : Region → ℕ → Type 0
-MapWord r j = OneOf (mapAt r) (pagesOf r) j
-
+-- WORDS: beside those of a region's map, word 0 or 1 of a buffer on a partition's chain
 abbrev pub LinkWord : List ℕ → Partition → ℕ → Type 0
 LinkWord m p j = (a : ℕ) × (isFree m p a ≡ true) × ((j ≡ a / 4) ⊎ (j ≡ a / 4 + 1))
 
 -- THE BOOKKEEPING WORDS of the object that a call names: a region's map; the links of the buffers on a partition's chain, as it is before
--- a get, and after a return or a create. A create names the object whose id it answers, as the record has it then. The other calls have
--- none
+-- a get, and after a return or a create. A create names the object whose id it answers, as the record has it then. A tick names no
+-- object, and those of any live region are its own. The other calls have none
 abbrev pub Bookkeeping : List ℕ → Manager → Result → Call → ℕ → Type 0
 Bookkeeping m d s (CreateRegion name start bytes page order) j = MapWord (regionOf (s .manager) (s .value)) j
 Bookkeeping m d s (GetSegment id size wait task priority ticks) j = MapWord (regionOf d id) j
@@ -99,17 +93,13 @@ Bookkeeping m d s (SegmentSize id address) j = ⊥
 Bookkeeping m d s (RegionInformation id) j = ⊥
 Bookkeeping m d s (IdentPartition name) j = ⊥
 Bookkeeping m d s (DeletePartition id) j = ⊥
-Bookkeeping m d s Tick j = ⊥
+Bookkeeping m d s Tick j = (id : ℕ) × (dead (regionOf d id) ≡ false) × MapWord (regionOf d id) j
 
--- a memory keeps its length, and every word but those of W
-pub record Only (W : ℕ → Type 0) (m m′ : List ℕ) : Type 0 where
-  pub size : length m′ ≡ length m
-  pub same : (j : ℕ) → ¬ W j → getD m′ j 0 ≡ getD m j 0
-
--- a record with all its slots, as every record of the language has them
+-- a record with all its slots and places, as every record of the language has them
 pub record Whole (d : Manager) : Type 0 where
   pub regions : length (d .regions) ≡ slots
   pub partitions : length (d .partitions) ≡ slots
+  pub waiters : length (d .waiters) ≡ tasks
 
 -- WHAT A CALL MAY DO
 pub record CallEffects (m : List ℕ) (d : Manager) (c : Call) (s : Result) : Type 0 where
@@ -144,6 +134,9 @@ pub record ReadEffects (m : List ℕ) (d : Manager) (address : ℕ) (words : Lis
 -- DEMAND 1
 pub record Demand1 (i : Implementation) : Type 0 where
   pub call : (m : List ℕ) (d : Manager) (c : Call) → CallEffects m d c (i .call m d c)
+  -- one call gives each task at most one notice, and all its notices have places in the answer
+  pub once : (m : List ℕ) (d : Manager) (c : Call) → Whole d → Distinct (tasksTold (i .call m d c .notices))
+  pub few : (m : List ℕ) (d : Manager) (c : Call) → Whole d → length (i .call m d c .notices) ≤ tasks
   pub write : (m : List ℕ) (d : Manager) (id address first : ℕ) (words : List ℕ)
       → WriteEffects m d id address first words (i .write m d id address first words)
   pub read : (m : List ℕ) (d : Manager) (id address : ℕ) → ReadEffects m d address (i .read m d id address)

@@ -14,6 +14,7 @@ use Rattle.trace.specs.Receipts.{replyOf}
 use Rattle.trace.specs.Replies.{byReceipts, note}
 use Rattle.trace.specs.Trace.{State, Ask, call, after, Runs, end, ask, clients, start}
 use Rattle.trace.proofs.Start.{start-inv}
+use Rattle.trace.proofs.Queue.Waiters.{waiter-places}
 use Rattle.trace.proofs.Runs.{runs}
 use Rattle.trace.proofs.Theorem.{theorem}
 use Rattle.script.specs.Table.{rowOf}
@@ -61,7 +62,7 @@ module _ (m : List ℕ) (some : 1 ≤ length m) (most : length m ≤ mostWords) 
       = answers-by (after defined (call c) s) (one-more r (call c)) cs in
       let v = runs (start-inv m some most) r in
       let long : length (a .memory) ≡ length (s .memory)
-      = effects (s .memory) (s .manager) c .only (record { regions = v .picture .region-slots; partitions = v .picture .partition-slots }) .size in
+      = effects (s .memory) (s .manager) c .only (record { regions = v .picture .region-slots; partitions = v .picture .partition-slots; waiters = waiter-places _ _ (v .waits) }) .size in
       let same : repliesText (length (a .memory)) (note c (replyOf a) (s .receipts)) cs ≡ repliesText (length (s .memory)) (note c (byReceipts (length (s .memory)) (s .receipts) c) (s .receipts)) cs
       = rw (long, e) in
       rw (first, rest ∙ same)

@@ -136,7 +136,7 @@ pub extern "C" fn sc_region_get_segment_size(
     run_call(state, memory, answer, Call::SegmentSize { id, address })
 }
 
-// Shrinks or grows a held segment in place.
+// Shrinks or grows a held segment in place and serves the queue.
 #[no_mangle]
 pub extern "C" fn sc_region_resize_segment(
     state: &mut [u32],
@@ -255,7 +255,7 @@ pub extern "C" fn sc_partition_return_buffer(
     run_call(state, memory, answer, Call::ReturnBuffer { id, address })
 }
 
-// The clock goes on by one tick.
+// The clock goes on by one tick; where that sends anyone away, the queues are served.
 #[no_mangle]
 pub extern "C" fn sc_clock_tick(state: &mut [u32], memory: &mut [u32], answer: &mut [u32]) -> u32
     ensures { λ r. ⌜ Leaves (called (now (state .entry)) (now (memory .entry)) (now (answer .entry)) Call.Tick)

@@ -1,15 +1,15 @@
--- All that a worked example computes with, in three parts: maps and checks of lists; the queue, the chain and the sound record; the
--- directives. An example unfolds these names. Assumes nothing.
+-- All that a worked example computes with, in three parts: maps and checks of lists; the queue, the chain and the sound record; serving and
+-- the directives. An example unfolds these names. Assumes nothing.
 use Prim.Native.Nat.{_+_}
 use Rattle.arith.specs.Layout.{largest, mostPages, pageCount}
 use Rattle.manager.specs.Record.{slotOf, generationOf, idOf, objectOf}
-use Rattle.manager.specs.Result.{checked}
+use Rattle.manager.specs.Result.{checked, tasksTold}
 use Rattle.manager.specs.Lists.{every, any, indexOf, pairwise, adjacent}
 use Rattle.manager.specs.Map.{draw, decode, tiledFrom, tiled, soundMap, freeSizes, heldSizes, largestOf, sumOf, total}
 use Rattle.manager.specs.Paged.{apart, free+, lead, rest, placeFrom, occupyFrom, heldFrom, reachFrom, changeFrom}
 use Rattle.manager.specs.Region.{regionAreas, partitionAreas}
 use Rattle.manager.specs.Queue.{goesBefore, push, insert, removeAt, enqueue, dequeue, staying, leaving, afterTick}
-use Rattle.manager.specs.Serve.{serveUpTo, serve}
+use Rattle.manager.specs.Serve.{serveUpTo, serve, serveSlot, serveSlots, serveAll}
 use Rattle.manager.specs.Partition.{follow, linked, linkAll, afterGet, afterReturn}
 use Rattle.manager.specs.Sound.{liveRegion, livePartition, soundRegion, soundPartition, soundWaiter, soundPlace, soundQueue, sound}
 use Rattle.manager.specs.Regions.{createRegion, deleteRegion, identRegion, getSegment, returnSegment, segmentSize, resizeSegment, regionInformation, tick}
@@ -18,13 +18,13 @@ use Rattle.manager.specs.Access.{readSegment, writeSegment}
 use Rattle.manager.specs.Perform.{perform}
 
 unfoldable pub maps : Unit {0}
-unfolding largest mostPages pageCount checked every any indexOf pairwise adjacent draw decode tiledFrom tiled soundMap apart freeSizes heldSizes largestOf sumOf total free+ lead rest placeFrom occupyFrom heldFrom reachFrom changeFrom
+unfolding largest mostPages pageCount checked tasksTold every any indexOf pairwise adjacent draw decode tiledFrom tiled soundMap apart freeSizes heldSizes largestOf sumOf total free+ lead rest placeFrom occupyFrom heldFrom reachFrom changeFrom
 maps = tt
 
 unfoldable pub records : Unit {0}
-unfolding slotOf generationOf idOf objectOf regionAreas partitionAreas goesBefore push insert removeAt enqueue dequeue staying leaving afterTick serveUpTo serve follow linked linkAll afterGet afterReturn liveRegion livePartition soundRegion soundPartition soundWaiter soundPlace soundQueue sound
+unfolding slotOf generationOf idOf objectOf regionAreas partitionAreas goesBefore push insert removeAt enqueue dequeue staying leaving afterTick follow linked linkAll afterGet afterReturn liveRegion livePartition soundRegion soundPartition soundWaiter soundPlace soundQueue sound
 records = tt
 
 unfoldable pub directives : Unit {0}
-unfolding createRegion identRegion deleteRegion getSegment returnSegment segmentSize resizeSegment regionInformation tick createPartition identPartition deletePartition getBuffer returnBuffer readSegment writeSegment perform
+unfolding serveUpTo serve serveSlot serveSlots serveAll createRegion identRegion deleteRegion getSegment returnSegment segmentSize resizeSegment regionInformation tick createPartition identPartition deletePartition getBuffer returnBuffer readSegment writeSegment perform
 directives = tt

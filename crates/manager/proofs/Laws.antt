@@ -10,5 +10,10 @@ pub mod Paged
 pub mod Shift
 pub mod Sound
 pub mod Region
+pub mod Areas
 pub mod Partition
 pub mod Queue
+pub mod Serve
+pub mod Words
+pub mod Sites
+pub mod Notices

@@ -12,7 +12,7 @@ use Rattle.manager.specs.Result.{Result}
 use Rattle.manager.specs.Region.{mapWords}
 use Rattle.manager.specs.Perform.{perform}
 use Rattle.manager.specs.declared.Call.{Call}
-use Rattle.manager.specs.declared.Call.the-variants.{CreateRegion, IdentRegion, DeleteRegion, GetSegment, ReturnSegment, CreatePartition, DeletePartition, GetBuffer, ReturnBuffer, Tick}
+use Rattle.manager.specs.declared.Call.the-variants.{CreateRegion, IdentRegion, DeleteRegion, GetSegment, ReturnSegment, ResizeSegment, CreatePartition, DeletePartition, GetBuffer, ReturnBuffer, Tick}
 use Rattle.manager.specs.declared.Order.the-variants.{Fifo}
 use Rattle.manager.specs.declared.Wait.the-variants.{No, Yes}
 use Rattle.manager.specs.declared.Manager.{Manager}
@@ -84,6 +84,9 @@ waits task size = step (GetSegment 1 size Yes task 1 0) 255 0 []
 abbrev pub return : ℕ → ℕ → List ℕ → Step
 return address status notices = step (ReturnSegment 1 address) status 0 notices
 
+abbrev pub resize : ℕ → ℕ → ℕ → ℕ → List ℕ → Step
+resize address size status value notices = step (ResizeSegment 1 address size) status value notices
+
 abbrev pub buffer : ℕ → Step
 buffer address = step (GetBuffer 1) 0 address []
 
@@ -150,4 +153,24 @@ table =
     ∷ layout 56 136 64 2 2 64 191
     ∷ layout 53 136 64 2 1 64 127
     ∷ layout 4 123 64 1 0 64 63
+    -- Request 3. A shrink serves the first waiter, from the freed tail on.
+    ∷ calls (a ∷ get 960 0 64 ∷ waits 3 128 ∷ resize 64 832 0 960 (3 ∷ 0 ∷ 896 ∷ []) ∷ [])
+    -- The first still doesn't fit, and the second would: nobody is served.
+    ∷ calls (a ∷ get 960 0 64 ∷ waits 3 192 ∷ waits 5 64 ∷ resize 64 832 0 960 [] ∷ [])
+    -- A resize that keeps the page count, and one that is refused, with somebody waiting.
+    ∷ calls (a ∷ get 448 0 64 ∷ get 512 0 512 ∷ waits 3 64 ∷ resize 64 400 0 448 [] ∷ resize 64 512 13 448 [] ∷ [])
+    -- A tick sends the first waiter of region 2 away, and the second fits then. Region 1's time-out comes before that of region 2, and all
+    -- grants come behind both.
+    ∷ calls
+    (a
+    ∷ step (CreateRegion 2 1024 1020 64 Fifo) 0 2 []
+    ∷ get 960 0 64
+    ∷ step (GetSegment 2 768 No 0 0 0) 0 1088 []
+    ∷ step (GetSegment 2 128 No 0 0 0) 0 1856 []
+    ∷ step (GetSegment 2 192 Yes 1 1 1) 255 0 []
+    ∷ step (GetSegment 2 128 Yes 4 1 0) 255 0 []
+    ∷ step (GetSegment 1 64 Yes 2 1 1) 255 0 []
+    ∷ step (ReturnSegment 2 1856) 0 0 []
+    ∷ step Tick 0 0 (2 ∷ 6 ∷ 0 ∷ 1 ∷ 6 ∷ 0 ∷ 4 ∷ 0 ∷ 1856 ∷ [])
+    ∷ [])
     ∷ []

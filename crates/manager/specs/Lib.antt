@@ -5,6 +5,7 @@ pub mod Lists
 pub mod Map
 pub mod Paged
 pub mod Region
+pub mod Words
 pub mod Queue
 pub mod Serve
 pub mod Partition

@@ -16,6 +16,11 @@ module _ {A : Type 0} where
   any t [] = false
   any t (x ∷ xs) = t x || any t xs
 
+  -- how many pass it
+  unfoldable pub count : (A → Bool) → List A → ℕ
+  count t [] = zero
+  count t (x ∷ xs) = cond (t x) (suc (count t xs)) (count t xs)
+
   -- the place of the first element that passes the test; the list's length where none does
   unfoldable pub indexOf : (A → Bool) → List A → ℕ
   indexOf t [] = zero

@@ -5,14 +5,14 @@ use mathlib.Core.List.{List, [], _∷_}
 use lib.ListN.{length, getD}
 use lib.Dec.{eqb, leb, ltb}
 use Rattle.arith.specs.Round.{roundUp}
-use Rattle.manager.specs.Record.{slots, tasks, noRegion, emptiedRegion, noInformation, unspent, regionOf, slotOf, idOf, withRegion}
+use Rattle.manager.specs.Record.{slots, tasks, noRegion, emptiedRegion, unspent, regionOf, slotOf, idOf, withRegion}
 use Rattle.manager.specs.Result.{Result, Check, check, checked, refused, done, replied}
 use Rattle.manager.specs.Lists.{any, indexOf}
 use Rattle.manager.specs.Map.{largestOf, sumOf}
 use Rattle.manager.specs.Region.{dead, pagesOf, addressOf, opened, heldAt, roomAt, changed, anyHeld, frees, helds, pagesAsked, servable, placed, taken, areas, overlap}
 use Rattle.manager.specs.Queue.{enqueue, waiting, leaving, afterTick}
 use Rattle.manager.specs.Paged.{onPlace}
-use Rattle.manager.specs.Serve.{serve, fromServed}
+use Rattle.manager.specs.Serve.{behind, serve, serveAfter, fromServed}
 use Rattle.manager.specs.Sound.{sound}
 use Rattle.manager.specs.declared.Manager.{Manager}
 use Rattle.manager.specs.declared.Region.{Region}
@@ -126,7 +126,7 @@ returnSegment m d id address =
     (check (dead r) InvalidId
     ∷ check (eqb (heldAt m r address) 0) InvalidAddress
     ∷ [])
-    (fromServed (serve (changed m r address 0) d id))
+    (fromServed 0 (serve (changed m r address 0) d id))
 
 -- size: 4, 9; the length of the held segment
 unfoldable pub segmentSize : List ℕ → Manager → ℕ → ℕ → Result
@@ -138,7 +138,8 @@ segmentSize m d id address =
     ∷ [])
     (done m d (heldAt m r address * r .page))
 
--- resize: size 0 (8), 4, 9, 13; the value is the old length, with 13 too
+-- resize: size 0 (8), 4, 9, 13; the segment has its new size, then the queue is served, also where the page count stays. The value is the
+-- old length, with 13 too
 unfoldable pub resizeSegment : List ℕ → Manager → ℕ → ℕ → ℕ → Result
 resizeSegment m d id address size =
     let r = regionOf d id in
@@ -150,7 +151,7 @@ resizeSegment m d id address size =
     ∷ check (eqb old 0) InvalidAddress
     ∷ [])
     (cond (leb k (roomAt m r address))
-    (done (changed m r address k) d (old * r .page))
+    (fromServed (old * r .page) (serve (changed m r address k) d id))
     (replied m d Unsatisfied (old * r .page)))
 
 -- information: 4; count, largest and total bytes of free, then of held segments
@@ -176,15 +177,8 @@ regionInformation m d id =
     ∷ [])
     (informed m d (informationOf (r .page) (frees m r) (helds m r)))
 
--- tick: no check of its own; it serves nobody
+-- tick: no check of its own; first the notices of those whose time ran out, then, if there are any, every region's queue is served
 unfoldable pub tick : List ℕ → Manager → Result
 tick m d =
-    answered (sound m d) m d []
-    (record {
-      memory = m;
-      status = Successful;
-      value = 0;
-      information = noInformation;
-      notices = leaving (d .waiters);
-      manager = afterTick d;
-    })
+    let ns = leaving (d .waiters) in
+    answered (sound m d) m d [] (fromServed 0 (behind ns (serveAfter ns m (afterTick d))))

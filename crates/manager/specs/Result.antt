@@ -24,6 +24,11 @@ pub record Result : Type 0 where
 abbrev pub pad : {A : Type 0} → ℕ → A → List A → List A
 pad n z l = l ++ replicate (n - length l) z
 
+-- the tasks that notices go to, in their order
+unfoldable pub tasksTold : List Notice → List ℕ
+tasksTold [] = []
+tasksTold (n ∷ ns) = n .task ∷ tasksTold ns
+
 abbrev pub answerOf : Result → Answer
 answerOf s =
     record {

@@ -3,9 +3,9 @@ use Prim.Native.Nat.{ℕ, _+_, _-_, _*_, _%_, _≤_, _<_}
 use mathlib.Core.Path.{_≡_}
 use mathlib.Core.Bool.{Bool, true, false, cond, not, _&&_, _||_}
 use mathlib.Core.List.{List}
-use lib.ListN.{length}
+use lib.ListN.{length, getD}
 use lib.Dec.{eqb, leb}
-use Rattle.manager.specs.Record.{tasks, mostWords, generations, regionOf}
+use Rattle.manager.specs.Record.{slots, tasks, mostWords, generations, noRegion, regionOf}
 use Rattle.manager.specs.Lists.{every, pairwise, adjacent}
 use Rattle.manager.specs.Map.{soundMap}
 use Rattle.manager.specs.Region.{dead, kind, pagesOf, mapWords, anyHeld, pagesAsked, servable, areas, overlap}
@@ -127,6 +127,13 @@ pub record Laid (m : List ℕ) (r : Region) : Type 0 where
 pub record Sited (m : List ℕ) (r : Region) : Type 0 where
   pub laid : Laid m r
   pub sound : soundMap (kind r .proper) (mapWords m r) ≡ true
+
+-- all regions of a record so: each live one, of a generation that its slot may have, in as many slots as there are, and no two areas overlap
+pub record Sites (m : List ℕ) (d : Manager) : Type 0 where
+  pub sited : (i : ℕ) → i < slots → ¬ (getD (d .regions) i noRegion .name ≡ 0) → Sited m (getD (d .regions) i noRegion)
+  pub generation : (i : ℕ) → i < slots → getD (d .regions) i noRegion .generation ≤ generations
+  pub size : length (d .regions) ≡ slots
+  pub areas : soundAreas d ≡ true
 
 -- a partition as create allows it, and one whose buffers lie in a memory
 pub record Shaped (p : Partition) : Type 0 where

@@ -5,8 +5,8 @@ use mathlib.Core.List.{List, [], _∷_, _++_, append-nil}
 use Prim.Native.Nat.{ℕ, zero, suc, _+_, _-_, _≤_, _<_}
 use native.Mathlib.Numerals.{add-one}
 use native.Mathlib.Omega.{arith}
-use lib.ListN.{length, take, drop, set, replicate, length-set, length-replicate, take-append-drop}
-use lib.Seq.{take-suc-set, drop-set-lt, append-snoc, length-take-le, take-all}
+use lib.ListN.{length, take, drop, set, replicate, length-append, length-set, length-replicate, take-append-drop}
+use lib.Seq.{take-suc-set, drop-set-lt, append-snoc, length-take-le, take-all, take-at, drop-at}
 use Rattle.manager.specs.Result.{pad}
 
 pub record Filling {A : Type 0} (z : A) (n : ℕ) (b : List A) (k : ℕ) (left whole : List A) : Type 0 where
@@ -34,6 +34,18 @@ module _ {A : Type 0} (z : A) (n : ℕ) where
   fill-start l =
       let e : n ≡ n - 0 = omega arith in
       record { size = length-replicate n z; within = omega arith; room = ap (λ (k : ℕ). replicate k z) e; done = refl }
+
+  -- some are done already: the array has them and nothing else
+  pub fill-from : (b : List A) (k : ℕ) (ns : List A) → b ≡ pad n z ns → k ≡ length ns → k ≤ n → (left : List A) → Filling z n b k left (ns ++ left)
+  fill-from b k ns e f h left =
+      let w = ap (drop k) e ∙ drop-at ns (replicate (n - length ns) z) k (sym f) in
+      let t = ap (take k) e ∙ take-at ns (replicate (n - length ns) z) k (sym f) in
+      record {
+        size = ap length e ∙ length-append ns (replicate (n - length ns) z) ∙ omega (arith, length-replicate (n - length ns) z);
+        within = h;
+        room = w ∙ ap (λ (j : ℕ). replicate (n - j) z) (sym f);
+        done = ap (λ (l : List A). l ++ left) t;
+      }
 
   -- one place is put
   pub fill-put : (b : List A) (k : ℕ) (x : A) (left whole : List A) → k < n → Filling z n b k (x ∷ left) whole → Filling z n (set b k x) (k + 1) left whole

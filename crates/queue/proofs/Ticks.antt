@@ -13,7 +13,7 @@ use Rattle.manager.proofs.Laws.Lists.{rest-cons}
 use Rattle.manager.specs.Queue.{staying, leaving, aged, expired, afterTick}
 use Rattle.objects.proofs.Laws.{unmapped}
 use Rattle.reply.specs.Notices.{Notices}
-use Rattle.objects.proofs.Fill.{Filling, fill-start, fill-put, fill-end}
+use Rattle.objects.proofs.Fill.{Filling, fill-start, fill-put, fill-count, fill-end}
 
 -- after i places of the queue ws: k stay, in b, and n leave, with the notices ns
 pub record Ticking (ws b : List Waiter) (ns : List Notice) (k n i : ℕ) : Type 0 where
@@ -56,13 +56,14 @@ tick-start ws u ns h e f =
     record { within = omega arith; k-in = omega arith; n-in = omega arith; size = h; kept = rw e (fill-start _ _ _); told = rw f (fill-start _ _ _) }
 
 pub tick-end : (d : Manager) (b : List Waiter) (ns : List Notice) (k n i : ℕ) → Ticking (d .waiters) b ns k n i → tasks ≤ i
-    → Notices (afterTick d) (leaving (d .waiters)) (record { manager = withQueue d b; notices = ns })
+    → Notices (afterTick d) (leaving (d .waiters)) (record { manager = withQueue d b; notices = ns; count = n })
 unfolding afterTick staying leaving
 tick-end d b ns k n i t h =
     let g : drop i (d .waiters) ≡ [] = drop-of-length-le (d .waiters) {i = i} (omega (arith, t .size)) in
     record {
       manager = ap (withQueue d) (fill-end noWaiter tasks b k _ (rw g at (t .kept)));
       notices = fill-end noNotice tasks ns n _ (rw g at (t .told));
+      count = fill-count noNotice tasks ns n _ (rw g at (t .told));
     }
 
 -- one without ticks has none to lose

@@ -212,5 +212,6 @@ pub fn after_tick(d: Manager) -> Noticed
     Noticed {
         manager: e,
         notices: told,
+        count: n,
     }
 }

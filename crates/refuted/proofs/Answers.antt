@@ -1,6 +1,6 @@
 -- WRONG ANSWERS: the managers 1 to 31, 49, 55 and 56, each of which breaks one rule (those that it shuts out by name and those of its slips
 -- among them), and for each a list of calls of which the last is not answered as the receipts say. So none of them meets demand 3. The
--- managers 32 to 46, which don't meet demand 1, are in Effects; those that are wrong about ids are in Ids. Assumes nothing.
+-- managers 32 to 46, which don't meet demand 1, are in Effects; those that are wrong about ids are in Ids, and about serving in Serving. Assumes nothing.
 use mathlib.Core.Path.{refl}
 use mathlib.Core.Bool.{Bool, true, cond, not, _&&_}
 use mathlib.Core.List.{List, [], _∷_, reverse}

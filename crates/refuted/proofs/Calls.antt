@@ -1,7 +1,7 @@
 -- The calls of the lists: over a region of 3 pages of 64 bytes, at 64, 128 and 192, and over a partition of 3 buffers of 16 bytes, at 16, 32
 -- and 48. Assumes nothing.
 use Prim.Native.Nat.{ℕ}
-use Rattle.manager.specs.declared.Call.the-variants.{CreateRegion, IdentRegion, DeleteRegion, GetSegment, ReturnSegment, CreatePartition, GetBuffer, ReturnBuffer, Tick}
+use Rattle.manager.specs.declared.Call.the-variants.{CreateRegion, IdentRegion, DeleteRegion, GetSegment, ReturnSegment, ResizeSegment, CreatePartition, GetBuffer, ReturnBuffer, Tick}
 use Rattle.manager.specs.declared.Order.the-variants.{Fifo}
 use Rattle.manager.specs.declared.Wait.the-variants.{No, Yes}
 use Rattle.manager.proofs.Computing.{maps, records, directives}
@@ -23,6 +23,9 @@ wait task size ticks = call (GetSegment 1 size Yes task 1 ticks)
 
 abbrev pub return : ℕ → Ask
 return address = call (ReturnSegment 1 address)
+
+abbrev pub resize : ℕ → ℕ → Ask
+resize address size = call (ResizeSegment 1 address size)
 
 abbrev pub ident : Ask
 ident = call (IdentRegion 1)

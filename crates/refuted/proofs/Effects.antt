@@ -1,6 +1,6 @@
 -- WRONG EFFECTS: the managers 32 to 46, each of which changes what it must not change, or does not check what it must, and for each one
--- call over one memory and record. So none of them meets demand 1. The managers 1 to 31, which don't meet demand 3, are in Answers.
--- Assumes nothing.
+-- call over one memory and record. So none of them meets demand 1. The managers 1 to 31, which don't meet demand 3, are in Answers; those
+-- that are wrong about serving are in Serving. Assumes nothing.
 use mathlib.Core.Path.{_≡_, refl, ap}
 use mathlib.Core.Bool.{cond}
 use mathlib.Core.List.{List, [], _∷_, _++_}
@@ -9,7 +9,7 @@ use Prim.Native.Nat.{ℕ, _+_, _-_, _*_, _/_, _%_, _≤_}
 use native.Mathlib.Omega.{arith}
 use lib.ListN.{length, getD, set, take, drop, replicate}
 use lib.Seq.{sets}
-use Rattle.manager.specs.Record.{slots, noWaiter, regionOf, partitionOf}
+use Rattle.manager.specs.Record.{slots, tasks, noWaiter, regionOf, partitionOf}
 use Rattle.manager.specs.Result.{Result, refused, done}
 use Rattle.manager.specs.Map.{largestOf, freeSizes}
 use Rattle.manager.specs.Region.{firstPageOf, addressOf, mapAt, pagesOf, segments}
@@ -30,9 +30,9 @@ use Rattle.refuted.proofs.Wrong.{segment-get, segment-resize, region-de
 abbrev pub reached : List Ask → State
 reached l = after-all defined l (start (replicate 64 9))
 
--- its slots are all there
-whole : {d : Manager} → length (d .regions) ≡ slots → length (d .partitions) ≡ slots → Whole d
-whole r p = record { regions = r; partitions = p }
+-- its slots and places are all there
+pub whole : {d : Manager} → length (d .regions) ≡ slots → length (d .partitions) ≡ slots → length (d .waiters) ≡ tasks → Whole d
+whole r p w = record { regions = r; partitions = p; waiters = w }
 
 -- 32. A GET WRITES INTO THE SEGMENT THAT IT LENDS
 abbrev clearsLent : Implementation
@@ -42,7 +42,7 @@ not-clearsLent : ¬ Demand1 clearsLent
 unfolding everything
 not-clearsLent =
     let s = reached (create ∷ []) in
-    writes-other clearsLent (s .memory) (s .manager) (GetSegment 1 64 No 0 0 0) 16 (whole refl refl) (λ x. omega arith) refl
+    writes-other clearsLent (s .memory) (s .manager) (GetSegment 1 64 No 0 0 0) 16 (whole refl refl refl) (λ x. omega arith) refl
 
 -- 33. A GET WRITES INTO ANOTHER'S SEGMENT: the page before the one that it lends
 abbrev clearsOther : Implementation
@@ -52,7 +52,7 @@ not-clearsOther : ¬ Demand1 clearsOther
 unfolding everything
 not-clearsOther =
     let s = reached (create ∷ get 64 ∷ []) in
-    writes-other clearsOther (s .memory) (s .manager) (GetSegment 1 64 No 0 0 0) 16 (whole refl refl) (λ x. omega arith) refl
+    writes-other clearsOther (s .memory) (s .manager) (GetSegment 1 64 No 0 0 0) 16 (whole refl refl refl) (λ x. omega arith) refl
 
 -- 34. A DELETE CLEARS THE MAP
 abbrev clearsMap : Implementation
@@ -63,7 +63,7 @@ clearsMap =
 
 not-clearsMap : ¬ Demand1 clearsMap
 unfolding everything
-not-clearsMap = let s = reached (create ∷ []) in writes-other clearsMap (s .memory) (s .manager) (DeleteRegion 1) 1 (whole refl refl) (λ x. x) refl
+not-clearsMap = let s = reached (create ∷ []) in writes-other clearsMap (s .memory) (s .manager) (DeleteRegion 1) 1 (whole refl refl refl) (λ x. x) refl
 
 -- 35. A GET OF A BUFFER CLEARS IT WHOLE, and not its two link words only
 abbrev clearsBuffer : Implementation
@@ -85,7 +85,7 @@ not-clearsBuffer : ¬ Demand1 clearsBuffer
 unfolding everything
 not-clearsBuffer =
     let s = reached (divide ∷ []) in
-    writes-other clearsBuffer (s .memory) (s .manager) (GetBuffer 1) 6 (whole refl refl) (λ x. no-link (x .0) (x .1) (x .2)) refl
+    writes-other clearsBuffer (s .memory) (s .manager) (GetBuffer 1) 6 (whole refl refl refl) (λ x. no-link (x .0) (x .1) (x .2)) refl
 
 -- 36. A REFUSAL CHANGES A WORD
 abbrev refusalWrites : Implementation

@@ -5,3 +5,4 @@ pub mod Answers
 pub mod Effects
 pub mod Contents
 pub mod Ids
+pub mod Serving

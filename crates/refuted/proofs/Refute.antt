@@ -1,21 +1,21 @@
 -- How a wrong manager is refuted: by one list of calls over a memory of 64 words that the checker computes. Demand 3 says that every call
 -- is answered as the receipts say; so along any list of calls the answers are those that the receipts give, and a manager is refuted by a
--- list along which one isn't (`differs`). Demand 1 is refuted by one call over one memory and record. Assumes nothing.
+-- list along which one isn't (`differs`). Demands 1 and 2 are refuted by one call over one memory and record. Assumes nothing.
 use mathlib.Core.Path.{_≡_, refl, sym, ap, _∙_}
 use mathlib.Core.Bool.{Bool, true, false, _&&_, false≢true}
 use mathlib.Core.List.{List, [], _∷_, _++_}
 use Prim.Native.Nat.{ℕ}
 use native.Mathlib.Omega.{arith}
-use lib.ListN.{length, getD, replicate}
+use lib.ListN.{length, getD, drop, replicate}
 use lib.Dec.{eqb}
 use borrow.Author.Tests.{eq-eqb, eqb-false}
 use Rattle.manager.specs.Status.{numberOf}
-use Rattle.manager.specs.Result.{Result, replied}
-use Rattle.manager.specs.Lists.{any}
-use Rattle.manager.proofs.Laws.Distinct.{on-off, on-in}
+use Rattle.manager.specs.Result.{Result, tasksTold, replied}
+use Rattle.manager.specs.Lists.{any, Distinct}
+use Rattle.manager.proofs.Laws.Distinct.{on-nil, on-off, on-in}
 use Rattle.manager.specs.Sound.{sound}
 use Rattle.manager.specs.Examples.{same, told}
-use Rattle.manager.specs.Perform.{Implementation}
+use Rattle.manager.specs.Perform.{Implementation, perform}
 use Rattle.manager.specs.declared.Manager.{Manager}
 use Rattle.manager.specs.declared.Information.{Information}
 use Rattle.manager.specs.declared.Call.{Call}
@@ -97,5 +97,23 @@ module _ (i : Implementation) (m : List ℕ) (d : Manager) (c : Call) where
   pub answers-otherwise : any (eqb (numberOf (i .call m d c .status))) (answersOf c) ≡ false → ¬ Demand1 i
   answers-otherwise e h = on-off _ (answersOf c) (on-in _ (answersOf c) .1 (h .call m d c .numbered)) e
 
+  -- two notices to the task that stands first among them
+  pub tells-again : Whole d → any (eqb (getD (tasksTold (i .call m d c .notices)) 0 0)) (drop 1 (tasksTold (i .call m d c .notices))) ≡ true → ¬ Demand1 i
+  unfolding Distinct
+  tells-again w e h = go (tasksTold (i .call m d c .notices)) e (h .once m d c w)
+    where
+      go : (l : List ℕ) → any (eqb (getD l 0 0)) (drop 1 l) ≡ true → Distinct l → ⊥
+      go [] e d = on-nil 0 e
+      go (a ∷ l) e d = d .0 (on-in a l .0 e)
+
   pub passes-unsound : sound m d ≡ false → eqb (numberOf (i .call m d c .status)) 25 ≡ false → ¬ Demand1 i
   passes-unsound u e h = eqb-false _ _ e (ap numberOf (h .call m d c .checks .1 u))
+
+-- DEMAND 2: over every memory and record a call is answered as its directive's definition says; the contracts say so of the code. From a fresh
+-- start nobody waits beside room, and some slips show only over a sound record where a first waiter fits: there one call refutes them
+abbrev pub Demand2 : Implementation → Type 0
+Demand2 i = (m : List ℕ) (d : Manager) (c : Call) → i .call m d c ≡ perform m d c
+
+pub performs-otherwise : (i : Implementation) (m : List ℕ) (d : Manager) (c : Call)
+    → same (numbers (replyOf (i .call m d c))) (numbers (replyOf (perform m d c))) ≡ false → ¬ Demand2 i
+performs-otherwise i m d c e h = false≢true (sym e ∙ rw (h m d c) (same-refl (numbers (replyOf (perform m d c)))))

@@ -2,6 +2,7 @@
 use Prim.Native.Nat.{ℕ}
 use mathlib.Core.Path.{_≡_}
 use mathlib.Core.List.{List}
+use lib.ListN.{length, take}
 use Rattle.manager.specs.Record.{tasks, noNotice, noInformation}
 use Rattle.manager.specs.Result.{pad}
 use Rattle.manager.specs.declared.Manager.{Manager}
@@ -13,6 +14,11 @@ use Rattle.reply.specs.declared.Noticed.{Noticed}
 pub record Notices (d : Manager) (ns : List Notice) (n : Noticed) : Type 0 where
   pub manager : n .manager ≡ d
   pub notices : n .notices ≡ pad tasks noNotice ns
+  pub count : n .count ≡ length ns
+
+-- the notices that are told: those in the used places
+abbrev pub told : Noticed → List Notice
+told n = take (n .count) (n .notices)
 
 abbrev pub answerWith : Noticed → ℕ → Answer
 answerWith n v = record { status = Successful; value = v; information = noInformation; notices = n .notices; manager = n .manager }

@@ -9,12 +9,24 @@ ghost use mathlib.Core.List.{[]};
 ghost use lib.ListN.{replicate};
 ghost use Rattle.manager.specs.Record.{tasks, noNotice, noInformation};
 ghost use Rattle.manager.specs.Result.{answerOf, replied};
-ghost use Rattle.reply.specs.Notices.{answerWith};
+ghost use Rattle.reply.specs.Notices.{Notices, answerWith};
 
-// The manager record and the notices that serving or a tick leaves: unused places are zero.
+// The manager record, and the notices that serving or a tick leaves: so many, and unused places are zero.
 pub struct Noticed {
     pub manager: Manager,
     pub notices: [Notice; Manager::TASKS],
+    pub count: usize,
+}
+
+// A record before anybody is told anything.
+pub fn nobody_told(d: Manager) -> Noticed
+    ensures { λ n. ⌜ Notices d [] n ⌝ }
+{
+    Noticed {
+        manager: d,
+        notices: no_notices(),
+        count: 0,
+    }
 }
 
 // No notices: unused places are zero.

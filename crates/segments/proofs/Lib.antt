@@ -6,8 +6,10 @@ pub mod Extend
 pub mod Release
 pub mod Lend
 pub mod Serve
+pub mod Rounds
 pub mod Verdicts
 pub mod Address
 pub mod Get
 pub mod Return
 pub mod Resize
+pub mod Clock

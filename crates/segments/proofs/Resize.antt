@@ -1,5 +1,5 @@
 -- Resize, exit by exit: the tests that led there, in their order, give the definition's result; then the segment has so many pages, where it
--- can have them. Assumes nothing.
+-- can have them, and the queue is served in the memory that it has them in. Assumes nothing.
 use Prim.Native.Nat.{ℕ, _*_, _≤_, _<_}
 use mathlib.Core.Path.{_≡_}
 use mathlib.Core.Bool.{Bool, true, false, cond}
@@ -9,30 +9,31 @@ use lib.Dec.{leb}
 use borrow.Author.Tests.{eq-eqb, ne-eqb, le-leb, lt-leb, not-true, not-false}
 use Rattle.arith.specs.declared.Layout.{Layout}
 use Rattle.manager.specs.Record.{regionOf}
-use Rattle.manager.specs.Result.{Result, Performs, checked, answerOf, replied, refused, done}
+use Rattle.manager.specs.Result.{Result, Performs, checked, answerOf, replied, refused}
 use Rattle.manager.proofs.Laws.Result.{performs-replied}
 use Rattle.manager.specs.Region.{layoutOf, heldAt, roomAt, changed, pagesAsked}
+use Rattle.manager.specs.Serve.{serve, fromServed}
 use Rattle.manager.specs.Regions.{resizeSegment}
 use Rattle.manager.specs.Sound.{sound}
 use Rattle.manager.specs.declared.Manager.{Manager}
 use Rattle.manager.specs.declared.Region.{Region}
 use Rattle.manager.specs.declared.Answer.{Answer}
-use Rattle.manager.specs.declared.Status.the-variants.{Successful, InvalidId, InvalidSize, InvalidAddress, Unsatisfied, InternalError}
+use Rattle.manager.specs.declared.Status.the-variants.{InvalidId, InvalidSize, InvalidAddress, Unsatisfied, InternalError}
 use Rattle.segments.specs.Lending.{Changes}
 use Rattle.map.specs.Word.{heldWordAt}
 use Rattle.segments.proofs.Address.{held-is, length-fits}
 
 -- what is done once the checks have passed
-abbrev Fitted : List ℕ → Manager → Region → ℕ → ℕ → ℕ → Result
-Fitted m d r address k old = cond (leb k (roomAt m r address)) (done (changed m r address k) d old) (replied m d Unsatisfied old)
+abbrev Fitted : List ℕ → Manager → ℕ → Region → ℕ → ℕ → ℕ → Result
+Fitted m d id r address k old = cond (leb k (roomAt m r address)) (fromServed old (serve (changed m r address k) d id)) (replied m d Unsatisfied old)
 
-module _ (m : List ℕ) (d : Manager) (r : Region) (address k old : ℕ) (g : ℕ) (eg : g ≡ roomAt m r address) where
-  pub fitted-no : (a : Answer) → g < k → a ≡ answerOf (replied [] d Unsatisfied old) → Performs (Fitted m d r address k old) m a
+module _ (m : List ℕ) (d : Manager) (id : ℕ) (r : Region) (address k old : ℕ) (g : ℕ) (eg : g ≡ roomAt m r address) where
+  pub fitted-no : (a : Answer) → g < k → a ≡ answerOf (replied [] d Unsatisfied old) → Performs (Fitted m d id r address k old) m a
   fitted-no a h f = performs-replied m a _ d Unsatisfied old f (rw (← eg, lt-leb _ _ h))
 
-  pub fitted-yes : (a : Answer) → k ≤ g → (out : List ℕ) → Changes r address k m out → a ≡ answerOf (replied [] d Successful old)
-      → Performs (Fitted m d r address k old) out a
-  fitted-yes a h out x f = performs-replied out a _ d Successful old f (rw (← eg, le-leb _ _ h, x .memory))
+  pub fitted-yes : k ≤ g → (out : List ℕ) → Changes r address k m out → (last : List ℕ) (a : Answer)
+      → Performs (fromServed old (serve out d id)) last a → Performs (Fitted m d id r address k old) last a
+  fitted-yes h out x last a p = rw (← eg, le-leb _ _ h, ← (x .memory)) p
 
   pub fitted-room : k ≤ g → k ≤ roomAt m r address
   fitted-room h = omega arith
@@ -66,7 +67,7 @@ module _ (m : List ℕ) (d : Manager) (id address size : ℕ) (b : Bool) (eb : b
         unfolding resizeSegment checked
         resize-none e = rw (← eb, s, ne-eqb _ _ y, ← er, ne-eqb _ _ named, ← en, eq-eqb _ _ e)
 
-        pub resize-fitted : (n ≡ 0 → ⊥) → (k : ℕ) → k ≡ pagesAsked r size → Resizes ≡ Fitted m d r address k (n * r .page)
+        pub resize-fitted : (n ≡ 0 → ⊥) → (k : ℕ) → k ≡ pagesAsked r size → Resizes ≡ Fitted m d id r address k (n * r .page)
         unfolding resizeSegment checked
         resize-fitted z k ek = rw (← eb, s, ne-eqb _ _ y, ← er, ne-eqb _ _ named, ← en, ne-eqb _ _ z, ← ek)
 

@@ -18,22 +18,16 @@ use Rattle.manager.specs.declared.Region.{Region}
 use Rattle.manager.specs.declared.Answer.{Answer}
 use Rattle.manager.specs.declared.Status.the-variants.{InvalidId, InvalidAddress, InternalError}
 use Rattle.segments.specs.Lending.{Changes}
-use Rattle.segments.specs.Serving.{Serves}
-use Rattle.reply.specs.Notices.{answerWith}
-use Rattle.reply.specs.declared.Noticed.{Noticed}
-use Rattle.reply.proofs.Laws.{performs-noticed}
 use Rattle.map.specs.Word.{heldWordAt}
 use Rattle.segments.proofs.Address.{held-is}
 
 -- what is done once the checks have passed
 abbrev Freed : List ℕ → Manager → ℕ → Region → ℕ → Result
-Freed m d id r address = fromServed (serve (changed m r address 0) d id)
+Freed m d id r address = fromServed 0 (serve (changed m r address 0) d id)
 
-module _ (m : List ℕ) (d : Manager) (id : ℕ) (r : Region) (address : ℕ) (out : List ℕ) (x : Changes r address 0 m out) where
-  pub freed-served : (last : List ℕ) (n : Noticed) → Serves (serve out d id) last n → (a : Answer) → a ≡ answerWith n 0 → Performs (Freed m d id r address) last a
-  freed-served last n v a e = rw (← (x .memory), ← (v .memory)) (performs-noticed last (serve out d id .manager) (serve out d id .notices) n (v .told) 0 a e)
-
-pub ruleset freeing = (freed-served)
+pub freed-served : (m : List ℕ) (d : Manager) (id : ℕ) (r : Region) (address : ℕ) (out : List ℕ) → Changes r address 0 m out → (last : List ℕ) (a : Answer)
+    → Performs (fromServed 0 (serve out d id)) last a → Performs (Freed m d id r address) last a
+freed-served m d id r address out x last a p = rw (← (x .memory)) p
 
 -- the checks ahead of it
 module _ (m : List ℕ) (d : Manager) (id address : ℕ) (b : Bool) (eb : b ≡ sound m d) where

@@ -1,12 +1,12 @@
 -- What serving a region's queue needs and leaves. Assumes nothing.
-use Prim.Native.Nat.{ℕ}
+use Prim.Native.Nat.{ℕ, _+_, _≤_}
 use mathlib.Core.Path.{_≡_}
-use mathlib.Core.Bool.{Bool, true, cond, _||_}
-use mathlib.Core.List.{List}
+use mathlib.Core.Bool.{Bool, true, cond, not, _||_}
+use mathlib.Core.List.{List, _++_}
 use lib.Dec.{eqb, leb, ltb}
 use lib.ListN.{getD}
 use Rattle.manager.specs.Record.{tasks, noWaiter, regionOf}
-use Rattle.manager.specs.Lists.{every}
+use Rattle.manager.specs.Lists.{every, count}
 use Rattle.manager.specs.Region.{addressOf, pagesAsked, placed, taken}
 use Rattle.manager.specs.Queue.{firstOf}
 use Rattle.manager.specs.Paged.{onPlace}
@@ -16,7 +16,7 @@ use Rattle.manager.specs.declared.Manager.{Manager}
 use Rattle.manager.specs.declared.Region.{Region}
 use Rattle.manager.specs.declared.Waiter.{Waiter}
 use Rattle.manager.specs.declared.Notice.{Notice}
-use Rattle.reply.specs.Notices.{Notices}
+use Rattle.reply.specs.Notices.{Notices, told}
 use Rattle.reply.specs.declared.Noticed.{Noticed}
 use Rattle.segments.specs.declared.serving.Turn.{Turn}
 use Rattle.segments.specs.declared.serving.Turn.the-variants.{Stop, Serve}
@@ -49,7 +49,18 @@ pub record Turns (m : List ℕ) (d : Manager) (id : ℕ) (r : Region) (out : Lis
   pub memory : out ≡ onTurn t (λ i n. taken m (regionOf d id) (pagesFirst d id)) m
   pub sited : Sited out r
 
--- the memory, the record and the notices are those of the definition
-pub record Serves (s : Served) (m : List ℕ) (n : Noticed) : Type 0 where
+-- how many places of the queue are used
+abbrev pub used : List Waiter → ℕ
+used ws = count (λ w. not (eqb (w .task) 0)) ws
+
+-- notices so far, and their record: every waiter asks for something, and behind the notices there is a place for each who waits
+pub record Ready (n : Noticed) : Type 0 where
+  pub notices : Notices (n .manager) (told n) n
+  pub asking : Asking (n .manager)
+  pub fits : n .count + used (n .manager .waiters) ≤ tasks
+
+-- the memory and the record are those of the definition, and so are the notices, behind those so far
+pub record Serves (before : Noticed) (s : Served) (m : List ℕ) (n : Noticed) : Type 0 where
   pub memory : m ≡ s .memory
-  pub told : Notices (s .manager) (s .notices) n
+  pub told : Notices (s .manager) (told before ++ s .notices) n
+  pub ready : Ready n

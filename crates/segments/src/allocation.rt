@@ -58,29 +58,29 @@ pub(crate) fn release_and_serve(
     address: u32,
 ) -> Answer
     requires { ⌜ (Sited (now mem) r) × (r ≡ regionOf d id) × (l ≡ layoutOf r) × (Asking d) × (1 ≤ heldAt (now mem) r address) ⌝ }
-    ensures { λ a. ⌜ Performs (fromServed (serve (changed (now (mem .entry)) r address 0) d id)) (now (mem .exit)) a ⌝ }
+    ensures { λ a. ⌜ Performs (fromServed 0 (serve (changed (now (mem .entry)) r address 0) d id)) (now (mem .exit)) a ⌝ }
 {
     lending::release_pages(mem, r, l, address);
-    let n = serving::serve(mem, d, id, r, l);
-    reply::with_notices(n, 0)
+    serving::serve_and_answer(mem, d, id, r, l, 0)
 }
 
-// The held segment at an address has k pages from now on, where it can have so many.
-pub(crate) fn resize_within(
+// The held segment at an address has k pages from now on, where it can have so many, and the queue is served.
+pub(crate) fn resize_and_serve(
     mem: &mut [u32],
     d: Manager,
+    id: u32,
     r: Region,
     l: Layout,
     address: u32,
     k: u32,
     old: u32,
 ) -> Answer
-    requires { ⌜ (Sited (now mem) r) × (l ≡ layoutOf r) × (1 ≤ heldAt (now mem) r address) × (1 ≤ k) ⌝ }
-    ensures { λ a. ⌜ Performs (cond (leb k (roomAt (now (mem .entry)) r address)) (done (changed (now (mem .entry)) r address k) d old) (replied (now (mem .entry)) d Unsatisfied old)) (now (mem .exit)) a ⌝ }
+    requires { ⌜ (Sited (now mem) r) × (r ≡ regionOf d id) × (l ≡ layoutOf r) × (Asking d) × (1 ≤ heldAt (now mem) r address) × (1 ≤ k) ⌝ }
+    ensures { λ a. ⌜ Performs (cond (leb k (roomAt (now (mem .entry)) r address)) (fromServed old (serve (changed (now (mem .entry)) r address k) d id)) (replied (now (mem .entry)) d Unsatisfied old)) (now (mem .exit)) a ⌝ }
 {
     if lending::reach_of(mem, r, l, address) < k {
         return reply::reply(d, Status::Unsatisfied, old);
     }
     lending::resize_pages(mem, r, l, address, k);
-    reply::reply(d, Status::Successful, old)
+    serving::serve_and_answer(mem, d, id, r, l, old)
 }

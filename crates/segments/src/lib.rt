@@ -1,5 +1,5 @@
-// The directives on the segments of a region: rules 11.4 to 11.7. Each answers 25 first, where the records are not sound, and
-// then makes its checks in their order. Every function here is total: any record, memory and numbers have their answer.
+// The directives on the segments of a region, and the clock tick: rules 11.4 to 11.7 and 11.9. Each answers 25 first, where the records are
+// not sound, and then makes its checks in their order. Every function here is total: any record, memory and numbers have their answer.
 mod allocation;
 mod checks;
 mod lending;
@@ -13,7 +13,7 @@ use manager::Status;
 use manager::Wait;
 use manager::Waiter;
 ghost use Rattle.manager.specs.Result.{Performs};
-ghost use Rattle.manager.specs.Regions.{getSegment, returnSegment, segmentSize, resizeSegment};
+ghost use Rattle.manager.specs.Regions.{getSegment, returnSegment, segmentSize, resizeSegment, tick};
 
 // Get: size 0 (8), 4, size too large 8; if waiting is allowed 10, 19, 14; then the search. The value is the segment's address.
 pub fn get_segment(
@@ -94,7 +94,8 @@ pub fn segment_size(mem: &[u32], d: Manager, id: u32, address: u32) -> Answer
     reply::reply(d, Status::Successful, pages * r.page)
 }
 
-// Resize: size 0 (8), 4, 9, 13. The value is the old length, with 13 too.
+// Resize: size 0 (8), 4, 9, 13. The segment has its new size and the region's queue is served, also where the page count stays; the
+// notices say who got what. The value is the old length, with 13 too.
 pub fn resize_segment(mem: &mut [u32], d: Manager, id: u32, address: u32, size: u32) -> Answer
     ensures { λ a. ⌜ Performs (resizeSegment (now (mem .entry)) d id address size) (now (mem .exit)) a ⌝ }
 {
@@ -115,5 +116,21 @@ pub fn resize_segment(mem: &mut [u32], d: Manager, id: u32, address: u32, size: 
     }
     let old = pages * r.page;
     let k = map::pages_asked(r, size);
-    allocation::resize_within(mem, d, r, l, address, k, old)
+    allocation::resize_and_serve(mem, d, id, r, l, address, k, old)
+}
+
+// Tick: each waiter with ticks left loses one; at 0 it leaves with status 6. No check of its own. Where anyone left, the queue of every
+// region is served, the lowest slot first, and these notices come behind those of all who left.
+pub fn tick(mem: &mut [u32], d: Manager) -> Answer
+    ensures { λ a. ⌜ Performs (tick (now (mem .entry)) d) (now (mem .exit)) a ⌝ }
+{
+    if !soundness::is_sound(mem, d) {
+        return reply::reply(d, Status::InternalError, 0);
+    }
+    let told = queue::after_tick(d);
+    if told.count == 0 {
+        return reply::with_notices(told, 0);
+    }
+    let n = serving::serve_all(mem, told);
+    reply::with_notices(n, 0)
 }

@@ -8,7 +8,7 @@ use mathlib.Core.Logic.{_⊎_, inl, inr, ⊎-elim}
 use mathlib.Core.Option.{Option}
 use Prim.Native.Nat.{ℕ, zero, suc, _+_, _-_, _/_, _<_}
 use native.Mathlib.Omega.{arith}
-use lib.ListN.{length, getD, set, length-append, length-set, List·getD-append}
+use lib.ListN.{length, getD, set, length-append, length-set}
 use lib.Seq.{getD-append-add, getD-set-same, getD-set-other, set-append-left}
 use lib.Dec.{ltb}
 use borrow.Author.Tests.{le-ltb, lt-ltb, not-true}
@@ -28,46 +28,15 @@ use Rattle.trace.specs.Receipts.{RegionEntry, PartitionEntry}
 use Rattle.trace.specs.Trace.{Object, region, partition}
 use Rattle.trace.proofs.Invariant.{Inside, Only, regionFor, RegionSlot, PartitionSlot, empty, live}
 use Rattle.trace.proofs.Frame.{region-inside, region-same, chained-buffer, buffer-inside, link-next, link-before, partition-same}
-use Rattle.trace.proofs.Disjoint.{same-or-apart, pairwise-at, at-pairwise, Clear, clear-flip, clear-of, overlap-of, clear-words, none-at}
+use Rattle.manager.proofs.Laws.Areas.{same-or-apart, pairwise-at, at-pairwise, none-at, Clear, clear-flip, clear-of, overlap-of, areaFor, noArea, no-area, length-regions, length-partitions, partition-area, region-place, places-clear}
+use Rattle.trace.proofs.Disjoint.{clear-words}
 
 -- ---- the areas of objects
 
--- the area of a region, and of the object in a slot of the record; an empty slot's has no byte
-abbrev pub areaFor : Region → Area
-areaFor r = record { start = r .start; length = r .length }
-
-abbrev pub noArea : Area
-noArea = areaFor noRegion
-
+-- the area of an object of the record; that of an empty slot has no byte
 abbrev pub areaIn : Manager → Object → Area
 areaIn d (region id) = areaFor (regionOf d id)
 areaIn d (partition id) = areaOf (partitionOf d id)
-
-pub no-area : (a : Area) → Clear noArea a
-no-area a = inl (omega arith)
-
--- the places of the areas in the list of all
-length-regions : (rs : List Region) → length (regionAreas rs) ≡ length rs
-unfolding regionAreas
-length-regions [] = refl
-length-regions (r ∷ rs) = ap suc (length-regions rs)
-
-length-partitions : (ps : List Partition) → length (partitionAreas ps) ≡ length ps
-unfolding partitionAreas
-length-partitions [] = refl
-length-partitions (p ∷ ps) = ap suc (length-partitions ps)
-
-region-area : (rs : List Region) (i : ℕ) → getD (regionAreas rs) i noArea ≡ areaFor (getD rs i noRegion)
-unfolding regionAreas
-region-area [] i = refl
-region-area (r ∷ rs) zero = refl
-region-area (r ∷ rs) (suc i) = region-area rs i
-
-partition-area : (ps : List Partition) (i : ℕ) → getD (partitionAreas ps) i noArea ≡ areaOf (getD ps i noPartition)
-unfolding partitionAreas
-partition-area [] i = refl
-partition-area (p ∷ ps) zero = refl
-partition-area (p ∷ ps) (suc i) = partition-area ps i
 
 -- the place of an object's area in the list of all
 abbrev placeOf : Object → ℕ
@@ -92,11 +61,6 @@ module _ (d : Manager) (nr : length (d .regions) ≡ slots) (np : length (d .par
   length-all : length (areas d) ≡ slots + slots
   length-all = length-append (regionAreas (d .regions)) (partitionAreas (d .partitions)) ∙ omega (arith, length-regions (d .regions), length-partitions (d .partitions))
 
-  region-place : (i : ℕ) → i < slots → getD (areas d) i noArea ≡ areaFor (getD (d .regions) i noRegion)
-  region-place i h =
-      List·getD-append (regionAreas (d .regions)) (partitionAreas (d .partitions)) noArea i (omega (arith, length-regions (d .regions)))
-      ∙ region-area (d .regions) i
-
   partition-place : (i : ℕ) → getD (areas d) (slots + i) noArea ≡ areaOf (getD (d .partitions) i noPartition)
   partition-place i =
       let e : slots + i ≡ length (regionAreas (d .regions)) + i = omega (arith, length-regions (d .regions)) in
@@ -117,7 +81,7 @@ module _ (d : Manager) (nr : length (d .regions) ≡ slots) (np : length (d .par
       let w : slotOf id < slots = (let k = live-within (λ (r : Region). r .name) (λ r. r .generation) noRegion (d .regions) refl id v in omega arith) in
       inl (record {
         within = omega arith;
-        is = region-place (slotOf id) w ∙ ap areaFor (sym (v .is));
+        is = region-place d (slotOf id) (omega arith) ∙ ap areaFor (sym (v .is));
         object = object-region d (slotOf id) w ∙ ap region (ap (idOf (slotOf id)) (v .same) ∙ id-back id w);
       }))
       (λ (e : regionOf d id ≡ noRegion). inr (ap areaFor e))
@@ -134,22 +98,6 @@ module _ (d : Manager) (nr : length (d .regions) ≡ slots) (np : length (d .par
       (λ (e : partitionOf d id ≡ noPartition). inr (ap areaOf e))
       (object-cases (λ p. p .name) (λ p. p .generation) noPartition (d .partitions) id)
 
-  -- areas at two places
-  places-clear : soundAreas d ≡ true → (i j : ℕ) → i < slots + slots → j < slots + slots → ¬ (i ≡ j)
-      → Clear (getD (areas d) i noArea) (getD (areas d) j noArea)
-  places-clear e i j h k n = go (same-or-apart i j)
-    where
-      two : (i j : ℕ) → i < j → j < slots + slots → Clear (getD (areas d) i noArea) (getD (areas d) j noArea)
-      two i j l u =
-          clear-of (getD (areas d) i noArea) (getD (areas d) j noArea)
-          (not-true (overlap (getD (areas d) i noArea) (getD (areas d) j noArea))
-          (pairwise-at noArea (λ a b. not (overlap a b)) (areas d) i j e l (omega (arith, length-all))))
-
-      go : (i ≡ j) ⊎ ((i < j) ⊎ (j < i)) → Clear (getD (areas d) i noArea) (getD (areas d) j noArea)
-      go (inl q) = absurd (n q)
-      go (inr (inl l)) = two i j l k
-      go (inr (inr l)) = clear-flip (getD (areas d) j noArea) (getD (areas d) i noArea) (two j i l h)
-
   -- EVERY TWO OBJECTS HAVE AREAS THAT SHARE NO BYTE
   pub sound-clear : soundAreas d ≡ true → (o q : Object) → ¬ (o ≡ q) → Clear (areaIn d o) (areaIn d q)
   sound-clear e o q n = go (listed o) (listed q)
@@ -158,7 +106,7 @@ module _ (d : Manager) (nr : length (d .regions) ≡ slots) (np : length (d .par
       go (inr f) y = subst (λ (a : Area). Clear a (areaIn d q)) (sym f) (no-area (areaIn d q))
       go (inl x) (inr f) = subst (λ (a : Area). Clear (areaIn d o) a) (sym f) (clear-flip noArea (areaIn d o) (no-area (areaIn d o)))
       go (inl x) (inl y) =
-          let c = places-clear e (placeOf o) (placeOf q) (x .within) (y .within) (λ (f : placeOf o ≡ placeOf q). n (sym (x .object) ∙ ap (objectAt d) f ∙ y .object)) in
+          let c = places-clear d e (placeOf o) (placeOf q) (omega (arith, length-all, x .within)) (omega (arith, length-all, y .within)) (λ (f : placeOf o ≡ placeOf q). n (sym (x .object) ∙ ap (objectAt d) f ∙ y .object)) in
           rw (x .is, y .is) at c
 
   -- an area that meets none
@@ -258,7 +206,7 @@ module _ (d : Manager) (nr : length (d .regions) ≡ slots) (np : length (d .par
   areas-same-partition p q =
       partition-put p
       (λ j u n. subst (λ (a : Area). Clear a (getD (areas d) j noArea)) (partition-place d nr np i ∙ sym q)
-      (places-clear d nr np e (slots + i) j (omega arith) (omega (arith, length-all d nr np)) (λ f. n (sym f))))
+      (places-clear d e (slots + i) j (omega (arith, length-all d nr np)) u (λ f. n (sym f))))
 
 -- ---- a change inside one area
 

@@ -9,24 +9,26 @@ use Prim.Native.Nat.{ℕ, zero, suc, _+_, _*_, _/_, _≤_, _<_}
 use native.Mathlib.Nat.{mul-le-mul}
 use native.Mathlib.Omega.{arith}
 use lib.ListN.{length, take, drop, length-take, length-drop}
-use Rattle.manager.specs.Record.{regionOf, partitionOf}
+use Rattle.manager.specs.Record.{tasks, regionOf, partitionOf}
+use Rattle.manager.specs.Result.{tasksTold}
 use Rattle.manager.specs.Region.{segments}
 use Rattle.manager.specs.Partition.{isBuffer, follow, linked, nextOf}
+use Rattle.manager.proofs.Laws.Notices.{Once, told-once}
 use Rattle.manager.proofs.Laws.Partition.Chain.{linked-buffer, linked-rest, linked-last}
 use Rattle.manager.proofs.Laws.Partition.Live.{live-chain}
-use Rattle.manager.specs.Perform.{Implementation}
+use Rattle.manager.specs.Perform.{Implementation, perform}
 use Rattle.manager.specs.declared.Call.{Call}
 use Rattle.manager.specs.declared.Call.the-variants.{GetSegment, ReturnSegment, SegmentSize, ResizeSegment, RegionInformation, GetBuffer, Tick}
 use Rattle.manager.specs.declared.Wait.the-variants.{No}
 use Rattle.manager.specs.declared.Partition.{Partition}
 use Rattle.manager.specs.declared.Status.the-variants.{InternalError}
-use Rattle.manager.specs.Lists.{In}
+use Rattle.manager.specs.Lists.{In, Distinct}
 use Rattle.trace.specs.Loans.{Lent, loanPages, sum}
 use Rattle.trace.specs.Receipts.{RegionEntry, PartitionEntry, Wait, Reply, replyOf, unit, pageIn, pageLoans, buffersIn, buffersFrom}
-use Rattle.trace.specs.Queue.{queueOf, inLine, dueIn}
+use Rattle.trace.specs.Queue.{queueOf}
 use Rattle.trace.specs.Replies.{byReceipts, readByReceipts}
 use Rattle.trace.specs.Trace.{State, answer}
-use Rattle.trace.specs.Claims.{freePages, Chained, null, link, RegionClaims, PartitionClaims}
+use Rattle.trace.specs.Claims.{freePages, Chained, null, link, RegionClaims, PartitionClaims, Ticked}
 use Rattle.trace.proofs.Invariant.{regionFor, PartitionIs, Inv}
 use Rattle.trace.proofs.Frame.{unit-least, inside-parts, partition-shaped, buffer-lies, chained-buffer}
 use Rattle.trace.proofs.Buffers.{buffer-within, within-buffer}
@@ -34,12 +36,13 @@ use Rattle.trace.proofs.Clients.{RegionAt, region-at, partition-at, Seg
 use Rattle.trace.proofs.Segments.{law, Regular, regular, loan-holds, pages-lent}
 use Rattle.trace.proofs.Map.{drawing}
 use Rattle.trace.proofs.Loans.Addresses.{address-pages}
-use Rattle.trace.proofs.Queue.Order.{in-waits, queue-of, in-all-waits}
-use Rattle.trace.proofs.Queue.Waiters.{waiters-for}
+use Rattle.trace.proofs.Queue.Waiters.{waiter-places, waiters-for}
 use Rattle.trace.proofs.Partitions.Slot.{buffers-in, unlent-once}
-use Rattle.trace.proofs.Replies.Consequences.{unsatisfied-by, lowest-by, information-by, size-by, resize-by, return-by, buffer-unsatisfied, buffer-front}
+use Rattle.trace.proofs.Replies.Consequences.{unsatisfied-by, lowest-by, information-by, size-by, resize-by, resize-serves-by, return-by, buffer-unsatisfied, buffer-front}
 use Rattle.trace.proofs.Regions.Checks.{not-damaged}
+use Rattle.trace.proofs.Regions.Queue.{queue-asks}
 use Rattle.trace.proofs.Directives.{performs}
+use Rattle.trace.proofs.Directives.Tick.{ticked-by}
 
 -- ---- a chain by word 0
 
@@ -73,9 +76,21 @@ module _ (i : Implementation) (s : State) (v : Inv (s .memory) (s .manager) (s .
       not-damaged _ (p .kept .undamaged) (ap (λ (r : Reply). r .status) (p .replies) ∙ sym (status-by c) ∙ e)
 
   -- A TICK
-  pub tick-claim : answer i s Tick .notices ≡ dueIn (inLine (s .receipts))
-  unfolding byReceipts
-  tick-claim = notices-by Tick
+  pub tick-claim : Ticked (s .receipts) (answer i s Tick .notices)
+  tick-claim = rw (notices-by Tick) (ticked-by (s .memory) (s .manager) (s .receipts) v)
+
+  -- EACH TASK HAS AT MOST ONE NOTICE OF A CALL, and all of them have places: they are those of the definitions
+  once : (c : Call) → Once (perform (s .memory) (s .manager) c)
+  once = told-once (s .memory) (s .manager) (waiter-places (s .manager) (s .receipts) (v .waits))
+
+  defined-notices : (c : Call) → answer i s c .notices ≡ perform (s .memory) (s .manager) c .notices
+  defined-notices c = notices-by c ∙ ap (λ (r : Reply). r .notices) (sym (performs (s .memory) (s .manager) (s .receipts) v c .replies))
+
+  pub once-claim : (c : Call) → Distinct (tasksTold (answer i s c .notices))
+  once-claim c = rw (defined-notices c) (once c .once)
+
+  pub few-claim : (c : Call) → length (answer i s c .notices) ≤ tasks
+  few-claim c = rw (defined-notices c) (once c .few)
 
   -- A REGION
   module _ (id : ℕ) (e : RegionEntry) (q : s .receipts .regions id ≡ some e) where
@@ -86,12 +101,8 @@ module _ (i : Implementation) (s : State) (v : Inv (s .memory) (s .manager) (s .
     loans = regular (s .memory) e (at .is)
 
     -- a wait of its queue asks for something
-    queue-asks : (w : Wait) → In w (queueOf id e (s .receipts)) → 0 < w .size
-    unfolding In
-    queue-asks w h =
-        let t = s .receipts in
-        let y : In w (t .waits) = in-all-waits t w .0 (in-waits id w (inLine t) .0 (rw (queue-of id e t q) at h) .0) in
-        v .waits .each w y .size-some
+    asking : (w : Wait) → In w (queueOf id e (s .receipts)) → 0 < w .size
+    asking = queue-asks (s .manager) (s .receipts) (v .waits) id e q
 
     -- a read of a loan has words
     read-some : (a k : ℕ) → Lent (e .loans) a k → ¬ (i .read (s .memory) (s .manager) id a ≡ [])
@@ -125,8 +136,10 @@ module _ (i : Implementation) (s : State) (v : Inv (s .memory) (s .manager) (s .
           information = ap (λ (r : Reply). r .information) (replies (RegionInformation id) ∙ information-by n t id e q loans);
           size = λ a k x. ap (λ (r : Reply). r .value) (replies (SegmentSize id a) ∙ size-by n t id e q loans a k x);
           resize = λ a k size x z. rw (status-by (ResizeSegment id a size), value-by (ResizeSegment id a size)) (resize-by n t id e q loans a k x size z);
+          resize-serves = λ a k size x z. rw (status-by (ResizeSegment id a size), notices-by (ResizeSegment id a size))
+              (resize-serves-by n t id e q loans a k x size z asking);
           queue = waiters-for (s .manager) t (v .waits) id e q;
-          return = λ a k x. rw (status-by (ReturnSegment id a), notices-by (ReturnSegment id a)) (return-by n t id e q loans a k x queue-asks);
+          return = λ a k x. rw (status-by (ReturnSegment id a), notices-by (ReturnSegment id a)) (return-by n t id e q loans a k x asking);
         }
 
   -- A PARTITION

@@ -18,13 +18,14 @@ use Rattle.manager.specs.declared.Manager.{Manager}
 use Rattle.manager.specs.declared.Region.{Region}
 use Rattle.manager.specs.declared.Partition.{Partition}
 use Rattle.manager.specs.Lists.{In}
+use Rattle.manager.proofs.Laws.Areas.{areaFor}
 use Rattle.trace.specs.Loans.{Lent}
 use Rattle.trace.specs.Receipts.{Receipts, RegionEntry, PartitionEntry, unit, pagesIn, addressIn, pageIn, pageLoans}
 use Rattle.trace.specs.Trace.{Object, region, partition, Loaned, segment, buffer, Owned, ClientsWrite}
 use Rattle.trace.proofs.Invariant.{Inside, regionAs, regionFor, RegionIs, RegionSlot, PartitionIs, PartitionSlot, Inv, empty, live, OnlyMap}
 use Rattle.trace.proofs.Frame.{map-at, unit-whole, whole-times, pages-from, pages-upto, region-inside, region-same, partition-shaped, buffer-lies, buffers-apart, chained-buffer, link-next, link-before, buffer-inside, partition-same}
 use Rattle.trace.proofs.Segments.{law, regular, loan-holds}
-use Rattle.trace.proofs.Areas.{areaFor, areaIn, sound-clear, same-object}
+use Rattle.trace.proofs.Areas.{areaIn, sound-clear, same-object}
 use Rattle.trace.proofs.Disjoint.{clear-words}
 
 -- ---- what stands in a live slot

@@ -8,13 +8,14 @@ use Prim.Native.Nat.{ℕ, suc, _+_, _*_, _/_, _%_, _≤_, _<_}
 use native.Mathlib.Nat.{mul-le-mul-right, add-mul}
 use native.Mathlib.Omega.{arith}
 use lib.ListN.{length, getD, take, drop, set, length-take, length-drop, length-set}
-use lib.Seq.{sets, sets-eq, getD-set-other, getD-take, getD-drop, ext-getD, take-at, drop-at, length-take-le}
+use lib.Seq.{sets, sets-eq, getD-set-other, take-at, drop-at, length-take-le}
 use lib.Dec.{eqb, leb}
 use borrow.Author.Tests.{eqb-false, leb-true, ne-eqb, le-leb, not-true}
 use Rattle.arith.proofs.Laws.Round.{round-multiple}
 use Rattle.arith.specs.Layout.{mapStart, pageCount}
-use Rattle.arith.proofs.Laws.Layout.{map-ge, count-map, count-end}
+use Rattle.arith.proofs.Laws.Layout.{count-map, count-end}
 use Rattle.manager.proofs.Laws.Lists.{and-first, and-second}
+use Rattle.manager.proofs.Laws.Words.{map-same, map-within}
 use Rattle.manager.specs.Region.{pagesOf, mapAt, mapWords}
 use Rattle.manager.specs.Partition.{isBuffer, chain}
 use Rattle.manager.proofs.Laws.Distinct.{On, same-or-not, on-in}
@@ -56,16 +57,6 @@ only-sets a n m i (w ∷ ws) l h =
     (only-set a n m i w (record { low = l; high = omega arith }))
     (only-sets a n (set m i w) (suc i) ws (omega arith) (omega arith))
 
--- a part of the memory, by its words
-pub part-same : (n b : ℕ) (m m′ : List ℕ) → length m′ ≡ length m → ((k : ℕ) → b ≤ k → k < b + n → getD m′ k 0 ≡ getD m k 0)
-    → take n (drop b m′) ≡ take n (drop b m)
-part-same n b m m′ e h =
-    ext-getD 0 (take n (drop b m′)) (take n (drop b m)) (simp (length-take, length-drop, e))
-    (λ i l. let u : i < n = omega (arith, length-take n (drop b m′), l) in
-    getD-take n (drop b m′) i 0 u ∙ getD-drop b m′ i 0
-    ∙ h (b + i) (omega arith) (omega arith)
-    ∙ sym (getD-take n (drop b m) i 0 u ∙ getD-drop b m i 0))
-
 -- words stored are the words that stand there
 pub part-stored : (m : List ℕ) (b : ℕ) (ws : List ℕ) (n : ℕ) → length ws ≡ n → b + n ≤ length m → take n (drop b (sets m b ws)) ≡ ws
 part-stored m b ws n e h =
@@ -83,11 +74,7 @@ map-at start = omega arith
 -- a word of the map lies inside the area
 module _ (start bytes page : ℕ) (hp : 0 < page) (some : 1 ≤ pageCount start bytes page) (w : ℕ) where
   pub map-inside : mapStart start / 4 ≤ w → w < mapStart start / 4 + pageCount start bytes page → Inside start bytes w
-  map-inside l h =
-      record {
-        low = omega (arith, map-at start, map-ge start);
-        high = omega (arith, map-at start, count-map start bytes page hp, count-end start bytes page hp some);
-      }
+  map-inside l h = let x = map-within start bytes page hp some w l h in record { low = x .0; high = x .1 }
 
 -- the map lies in a memory in which the area does
 pub map-fits : (start bytes page n : ℕ) → 0 < page → 1 ≤ pageCount start bytes page → start + bytes ≤ 4 * n → mapStart start / 4 + pageCount start bytes page ≤ n
@@ -120,11 +107,6 @@ parts-inside m start bytes p = rw (ne-eqb start 0 (p .some-start), le-leb (start
 
 pub inside-same : (m m′ : List ℕ) (start bytes : ℕ) → length m′ ≡ length m → inside m start bytes ≡ true → inside m′ start bytes ≡ true
 inside-same m m′ start bytes e h = rw e h
-
--- its map words give its map
-pub map-same : (m m′ : List ℕ) (r : Region) → length m′ ≡ length m
-    → ((w : ℕ) → mapAt r ≤ w → w < mapAt r + pagesOf r → getD m′ w 0 ≡ getD m w 0) → mapWords m′ r ≡ mapWords m r
-map-same m m′ r e h = part-same (pagesOf r) (mapAt r) m m′ e h
 
 -- a map that is drawn is the map
 pub map-stored : (m : List ℕ) (r : Region) (ws : List ℕ) → length ws ≡ pagesOf r → mapAt r + pagesOf r ≤ length m

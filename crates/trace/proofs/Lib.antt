@@ -9,6 +9,7 @@ pub mod Areas
 pub mod Segments
 pub mod Map
 pub mod Grants
+pub mod Notices
 pub mod Sound
 pub mod Clients
 pub mod Access

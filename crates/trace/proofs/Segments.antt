@@ -143,3 +143,10 @@ module _ (e : RegionEntry) (g : Regular e) where
   regular-returned a k x =
       let h = loan-holds a k x in
       regular-with _ _ (amended-at a 0 (h .at)) (law e .returned (drawn-is _ _ (law e) (g .fits)) (pageIn e a) k (h .lent) .fits)
+
+  -- a resize, to no more than it can have
+  pub regular-resized : (a k size : ℕ) → Lent (e .loans) a k → pagesOver e size ≤ mostIn e a → Regular (withLoans (amend a (pagesOver e size) (e .loans)) e)
+  regular-resized a k size x l =
+      let h = loan-holds a k x in
+      regular-with _ _ (amended-at a (pagesOver e size) (h .at))
+      (law e .changed (drawn-is _ _ (law e) (g .fits)) (pageIn e a) k (pagesFor size (unit e)) (h .lent) l .fits)

@@ -13,6 +13,7 @@ use Rattle.manager.specs.Sound.{soundPage, soundGeneration, liveRegion, soundRe
 use Rattle.manager.specs.declared.Manager.{Manager}
 use Rattle.manager.specs.declared.Region.{Region}
 use Rattle.manager.specs.declared.Partition.{Partition}
+use Rattle.manager.proofs.Laws.Areas.{at-every}
 use Rattle.trace.specs.Receipts.{Receipts, RegionEntry, PartitionEntry, unit, pagesIn}
 use Rattle.trace.specs.Replies.{regionNow, partitionNow}
 use Rattle.trace.proofs.Invariant.{regionAs, RegionIs, RegionSlot, PartitionSlot, Inv, empty, live}
@@ -20,7 +21,6 @@ use Rattle.trace.proofs.Slots.{region-in, partition-in}
 use Rattle.trace.proofs.Frame.{unit-least, unit-most, unit-whole}
 use Rattle.trace.proofs.Loans.Lawful.{drawn-is}
 use Rattle.trace.proofs.Segments.{law}
-use Rattle.trace.proofs.Disjoint.{at-every}
 
 -- a page size as create leaves it
 pub unit-sound : (e : RegionEntry) → 1 ≤ e .page → e .page ≤ 4096 → soundPage (unit e) ≡ true

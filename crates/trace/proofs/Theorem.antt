@@ -17,7 +17,7 @@ use Rattle.trace.proofs.Regions.Queue.{sound-inv}
 use Rattle.trace.proofs.Replies.Access.{replies-write, reads}
 use Rattle.trace.proofs.Regions.Checks.{not-damaged}
 use Rattle.trace.proofs.Directives.{performs}
-use Rattle.trace.proofs.Claims.{sound-claim, tick-claim, region-claims, partition-claims}
+use Rattle.trace.proofs.Claims.{sound-claim, tick-claim, once-claim, few-claim, region-claims, partition-claims}
 use Rattle.trace.proofs.Runs.{runs}
 use Rattle.trace.proofs.History.{replies, id-claims}
 
@@ -54,6 +54,8 @@ module _ (s : State) (v : Inv (s .memory) (s .manager) (s .receipts)) where
         sound = sound-claim defined s v answered handed;
         sound-write = λ id a first words. not-damaged _ (writes (s .memory) (s .manager) (s .receipts) v (sound-inv _ _ _ v) id a first words .undamaged);
         tick = tick-claim defined s v answered handed;
+        once = once-claim defined s v answered handed;
+        few = few-claim defined s v answered handed;
       }
 
 -- THE THEOREM

@@ -4,14 +4,15 @@
 -- the maps, the chains and what clients hold. Assumes nothing.
 use mathlib.Core.Path.{_≡_}
 use mathlib.Core.Bool.{cond, not, _&&_}
-use mathlib.Core.List.{List, [], _∷_}
+use mathlib.Core.List.{List, [], _∷_, _++_}
 use mathlib.Core.Logic.{_⊎_, _↔_}
-use mathlib.Core.Option.{some}
-use Prim.Native.Nat.{ℕ, _+_, _-_, _*_, _/_, _≤_, _<_}
+use mathlib.Core.Option.{none, some}
+use Prim.Native.Nat.{ℕ, zero, suc, _+_, _-_, _*_, _/_, _≤_, _<_}
 use lib.ListN.{length, getD, take, drop}
 use lib.Seq.{sets}
 use lib.Dec.{eqb}
-use Rattle.manager.specs.Record.{mostWords, partitionOf}
+use Rattle.manager.specs.Record.{slots, tasks, mostWords, partitionOf}
+use Rattle.manager.specs.Result.{tasksTold}
 use Rattle.manager.specs.Map.{Segment, free, held, draw, decode}
 use Rattle.manager.specs.Perform.{Implementation}
 use Rattle.manager.specs.declared.Waiter.{Waiter}
@@ -23,9 +24,9 @@ use Rattle.manager.specs.declared.Status.the-variants.{Successful, Unsatisfied,
 use Rattle.manager.specs.Lists.{In, Distinct}
 use Rattle.trace.specs.Loans.{Loan, Lent, loanPages, sum, enter, amend}
 use Rattle.trace.specs.Reading.{NoPlace}
-use Rattle.trace.specs.Receipts.{reading, pagesOver, Servable, Receipts, RegionEntry, PartitionEntry, Wait, replyOf, isSuccess, unit, layoutIn, pagesIn, spanIn, addressIn, pageIn, byPage, pageLoans, buffersIn, buffersFrom}
-use Rattle.trace.specs.Queue.{queueOf, inLine, dueIn}
-use Rattle.trace.specs.Replies.{informationIn, grantTo, byReceipts, writeByReceipts, readByReceipts}
+use Rattle.trace.specs.Receipts.{reading, pagesOver, Servable, Receipts, RegionEntry, PartitionEntry, Wait, replyOf, isSuccess, unit, layoutIn, pagesIn, spanIn, addressIn, pageIn, byPage, pageLoans, buffersIn, buffersFrom, allNoticed}
+use Rattle.trace.specs.Queue.{queueOf}
+use Rattle.trace.specs.Replies.{regionNow, informationIn, grantTo, timeouts, ticked, byReceipts, writeByReceipts, readByReceipts}
 use Rattle.trace.specs.Trace.{Ask, call, read, write, State, answer, answerWrite, after, Object, Loaned, Owned, Runs, start}
 use Rattle.trace.specs.Ids.{IdClaims}
 
@@ -59,6 +60,27 @@ pub data Grants (e : RegionEntry) : List Loan → List Wait → List Notice → 
   grant : {l : List Loan} {w : Wait} {ws : List Wait} {ns : List Notice} (p : ℕ) → Takes e l (w .size) p
       → Grants e (enter (addressIn e p) (pagesOver e (w .size)) l) ws ns
       → Grants e l (w ∷ ws) (grantTo w (addressIn e p) ∷ ns)
+
+-- OF SOME SLOTS, one after the other: the grants of the region in each, with what those before it were told entered; an empty slot has none
+pub data Rounds : List ℕ → Receipts → List Notice → Type 0 where
+  ended : {t : Receipts} → Rounds [] t []
+  skipped : {i : ℕ} {is : List ℕ} {t : Receipts} {ns : List Notice} → t .regions (regionNow t i) ≡ none → Rounds is t ns → Rounds (i ∷ is) t ns
+  round : {i : ℕ} {is : List ℕ} {t : Receipts} {ns ms : List Notice} (e : RegionEntry) → t .regions (regionNow t i) ≡ some e
+      → Grants e (e .loans) (queueOf (regionNow t i) e t) ns → Rounds is (allNoticed ns t) ms
+      → Rounds (i ∷ is) t (ns ++ ms)
+
+-- so many slots, from slot i on
+unfoldable pub slotsFrom : ℕ → ℕ → List ℕ
+slotsFrom zero i = []
+slotsFrom (suc n) i = i ∷ slotsFrom n (suc i)
+
+-- THE NOTICES OF A TICK: 6 to exactly those waits whose ticks have run out by the ticks counted since they began, in line, and behind all of
+-- these the grants: of every region, the lowest slot first, as the receipts are a tick later; none where nobody was sent away
+pub record Ticked (t : Receipts) (ns : List Notice) : Type 0 where
+  pub grants : List Notice
+  pub notices : ns ≡ timeouts t ++ grants
+  pub nobody : timeouts t ≡ [] → grants ≡ []
+  pub rounds : ¬ (timeouts t ≡ []) → Rounds (slotsFrom slots 0) (ticked t) grants
 
 -- a region's map words in the memory: where they lie, and how many they are, follows from what create asked for
 abbrev pub mapIn : List ℕ → RegionEntry → List ℕ
@@ -102,6 +124,12 @@ pub record RegionClaims (i : Implementation) (s : State) (id : ℕ) (e : RegionE
       → (answer i s (ResizeSegment id a size) .value ≡ k * unit e)
       × ((answer i s (ResizeSegment id a size) .status ≡ Unsatisfied)
       ↔ (¬ reading e .Room (spanIn e) (pageLoans e) (pageIn e a) k (pagesOver e size)))
+  -- one that succeeds serves the queue as a return does, with the new size of the loan, also where its pages stay as many; 13 serves
+  -- nobody
+  pub resize-serves : (a k size : ℕ) → Lent (e .loans) a k → 0 < size
+      → ((answer i s (ResizeSegment id a size) .status ≡ Unsatisfied) × (answer i s (ResizeSegment id a size) .notices ≡ []))
+      ⊎ ((answer i s (ResizeSegment id a size) .status ≡ Successful)
+      × Grants e (amend a (pagesOver e size) (e .loans)) (queueOf id e (s .receipts)) (answer i s (ResizeSegment id a size) .notices))
   -- the queue is the waits of the receipts, in order
   pub queue : waitersFor id (s .manager .waiters) ≡ waitersOf (queueOf id e (s .receipts))
   -- after a return the grants go to the first waits in that order, each to the place that a get takes at that moment, and stop exactly
@@ -165,8 +193,11 @@ pub record Claims (i : Implementation) (s : State) : Type 0 where
   -- "Never called damaged": no answer is 25
   pub sound : (c : Call) → ¬ (answer i s c .status ≡ InternalError)
   pub sound-write : (id address first : ℕ) (words : List ℕ) → ¬ (answerWrite i s id address first words .status ≡ InternalError)
-  -- a tick sends 6 to exactly those waits whose ticks have run out by the ticks counted since they began, and serves nobody ("ticks left")
-  pub tick : answer i s Tick .notices ≡ dueIn (inLine (s .receipts))
+  -- a tick sends those away whose time has run out ("ticks left"), and serves every region's queue then
+  pub tick : Ticked (s .receipts) (answer i s Tick .notices)
+  -- one call gives each task at most one notice, and all its notices have places in the answer
+  pub once : (c : Call) → Distinct (tasksTold (answer i s c .notices))
+  pub few : (c : Call) → length (answer i s c .notices) ≤ tasks
 
 -- "Demand 3 is a single claim about the list and the writes between its calls, and not one for each call": after every list of calls and
 -- writes, from a fresh start over any memory of allowed length

@@ -49,8 +49,8 @@ no s = record { status = s; value = 0; information = noInformation; notices = []
 abbrev pub yes : ℕ → Reply
 yes v = record { status = Successful; value = v; information = noInformation; notices = [] }
 
-abbrev pub tells : List Notice → Reply
-tells ns = record { status = Successful; value = 0; information = noInformation; notices = ns }
+abbrev pub tells : ℕ → List Notice → Reply
+tells v ns = record { status = Successful; value = v; information = noInformation; notices = ns }
 
 abbrev pub informs : Information → Reply
 informs i = record { status = Successful; value = 0; information = i; notices = [] }
@@ -155,6 +155,33 @@ grantsIn e l [] = []
 grantsIn e l (w ∷ ws) =
     onPlace (placeIn e l (w .size)) (λ p. grantTo w (addressIn e p) ∷ grantsIn e (enter (addressIn e p) (pagesOver e (w .size)) l) ws) []
 
+-- of the region under an id, with its loans as they are; nobody waits for one that is not there
+abbrev grantsOf : Option RegionEntry → ℕ → Receipts → List Notice
+grantsOf none id t = []
+grantsOf (some e) id t = grantsIn e (e .loans) (queueOf id e t)
+
+abbrev pub grantsUnder : ℕ → Receipts → List Notice
+grantsUnder id t = grantsOf (t .regions id) id t
+
+-- of the regions in so many slots, one after the other from slot i on: what one is told is entered before the next
+unfoldable pub grantsFrom : ℕ → ℕ → Receipts → List Notice
+grantsFrom zero i t = []
+grantsFrom (suc n) i t =
+    let ns = grantsUnder (regionNow t i) t in
+    ns ++ grantsFrom n (suc i) (allNoticed ns t)
+
+-- TIME-OUTS, and the receipts behind them: a tick later, without those who were sent away
+abbrev pub timeouts : Receipts → List Notice
+timeouts t = dueIn (inLine t)
+
+abbrev pub ticked : Receipts → Receipts
+ticked t = allNoticed (timeouts t) (withWaits (allLater (t .waits)) t)
+
+-- the grants behind time-outs: of every region, the lowest slot first; where nobody was sent away, none
+abbrev pub grantsAfter : List Notice → Receipts → List Notice
+grantsAfter [] t = []
+grantsAfter (n ∷ ns) t = grantsFrom slots 0 t
+
 -- a task waits
 abbrev pub waitsAlready : ℕ → List Wait → Bool
 waitsAlready task ws = lists.any (λ w. eqb (w .task) task) ws
@@ -175,10 +202,10 @@ abbrev pub noPlace : asking.Wait → Reply
 noPlace No = no Unsatisfied
 noPlace Yes = no Waiting
 
--- "the value is the old length, with 13 too"
-abbrev pub resizes : Bool → ℕ → Reply
-resizes true v = yes v
-resizes false v = record { status = Unsatisfied; value = v; information = noInformation; notices = [] }
+-- "the value is the old length, with 13 too"; a success serves the queue, and 13 nobody
+abbrev pub resizes : Bool → ℕ → List Notice → Reply
+resizes true v ns = tells v ns
+resizes false v ns = record { status = Unsatisfied; value = v; information = noInformation; notices = [] }
 
 -- ---- BUFFERS OF A PARTITION
 
@@ -224,18 +251,19 @@ byReceipts n t (GetSegment id size wait task priority ticks) =
 byReceipts n t (ReturnSegment id a) =
     living (t .regions id) (λ e.
     decided (check (eqb (pagesAt a (e .loans)) 0) InvalidAddress ∷ [])
-    (tells (grantsIn e (amend a 0 (e .loans)) (queueOf id e t))))
+    (tells 0 (grantsIn e (amend a 0 (e .loans)) (queueOf id e t))))
 -- size: 4, 9
 byReceipts n t (SegmentSize id a) =
     living (t .regions id) (λ e.
     decided (check (eqb (pagesAt a (e .loans)) 0) InvalidAddress ∷ [])
     (yes (pagesAt a (e .loans) * unit e)))
--- resize: size 0 (8), 4, 9, 13
+-- resize: size 0 (8), 4, 9, 13; then the queue is served
 byReceipts n t (ResizeSegment id a size) =
     decided (check (eqb size 0) InvalidSize ∷ [])
     (living (t .regions id) (λ e.
     decided (check (eqb (pagesAt a (e .loans)) 0) InvalidAddress ∷ [])
-    (resizes (leb (pagesOver e size) (mostIn e a)) (pagesAt a (e .loans) * unit e))))
+    (resizes (leb (pagesOver e size) (mostIn e a)) (pagesAt a (e .loans) * unit e)
+    (grantsIn e (amend a (pagesOver e size) (e .loans)) (queueOf id e t)))))
 -- information: 4
 byReceipts n t (RegionInformation id) = living (t .regions id) (λ e. informs (informationIn e))
 -- create partition: 3, start 9, alignment 9, past memory 9, length or size 0 (8), length below size 8, size not a multiple of 4 or
@@ -265,8 +293,8 @@ byReceipts n t (GetBuffer id) = living (t .partitions id) (λ e. front (e .unlen
 -- return of a buffer: 4, 9
 byReceipts n t (ReturnBuffer id a) =
     living (t .partitions id) (λ e. decided (check (not (listed a (e .lent))) InvalidAddress ∷ []) (yes 0))
--- a tick: no check of its own; the time-outs
-byReceipts n t Tick = tells (dueIn (inLine t))
+-- a tick: no check of its own; the time-outs, and then, where there are any, every region's queue is served
+byReceipts n t Tick = tells 0 (timeouts t ++ grantsAfter (timeouts t) (ticked t))
 
 -- a write of a held segment: 4, 9, then 8. A read: the words of the loan at the address, none where there is no such loan
 abbrev pub writeByReceipts : Receipts → ℕ → ℕ → ℕ → List ℕ → Reply

@@ -1,12 +1,12 @@
 -- The tests over a list, on lists that are made of others: appended, padded, with stronger tests; and neighbours against all pairs.
 -- Assumes nothing.
-use Prim.Native.Nat.{ℕ, zero, suc}
+use Prim.Native.Nat.{ℕ, zero, suc, _+_, _≤_}
 use mathlib.Core.Path.{_≡_, refl, sym, ap, _∙_}
-use mathlib.Core.Bool.{Bool, true, false, _&&_, _||_, and-true, and-assoc, or-assoc}
+use mathlib.Core.Bool.{Bool, true, false, cond, _&&_, _||_, and-true, and-assoc, or-assoc}
 use mathlib.Core.List.{List, [], _∷_, _++_}
 use native.Mathlib.Omega.{arith}
-use lib.ListN.{replicate}
-use Rattle.manager.specs.Lists.{every, any}
+use lib.ListN.{length, replicate}
+use Rattle.manager.specs.Lists.{every, any, count}
 use Rattle.manager.proofs.Laws.Lists.{and-first, and-second}
 
 -- what holds of both outcomes of a test holds of the test
@@ -52,3 +52,30 @@ module _ {A : Type 0} where
 
   pub every-behind : (t : A → Bool) (z : A) → t z ≡ true → (l : List A) (k : ℕ) → every t (l ++ replicate k z) ≡ every t l
   every-behind t z e l k = every-append t l (replicate k z) ∙ rw (every-same t z e k) (and-true (every t l))
+
+-- how many pass a test
+module _ {A : Type 0} (t : A → Bool) where
+  pub count-append : (a b : List A) → count t (a ++ b) ≡ count t a + count t b
+  unfolding count
+  count-append [] b = omega arith
+  count-append (x ∷ a) b =
+      let ih = count-append a b in
+      by-case (t x) (λ v. cond v (suc (count t (a ++ b))) (count t (a ++ b)) ≡ cond v (suc (count t a)) (count t a) + count t b)
+      (λ e. omega arith) (λ e. ih)
+
+  pub count-none : (z : A) → t z ≡ false → (k : ℕ) → count t (replicate k z) ≡ 0
+  unfolding count
+  count-none z e zero = refl
+  count-none z e (suc k) = rw e (count-none z e k)
+
+  pub count-most : (l : List A) → count t l ≤ length l
+  unfolding count
+  count-most [] = omega arith
+  count-most (x ∷ l) =
+      let ih = count-most l in
+      by-case (t x) (λ v. cond v (suc (count t l)) (count t l) ≤ suc (length l)) (λ e. omega arith) (λ e. omega arith)
+
+  pub count-all : (l : List A) → every t l ≡ true → count t l ≡ length l
+  unfolding count every
+  count-all [] e = refl
+  count-all (x ∷ l) e = rw (and-first (t x) (every t l) e) (ap suc (count-all l (and-second (t x) (every t l) e)))

@@ -2,16 +2,16 @@
 -- every place stays so. Assumes nothing.
 use Prim.Native.Nat.{ℕ, zero, suc, _-_, _≤_, _+_, _<_}
 use mathlib.Core.Path.{_≡_, refl, ap, _∙_}
-use mathlib.Core.Bool.{Bool, true, cond}
+use mathlib.Core.Bool.{Bool, true, false, cond}
 use mathlib.Core.List.{List, [], _∷_, _++_, append-nil, append-assoc}
 use borrow.Author.Tests.{eqb-true}
 use lib.Dec.{eqb}
-use lib.ListN.{length, replicate, length-append, length-replicate, replicate-append-replicate}
+use lib.ListN.{length, getD, replicate, length-append, length-replicate, replicate-append-replicate}
 use Rattle.manager.specs.Record.{noWaiter}
-use Rattle.manager.specs.Lists.{every}
+use Rattle.manager.specs.Lists.{every, count}
 use Rattle.manager.proofs.Laws.Lists.{and-first, and-second}
 use Rattle.manager.specs.Queue.{removeAt, dequeue, aged, staying, expired, leaving, goesBefore, push, insert}
-use Rattle.manager.proofs.Laws.Appended.{by-case, and-both, every-behind}
+use Rattle.manager.proofs.Laws.Appended.{by-case, and-both, every-behind, count-append}
 use Rattle.manager.specs.Sound.{soundPlace, soundQueue, emptyWaiter}
 use Rattle.manager.specs.declared.Manager.{Manager}
 use Rattle.manager.specs.declared.Waiter.{Waiter}
@@ -33,6 +33,31 @@ module _ (d : Manager) (i : ℕ) where
   pub dequeue-every : (t : Waiter → Bool) → t noWaiter ≡ true → every t (d .waiters) ≡ true → every t (dequeue d i .waiters) ≡ true
   unfolding dequeue
   dequeue-every t z e = every-remove t z i (d .waiters) e
+
+-- one taken out of a queue, at any place: it counts no more
+pub count-remove : (t : Waiter → Bool) → t noWaiter ≡ false → (i : ℕ) (ws : List Waiter)
+    → cond (t (getD ws i noWaiter)) (suc (count t (removeAt i ws))) (count t (removeAt i ws)) ≡ count t ws
+unfolding count removeAt
+count-remove t z zero [] = rw z
+count-remove t z (suc i) [] = rw z
+count-remove t z zero (w ∷ ws) =
+    let e : count t (ws ++ (noWaiter ∷ [])) ≡ count t ws = count-append t ws (noWaiter ∷ []) ∙ rw z (omega arith) in
+    by-case (t w) (λ v. cond v (suc (count t (ws ++ (noWaiter ∷ [])))) (count t (ws ++ (noWaiter ∷ []))) ≡ cond v (suc (count t ws)) (count t ws))
+    (λ _. ap suc e) (λ _. e)
+count-remove t z (suc i) (w ∷ ws) =
+    let ih = count-remove t z i ws in
+    let n = count t (removeAt i ws) in
+    by-case (t w) (λ v. cond (t (getD ws i noWaiter)) (suc (cond v (suc n) n)) (cond v (suc n) n) ≡ cond v (suc (count t ws)) (count t ws))
+    (λ _. by-case (t (getD ws i noWaiter)) (λ b. cond b (suc n) n ≡ count t ws → cond b (suc (suc n)) (suc n) ≡ suc (count t ws)) (λ _ h. ap suc h) (λ _ h. ap suc h) ih)
+    (λ _. ih)
+
+-- and there are as many places
+pub length-remove : (i : ℕ) (ws : List Waiter) → length (removeAt i ws) ≡ length ws
+unfolding removeAt
+length-remove zero [] = refl
+length-remove (suc i) [] = refl
+length-remove zero (w ∷ ws) = length-append ws (noWaiter ∷ []) ∙ omega arith
+length-remove (suc i) (w ∷ ws) = ap suc (length-remove i ws)
 
 pub sound-every : (m : List ℕ) (d : Manager) → soundQueue m d ≡ true → every (soundPlace m d) (d .waiters) ≡ true
 unfolding soundQueue

@@ -42,6 +42,9 @@ module _ (m : List ℕ) (d : Manager) (ok : sound m d ≡ true) where
   pub sound-partitions : every (soundPartition m) (d .partitions) ≡ true
   sound-partitions = and-first (every (soundPartition m) (d .partitions)) _ (and-second (every (soundRegion m) (d .regions)) _ tail)
 
+  pub sound-areas : soundAreas d ≡ true
+  sound-areas = and-first (soundAreas d) _ (and-second (every (soundPartition m) (d .partitions)) _ (and-second (every (soundRegion m) (d .regions)) _ tail))
+
   pub sound-queue : soundQueue m d ≡ true
   sound-queue = and-second (soundAreas d) _ (and-second (every (soundPartition m) (d .partitions)) _ (and-second (every (soundRegion m) (d .regions)) _ tail))
 
@@ -68,7 +71,7 @@ module _ (m : List ℕ) (r : Region) (e : soundRegion m r ≡ true) where
   unfolding soundRegion
   empty-of f = rw f at (and-second (soundGeneration (r .name) (r .generation)) _ e)
 
-sited-of : (m : List ℕ) (r : Region) → length m ≤ 16384 → liveRegion m r ≡ true → Sited m r
+pub sited-of : (m : List ℕ) (r : Region) → length m ≤ 16384 → liveRegion m r ≡ true → Sited m r
 unfolding liveRegion
 sited-of m r w e =
     let a = and-first (inside m (r .start) (r .length)) _ e in

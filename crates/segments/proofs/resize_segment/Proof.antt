@@ -3,6 +3,7 @@ use borrow.Author.Needs.{needs}
 use borrow.Author.Tests.{not-false}
 use Rattle.manager.proofs.Laws.Result.{performs-by}
 use Rattle.segments.proofs.Address.{live, held-some, some-asked}
+use Rattle.segments.proofs.Serve.{sound-asking}
 use Rattle.segments.proofs.Resize.{resizing, resize-fitted}
 use Rattle.segments.proofs.resize_segment.Statement.{statement}
 use Rattle.segments.proofs.resize_segment.Tie as tie
@@ -61,8 +62,8 @@ mul-old c = search (needs, resizing)
 pages-asked-requires : tie.Need-pages-asked-requires
 pages-asked-requires c κs = search needs
 
-resize-within-requires : tie.Need-resize-within-requires
-resize-within-requires c κs =
+resize-and-serve-requires : tie.Need-resize-and-serve-requires
+resize-and-serve-requires c κs =
     let asked = c .before in
     let held = asked .before .before in
     let laid = held .before .before .before in
@@ -76,7 +77,9 @@ resize-within-requires c κs =
     let er = found .region-of .ensures in
     let el = laid .layout-of .ensures in (
       live _ _ _ eb ok (args .id) _ er (named .if3 .left),
+      er,
       el,
+      sound-asking _ _ _ eb ok,
       held-some _ _ _ eb ok (args .id) _ er (named .if3 .left) _ el (args .address) _ (held .before .held-word-at .ensures) (held .if4 .left),
       some-asked _ _ _ eb ok (args .id) _ er (named .if3 .left) (args .size) (some .if2 .left) _ (asked .pages-asked .ensures),
     )
@@ -97,7 +100,7 @@ returns-5 c =
     performs-by _ _ _ _
     (resize-fitted _ _ _ _ _ _ (passed .before .is-sound .ensures) (not-false _ (passed .if1 .left)) (some .if2 .left) _ (found .region-of .ensures) (named .if3 .left) _
     (laid .layout-of .ensures) _ (held .before .held-word-at .ensures) (held .if4 .left) _ (asked .pages-asked .ensures))
-    (fitted .resize-within .ensures)
+    (fitted .resize-and-serve .ensures)
 
 pub resize-segment-spec : {M : Type 1} → statement M
 resize-segment-spec =
@@ -121,6 +124,6 @@ resize-segment-spec =
     returns-4
     mul-old
     pages-asked-requires
-    resize-within-requires
+    resize-and-serve-requires
     same-length-5
     returns-5)

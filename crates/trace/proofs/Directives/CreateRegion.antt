@@ -24,13 +24,14 @@ use Rattle.manager.specs.declared.Status.the-variants.{Successful}
 use Rattle.manager.proofs.Laws.Lists.{and-first, index-passes}
 use Rattle.manager.proofs.Laws.Ids.{slot-empty}
 use Rattle.manager.proofs.Laws.Result.{Passed}
+use Rattle.manager.proofs.Laws.Areas.{areaFor}
 use Rattle.trace.specs.Receipts.{Receipts, RegionEntry, pagesIn, replyOf}
 use Rattle.trace.specs.Trace.{Owned}
 use Rattle.trace.specs.Replies.{yes, newRegionSlot, byReceipts}
 use Rattle.trace.proofs.Invariant.{Only, regionAs, regionFor, RegionSlot, live, Inv, Picture, with-waits}
 use Rattle.trace.proofs.Frame.{map-area}
 use Rattle.trace.proofs.Clients.{map-stays}
-use Rattle.trace.proofs.Areas.{areaFor, overlaps-clear, areas-new-region}
+use Rattle.trace.proofs.Areas.{overlaps-clear, areas-new-region}
 use Rattle.trace.proofs.Regions.Checks.{note-done, Kept, kept-checked, Right}
 use Rattle.trace.proofs.Slots.{slot-filled, region-unnamed}
 use Rattle.trace.proofs.Regions.Put.{region-there, put-region}

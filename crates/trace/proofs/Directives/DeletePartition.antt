@@ -20,12 +20,13 @@ use Rattle.manager.specs.Result.{check, done}
 use Rattle.manager.specs.Partition.{buffers}
 use Rattle.manager.specs.declared.Partition.{Partition}
 use Rattle.manager.specs.declared.Status.the-variants.{ResourceInUse}
+use Rattle.manager.proofs.Laws.Areas.{no-area}
 use Rattle.trace.specs.Receipts.{Receipts, PartitionEntry, deleted, replyOf, withPartitionDeletes}
 use Rattle.trace.specs.Replies.{lentAny, byReceipts}
 use Rattle.trace.proofs.Invariant.{Inv, empty, PartitionIs, PartitionSlot, PartitionSlotIs}
 use Rattle.trace.proofs.Frame.{only-refl}
 use Rattle.trace.proofs.Slots.{slot-emptied, deleted-other}
-use Rattle.trace.proofs.Areas.{areaIn, no-area, areas-no-partition}
+use Rattle.trace.proofs.Areas.{areaIn, areas-no-partition}
 use Rattle.trace.proofs.Regions.Checks.{Kept, kept-checked, Right}
 use Rattle.trace.proofs.Regions.Queue.{sound-inv}
 use Rattle.trace.proofs.Partitions.Slot.{partition-entry, keeping, gone, put-keeps, live-slot, live-in, kept-done, free-unlent}

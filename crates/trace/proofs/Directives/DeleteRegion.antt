@@ -19,6 +19,7 @@ use Rattle.manager.specs.declared.Call.the-variants.{DeleteRegion}
 use Rattle.manager.specs.declared.Status.the-variants.{Successful, ResourceInUse}
 use Rattle.manager.proofs.Laws.Ids.{id-back, Live, live-object}
 use Rattle.manager.proofs.Laws.Result.{Passed}
+use Rattle.manager.proofs.Laws.Areas.{no-area}
 use Rattle.trace.specs.Loans.{Loan}
 use Rattle.trace.specs.Receipts.{Receipts, RegionEntry, Wait, deleted, replyOf, withRegionDeletes}
 use Rattle.trace.specs.Replies.{lendsAny, byReceipts}
@@ -26,7 +27,7 @@ use Rattle.trace.proofs.Map.{shows}
 use Rattle.trace.proofs.Invariant.{regionFor, RegionSlot, RegionSlotIs, empty, Inv, Picture, with-waits}
 use Rattle.trace.proofs.Frame.{only-refl}
 use Rattle.trace.proofs.Slots.{Now, now-same, deleted-other, slot-emptied, region-now}
-use Rattle.trace.proofs.Areas.{areaIn, no-area, areas-no-region}
+use Rattle.trace.proofs.Areas.{areaIn, areas-no-region}
 use Rattle.trace.proofs.Clients.{RegionAt}
 use Rattle.trace.proofs.Regions.Checks.{note-done, Kept, kept-words, kept-checked, Right}
 use Rattle.trace.proofs.Regions.Live.{slot-entry}

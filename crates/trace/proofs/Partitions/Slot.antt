@@ -24,6 +24,7 @@ use Rattle.manager.specs.declared.Partition.{Partition}
 use Rattle.manager.specs.declared.Call.{Call}
 use Rattle.manager.specs.declared.Status.the-variants.{Successful}
 use Rattle.manager.specs.Lists.{Distinct}
+use Rattle.manager.proofs.Laws.Areas.{Clear}
 use Rattle.trace.specs.Receipts.{Receipts, PartitionEntry, buffersIn, update, mapOption, withPartitions, onPartition, withPartitionDeletes}
 use Rattle.trace.specs.Replies.{entered}
 use Rattle.trace.specs.Trace.{Object, region, partition}
@@ -37,7 +38,6 @@ use Rattle.trace.proofs.Queue.Tasks.{wait-same}
 use Rattle.trace.proofs.Clients.{Stays}
 use Rattle.trace.proofs.Regions.Checks.{Kept, note-done}
 use Rattle.trace.proofs.Regions.Picture.{words-same}
-use Rattle.trace.proofs.Disjoint.{Clear}
 use Rattle.manager.specs.Sound.{soundAreas, Shaped}
 
 -- ---- what stands in a slot

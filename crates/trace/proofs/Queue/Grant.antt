@@ -14,7 +14,6 @@ use Rattle.manager.specs.Record.{tasks, noWaiter}
 use Rattle.manager.specs.Result.{pad}
 use Rattle.manager.specs.Lists.{indexOf, In, Distinct}
 use Rattle.manager.specs.Queue.{waitsFor, firstOf, removeAt, dequeue}
-use Rattle.manager.proofs.Laws.Queue.{length-pad}
 use Rattle.manager.specs.declared.Manager.{Manager}
 use Rattle.manager.specs.declared.Waiter.{Waiter}
 use Rattle.trace.specs.Receipts.{Receipts, RegionEntry, Wait, withWaits, without, waitOf}
@@ -25,7 +24,7 @@ use Rattle.trace.proofs.Queue.Line.{keep, Sorted, in-append, in-keep, k
 use Rattle.trace.proofs.Queue.Order.{queue-of, waits-keep, stands-strict, in-all-waits}
 use Rattle.trace.proofs.Queue.Places.{first-is, first-at, first-none, remove-pad}
 use Rattle.trace.proofs.Queue.Tasks.{notOf, without-keep, keep-others, keep-once, line-once, wait-of, wait-same}
-use Rattle.trace.proofs.Queue.Waiters.{line-fits, line-some, queue-waiters, waiters-append, keep-waiters}
+use Rattle.trace.proofs.Queue.Waiters.{line-fits, waiter-places, line-some, queue-waiters, waiters-append, keep-waiters}
 
 -- the receipts without a task's wait
 abbrev pub struck : ℕ → Receipts → Receipts
@@ -64,7 +63,7 @@ module _ (d : Manager) (t : Receipts) (v : Waits d t) where
         omega (
           arith,
           first-none (waitsFor id) (d .waiters) (queue-waiters d t v id e f ∙ ap waitersOf z),
-          ap length (v .queue) ∙ length-pad tasks (waitersOf (inLine t)) (line-fits d t v),
+          waiter-places d t v,
         )
 
     -- by where he stands in the line

@@ -15,6 +15,7 @@ use Rattle.manager.specs.declared.Manager.{Manager}
 use Rattle.manager.specs.declared.Waiter.{Waiter}
 use Rattle.manager.specs.declared.Order.{Order}
 use Rattle.manager.proofs.Laws.Appended.{by-case}
+use Rattle.manager.proofs.Laws.Queue.{length-pad}
 use Rattle.manager.specs.Lists.{In}
 use Rattle.trace.specs.Receipts.{Receipts, RegionEntry, Wait}
 use Rattle.trace.specs.Queue.{insertBy, waitsIn, queueOf, orders, standsBefore, inLine}
@@ -102,6 +103,10 @@ module _ (d : Manager) (t : Receipts) (v : Waits d t) where
 
   pub line-fits : length (waitersOf (inLine t)) ≤ tasks
   line-fits = omega (arith, line-length, few-waits)
+
+  -- the array has all its places
+  pub waiter-places : length (d .waiters) ≡ tasks
+  waiter-places = ap length (v .queue) ∙ length-pad tasks (waitersOf (inLine t)) line-fits
 
   pub line-some : (w : Wait) → In w (inLine t) → Current (t .regionDeletes) w × (1 ≤ w .task)
   line-some w m = let a = v .each w (in-all-waits t w .0 m) in (a .id-now, a .task-some)

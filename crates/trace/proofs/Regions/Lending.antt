@@ -5,14 +5,14 @@ use mathlib.Core.Bool.{Bool, true, false, cond}
 use mathlib.Core.List.{List, [], _∷_}
 use mathlib.Core.Option.{Option, none, some}
 use mathlib.Core.Logic.{inr}
-use Prim.Native.Nat.{ℕ, zero, suc, _<_}
+use Prim.Native.Nat.{ℕ}
 use native.Mathlib.Omega.{arith}
 use lib.Dec.{eqb}
 use borrow.Author.Tests.{eqb-true, eqb-false}
 use Rattle.manager.specs.Record.{slotOf}
 use Rattle.manager.specs.declared.Manager.{Manager}
 use Rattle.manager.specs.Lists.{In}
-use Rattle.trace.specs.Loans.{Loan, loan, loan+, enter, amend, Lent}
+use Rattle.trace.specs.Loans.{Loan, loan, enter}
 use Rattle.trace.specs.Receipts.{Receipts, RegionEntry, Wait, update, withLoans, withRegionDeletes}
 use Rattle.trace.specs.Queue.{urgentThan, waitsIn, queueOf, orderIn, orders, standsBefore, inLine}
 use Rattle.trace.proofs.Invariant.{WaitIs, Waits}
@@ -87,18 +87,6 @@ enter-some p k (loan a n ∷ l) =
     by-leb p a (λ (b : Bool). ¬ (cond b (loan p k ∷ loan a n ∷ l) (loan a n ∷ enter p k l) ≡ []))
     (λ h e. let z : _≡_ {A = ℕ} 0 1 = cc in omega arith)
     (λ h e. let z : _≡_ {A = ℕ} 0 1 = cc in omega arith)
-
--- so does one amended to have pages
-pub amend-some : (a k : ℕ) (l : List Loan) (m : ℕ) → Lent l a m → 0 < k → ¬ (amend a k l ≡ [])
-unfolding Lent amend
-amend-some a k [] m x z = absurd x
-amend-some a k (loan b n ∷ l) m x z =
-    by-eqb b a (λ (t : Bool). ¬ (cond t (loan+ b k l) (loan b n ∷ amend a k l) ≡ [])) (λ h. has k z)
-    (λ h e. let y : _≡_ {A = ℕ} 0 1 = cc in omega arith)
-  where
-    has : (k : ℕ) → 0 < k → ¬ (loan+ b k l ≡ [])
-    has zero z e = omega arith
-    has (suc k) z e = let y : _≡_ {A = ℕ} 0 1 = cc in omega arith
 
 -- ---- another object under an id that nobody waits for, and deletes that are the same where somebody waits
 

@@ -13,16 +13,16 @@ use Rattle.manager.specs.Sound.{soundLength}
 use Rattle.manager.specs.declared.Manager.{Manager}
 use Rattle.manager.specs.declared.Region.{Region}
 use Rattle.manager.specs.declared.Waiter.{Waiter}
+use Rattle.manager.proofs.Laws.Areas.{areaFor, Clear}
 use Rattle.trace.specs.Loans.{Loan}
 use Rattle.trace.specs.Receipts.{Receipts, RegionEntry, Wait, update, mapOption, withRegions, onRegion, withWaits, withLoans}
 use Rattle.trace.specs.Trace.{Object, region, partition}
 use Rattle.trace.proofs.Invariant.{Only, regionFor, RegionSlot, live, Picture}
 use Rattle.trace.proofs.Frame.{map-area}
-use Rattle.trace.proofs.Areas.{areaFor, areaIn, sound-clear, region-kept, partition-kept}
+use Rattle.trace.proofs.Areas.{areaIn, sound-clear, region-kept, partition-kept}
 use Rattle.trace.proofs.Loans.Tests.{by-eqb}
 use Rattle.trace.proofs.Map.{Steps}
 use Rattle.trace.proofs.Clients.{RegionAt, region-at}
-use Rattle.trace.proofs.Disjoint.{Clear}
 
 -- ---- an entry under an id
 

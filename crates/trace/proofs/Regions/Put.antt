@@ -12,12 +12,12 @@ use Rattle.manager.specs.Sound.{soundAreas}
 use Rattle.manager.specs.declared.Manager.{Manager}
 use Rattle.manager.specs.declared.Region.{Region}
 use Rattle.manager.proofs.Laws.Ids.{OfGeneration, put-there, put-empty, put-others}
+use Rattle.manager.proofs.Laws.Areas.{areaFor, Clear}
 use Rattle.trace.specs.Receipts.{Receipts, RegionEntry, update, withRegionDeletes}
 use Rattle.trace.specs.Trace.{Object, region, partition}
 use Rattle.trace.proofs.Invariant.{Only, RegionSlot, RegionSlotIs, Picture}
 use Rattle.trace.proofs.Slots.{slots-put}
-use Rattle.trace.proofs.Areas.{areaFor, areaIn, region-kept, partition-kept}
-use Rattle.trace.proofs.Disjoint.{Clear}
+use Rattle.trace.proofs.Areas.{areaIn, region-kept, partition-kept}
 use Rattle.trace.proofs.Loans.Tests.{by-eqb}
 use Rattle.trace.proofs.Regions.Picture.{words-same, registering}
 

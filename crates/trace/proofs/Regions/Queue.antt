@@ -3,7 +3,8 @@
 use mathlib.Core.Path.{_≡_, refl, sym, ap, _∙_}
 use mathlib.Core.Bool.{Bool, true, false, cond}
 use mathlib.Core.List.{List, [], _∷_, _++_}
-use Prim.Native.Nat.{ℕ, suc, _≤_}
+use mathlib.Core.Option.{some}
+use Prim.Native.Nat.{ℕ, suc, _≤_, _<_}
 use native.Mathlib.Omega.{arith}
 use lib.ListN.{length}
 use Rattle.manager.specs.Record.{tasks, regionOf}
@@ -14,7 +15,7 @@ use Rattle.manager.specs.declared.Region.{Region}
 use Rattle.manager.specs.Lists.{In}
 use Rattle.trace.specs.Loans.{Loan}
 use Rattle.trace.specs.Receipts.{Receipts, RegionEntry, Wait, withWaits}
-use Rattle.trace.specs.Queue.{waitsIn, queueOf, orderIn, urgentThan}
+use Rattle.trace.specs.Queue.{waitsIn, queueOf, inLine, orderIn, urgentThan}
 use Rattle.trace.specs.Replies.{lendsAny}
 use Rattle.trace.specs.Claims.{waiterOf}
 use Rattle.trace.proofs.Invariant.{WaitIs, Waits, Inv}
@@ -24,6 +25,7 @@ use Rattle.trace.proofs.Sound.{inv-sound}
 use Rattle.trace.proofs.Loans.Tests.{by-eqb}
 use Rattle.trace.proofs.Queue.Line.{length-line, true-false}
 use Rattle.trace.proofs.Queue.Enter.{waits-entered}
+use Rattle.trace.proofs.Queue.Order.{in-waits, queue-of, in-all-waits}
 use Rattle.trace.proofs.Queue.Sound.{Waitable, sound-queue}
 use Rattle.trace.proofs.Queue.Waiters.{few-waits, task-waits}
 use Rattle.trace.proofs.Regions.Live.{not-dead}
@@ -70,3 +72,9 @@ waits-fewer id (w ∷ ws) =
 pub few-queue : (d : Manager) (t : Receipts) (id : ℕ) (e : RegionEntry) → Waits d t → length (queueOf id e t) ≤ tasks
 few-queue d t id e v =
     omega (arith, length-line (urgentThan (e .order)) [] (waitsIn id (t .waits)), waits-fewer id (t .waits), few-waits d t v)
+
+-- each of a region's queue asks for something
+pub queue-asks : (d : Manager) (t : Receipts) → Waits d t → (id : ℕ) (e : RegionEntry) → t .regions id ≡ some e → (w : Wait) → In w (queueOf id e t) → 0 < w .size
+queue-asks d t v id e q w h =
+    let y : In w (t .waits) = in-all-waits t w .0 (in-waits id w (inLine t) .0 (rw (queue-of id e t q) at h) .0) in
+    v .each w y .size-some

@@ -17,12 +17,12 @@ use Rattle.manager.specs.declared.Place.{Place}
 use Rattle.manager.specs.declared.Wait.the-variants.{No}
 use Rattle.manager.specs.declared.Status.the-variants.{Successful, Unsatisfied}
 use Rattle.manager.specs.Lists.{In}
-use Rattle.trace.specs.Loans.{Lent, amend}
+use Rattle.trace.specs.Loans.{Loan, Lent, amend}
 use Rattle.trace.specs.Receipts.{Receipts, RegionEntry, PartitionEntry, Wait, Reply, unit, pagesIn, spanIn, addressIn, pageIn, pageLoans, buffersIn, pagesOver, Servable, reading}
 use Rattle.trace.specs.Queue.{queueOf}
 use Rattle.trace.specs.Replies.{no, yes, tells, informs, resizes, decided, grantsIn, informationIn, front, byReceipts, placeIn, mostIn}
 use Rattle.trace.specs.Claims.{Grants, Full, Takes}
-use Rattle.trace.proofs.Segments.{law, Regular, Places, takes, full, places, lent-some, pages-lent, room-lent, regular-returned}
+use Rattle.trace.proofs.Segments.{law, Regular, Places, takes, full, places, lent-some, pages-lent, room-lent, regular-returned, regular-resized}
 use Rattle.trace.proofs.Grants.{grants-are}
 use Rattle.trace.proofs.Loans.Tests.{by-leb}
 
@@ -67,7 +67,7 @@ module _ (n : ℕ) (t : Receipts) (id : ℕ) (e : RegionEntry) (q : t .regions i
   unfolding byReceipts
   information-by = rw q
 
-  -- A LOAN: its size, a resize, and a return
+  -- A LOAN: its size, a return, and a resize
   module _ (a k : ℕ) (x : Lent (e .loans) a k) where
     some-pages : ¬ (k ≡ 0)
     some-pages z = omega (arith, lent-some e g a k x)
@@ -76,28 +76,7 @@ module _ (n : ℕ) (t : Receipts) (id : ℕ) (e : RegionEntry) (q : t .regions i
     unfolding byReceipts decided
     size-by = rw (q, pages-lent e g a k x, ne-eqb k 0 some-pages)
 
-    resize-is : (size : ℕ) → 0 < size
-        → byReceipts n t (ResizeSegment id a size) ≡ resizes (leb (pagesOver e size) (mostIn e a)) (k * unit e)
-    unfolding byReceipts decided
-    resize-is size z = rw (ne-eqb size 0 (λ (y : size ≡ 0). omega arith), q, pages-lent e g a k x, ne-eqb k 0 some-pages)
-
-    pub resize-by : (size : ℕ) → 0 < size → (byReceipts n t (ResizeSegment id a size) .value ≡ k * unit e)
-        × ((byReceipts n t (ResizeSegment id a size) .status ≡ Unsatisfied) ↔ (¬ reading e .Room (spanIn e) (pageLoans e) (pageIn e a) k (pagesOver e size)))
-    resize-by size z =
-        rw (resize-is size z)
-        (by-leb (pagesOver e size) (mostIn e a)
-        (λ (b : Bool). (resizes b (k * unit e) .value ≡ k * unit e)
-        × ((resizes b (k * unit e) .status ≡ Unsatisfied) ↔ (¬ reading e .Room (spanIn e) (pageLoans e) (pageIn e a) k (pagesOver e size))))
-        (λ h. (
-          refl,
-          (
-            λ (y : Successful ≡ Unsatisfied). let u : _≡_ {A = ℕ} 0 1 = cc in absurd (omega arith),
-            λ f. absurd (f (room-lent e g a k size x .0 h)),
-          ),
-        ))
-        (λ h. (refl, (λ y r. omega (arith, room-lent e g a k size x .1 r), λ f. refl))))
-
-    return-is : byReceipts n t (ReturnSegment id a) ≡ tells (grantsIn e (amend a 0 (e .loans)) (queueOf id e t))
+    return-is : byReceipts n t (ReturnSegment id a) ≡ tells 0 (grantsIn e (amend a 0 (e .loans)) (queueOf id e t))
     unfolding byReceipts decided
     return-is = rw (q, pages-lent e g a k x, ne-eqb k 0 some-pages)
 
@@ -105,6 +84,45 @@ module _ (n : ℕ) (t : Receipts) (id : ℕ) (e : RegionEntry) (q : t .regions i
         → (byReceipts n t (ReturnSegment id a) .status ≡ Successful)
         × Grants e (amend a 0 (e .loans)) (queueOf id e t) (byReceipts n t (ReturnSegment id a) .notices)
     return-by h = rw return-is (refl, grants-are e (amend a 0 (e .loans)) (queueOf id e t) (regular-returned e g a k x) h)
+
+    -- a resize, by whether the loan can have the pages
+    module _ (size : ℕ) (z : 0 < size) where
+      abbrev refitted : List Loan
+      refitted = amend a (pagesOver e size) (e .loans)
+
+      abbrev by-room : Bool → Reply
+      by-room b = resizes b (k * unit e) (grantsIn e refitted (queueOf id e t))
+
+      resize-is : byReceipts n t (ResizeSegment id a size) ≡ by-room (leb (pagesOver e size) (mostIn e a))
+      unfolding byReceipts decided
+      resize-is = rw (ne-eqb size 0 (λ (y : size ≡ 0). omega arith), q, pages-lent e g a k x, ne-eqb k 0 some-pages)
+
+      pub resize-by : (byReceipts n t (ResizeSegment id a size) .value ≡ k * unit e)
+          × ((byReceipts n t (ResizeSegment id a size) .status ≡ Unsatisfied) ↔ (¬ reading e .Room (spanIn e) (pageLoans e) (pageIn e a) k (pagesOver e size)))
+      resize-by =
+          rw resize-is
+          (by-leb (pagesOver e size) (mostIn e a)
+          (λ (b : Bool). (by-room b .value ≡ k * unit e)
+          × ((by-room b .status ≡ Unsatisfied) ↔ (¬ reading e .Room (spanIn e) (pageLoans e) (pageIn e a) k (pagesOver e size))))
+          (λ h. (
+            refl,
+            (
+              λ (y : Successful ≡ Unsatisfied). let u : _≡_ {A = ℕ} 0 1 = cc in absurd (omega arith),
+              λ f. absurd (f (room-lent e g a k size x .0 h)),
+            ),
+          ))
+          (λ h. (refl, (λ y r. omega (arith, room-lent e g a k size x .1 r), λ f. refl))))
+
+      pub resize-serves-by : ((w : Wait) → In w (queueOf id e t) → 0 < w .size)
+          → ((byReceipts n t (ResizeSegment id a size) .status ≡ Unsatisfied) × (byReceipts n t (ResizeSegment id a size) .notices ≡ []))
+          ⊎ ((byReceipts n t (ResizeSegment id a size) .status ≡ Successful) × Grants e refitted (queueOf id e t) (byReceipts n t (ResizeSegment id a size) .notices))
+      resize-serves-by asks =
+          rw resize-is
+          (by-leb (pagesOver e size) (mostIn e a)
+          (λ (b : Bool). ((by-room b .status ≡ Unsatisfied) × (by-room b .notices ≡ []))
+          ⊎ ((by-room b .status ≡ Successful) × Grants e refitted (queueOf id e t) (by-room b .notices)))
+          (λ h. inr (refl, grants-are e refitted (queueOf id e t) (regular-resized e g a k size x h) asks))
+          (λ h. inl (refl, refl)))
 
 -- ---- the answers about a partition
 

@@ -19,12 +19,11 @@ use Rattle.manager.specs.declared.Manager.{Manager}
 use Rattle.manager.specs.declared.Region.{Region}
 use Rattle.manager.specs.declared.Partition.{Partition}
 use Rattle.manager.specs.declared.Area.{Area}
+use Rattle.manager.proofs.Laws.Areas.{areaFor, noArea, no-area, clear-flip, overlap-of}
 use Rattle.trace.specs.Receipts.{Receipts, RegionEntry, PartitionEntry}
 use Rattle.trace.specs.Replies.{vacant, has, firstSlot, anySlot, regionNow, partitionNow, newRegionSlot, newPartitionSlot, regionSlotOf, partitionSlotOf, shared, asked}
 use Rattle.trace.proofs.Invariant.{RegionSlot, PartitionSlot, Picture, empty, live}
 use Rattle.trace.proofs.Slots.{region-in, partition-in}
-use Rattle.trace.proofs.Areas.{areaFor, noArea, no-area}
-use Rattle.trace.proofs.Disjoint.{clear-flip, overlap-of}
 
 -- ---- a list by its places, and slots from k on
 

@@ -1,6 +1,6 @@
 -- `release_and_serve` meets its contract: the memory that the pages are freed in is the one that is served. Assumes nothing.
 use borrow.Author.Needs.{needs}
-use Rattle.segments.proofs.Return.{freeing}
+use Rattle.segments.proofs.Return.{freed-served}
 use Rattle.segments.proofs.allocation.release_and_serve.Statement.{statement}
 use Rattle.segments.proofs.allocation.release_and_serve.Tie as tie
 
@@ -10,6 +10,5 @@ release-and-serve-spec =
     (tie.spec
     (λ c κs. search needs)
     (λ c κs. search needs)
-    (λ c κs. search needs)
     (λ c. search needs)
-    (λ c. search (needs, freeing)))
+    (λ c. search (needs, freed-served)))

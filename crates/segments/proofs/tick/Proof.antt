@@ -1,8 +1,8 @@
 -- `tick` meets its contract: each exit is one of the definition. Assumes nothing.
-use Rattle.clock.proofs.Laws.{ticking}
 use borrow.Author.Needs.{needs}
-use Rattle.clock.proofs.tick.Statement.{statement}
-use Rattle.clock.proofs.tick.Tie as tie
+use Rattle.segments.proofs.Clock.{ticking}
+use Rattle.segments.proofs.tick.Statement.{statement}
+use Rattle.segments.proofs.tick.Tie as tie
 
 pub tick-spec : {M : Type 1} → statement M
 tick-spec =
@@ -11,6 +11,12 @@ tick-spec =
     (λ c κs. search (needs, ticking))
     (λ c κs. search (needs, ticking))
     (λ c. search (needs, ticking))
+    (λ c. search (needs, ticking))
     (λ c κs. search (needs, ticking))
     (λ c κs. search (needs, ticking))
+    (λ c. search (needs, ticking))
+    (λ c. search (needs, ticking))
+    (λ c κs. search (needs, ticking))
+    (λ c κs. search (needs, ticking))
+    (λ c. search (needs, ticking))
     (λ c. search (needs, ticking)))
