@@ -1,5 +1,6 @@
-/* What a firmware does with the library: a region with a task that waits and one whose time runs
- * out, a partition, taking both down again, and an old id that opens nothing. */
+/* What a firmware does with the library: a region with tasks that wait, whom a resize, a tick and a
+ * return serve or whose time runs out, a partition, taking both down again, and an old id that
+ * opens nothing. */
 #include <stdio.h>
 
 #include "steepleclay.h"
@@ -30,7 +31,9 @@ static void say_information(uint32_t region)
            (unsigned)answer(SC_ANSWER_HELD_LARGEST), (unsigned)answer(SC_ANSWER_HELD_TOTAL));
 }
 
-/* A frame of 960 bytes fills the region; tasks 5 and 3 get its pages when it is returned. */
+/* A frame of 960 bytes fills the region. Task 5 gets what the frame loses by a resize. When it is
+ * returned, task 7 is first and wants more; task 3 gets its part when a tick sends task 7 away, and
+ * task 8 when task 5 has returned its own. */
 static void segments(uint32_t region)
 {
     const uint32_t pixels[3] = {11, 22, 33};
@@ -53,12 +56,19 @@ static void segments(uint32_t region)
         scm_region_get_segment(&manager, region, 64, SC_WAIT, 5, 10, 0));
     say("task 6 waits one tick", scm_region_get_segment(&manager, region, 64, SC_WAIT, 6, 30, 1));
     say("tick", scm_clock_tick(&manager));
+    say("shrink the frame to 896 bytes", scm_region_resize_segment(&manager, region, frame, 896));
+    say("task 7 waits one tick for 960 bytes, before task 3",
+        scm_region_get_segment(&manager, region, 960, SC_WAIT, 7, 10, 1));
     say("return the frame", scm_region_return_segment(&manager, region, frame));
-    say("shrink task 3's to 100 bytes", scm_region_resize_segment(&manager, region, 128, 100));
+    say("tick", scm_clock_tick(&manager));
+    say("shrink task 3's to 100 bytes", scm_region_resize_segment(&manager, region, 64, 100));
     say_information(region);
     say("delete the region", scm_region_delete(&manager, region));
-    say("return task 5's", scm_region_return_segment(&manager, region, 64));
-    say("return task 3's", scm_region_return_segment(&manager, region, 128));
+    say("task 8 waits for 832 bytes",
+        scm_region_get_segment(&manager, region, 832, SC_WAIT, 8, 20, 0));
+    say("return task 5's", scm_region_return_segment(&manager, region, 960));
+    say("return task 3's", scm_region_return_segment(&manager, region, 64));
+    say("return task 8's", scm_region_return_segment(&manager, region, 192));
 }
 
 static void buffers(uint32_t partition)

@@ -62,13 +62,14 @@ extern "C" {
 #define STEEPLECLAY_RECORD_VERSION 2
 
 /*
- * The stack that a call needs: 11 KB were measured, rounded up here. tests/stack/run measures it:
+ * The stack that a call needs: 12 KB were measured, rounded up here. tests/stack/run measures it:
  * each function is called on a stack filled with a pattern, with fresh, full and damaged records,
  * and the deepest word that was written counts.
  */
 #define SC_STACK_BYTES 16384u
 
-/* Where things stand in an answer. */
+/* Where things stand in an answer. A return, a resize and a tick have notices, of each task at most
+ * one. */
 #define SC_ANSWER_VALUE 0u      /* id, address or length, by the call; 0 where it has none */
 #define SC_ANSWER_FREE_COUNT 1u /* scm_region_get_information: the free segments .. */
 #define SC_ANSWER_FREE_LARGEST 2u
@@ -201,7 +202,9 @@ static inline uint32_t scm_region_get_segment_size(sc_manager *m, uint32_t id, u
     return sc_region_get_segment_size(SC_OF(m), id, address);
 }
 
-/* Shrinks or grows a held segment in place. Value: the old length, with SC_UNSATISFIED too.
+/* Shrinks or grows a held segment in place and then serves the queue, also where the segment keeps
+ * its pages: notices say who holds what now. With SC_UNSATISFIED nobody is served. Value: the old
+ * length, with SC_UNSATISFIED too.
  * Statuses: SC_SUCCESSFUL, SC_INVALID_ID, SC_INVALID_SIZE, SC_INVALID_ADDRESS, SC_UNSATISFIED. */
 static inline uint32_t scm_region_resize_segment(sc_manager *m, uint32_t id, uint32_t address,
                                                  uint32_t size)
@@ -258,7 +261,8 @@ static inline uint32_t scm_partition_return_buffer(sc_manager *m, uint32_t id, u
 }
 
 /* The clock: each task that waits with ticks left loses one, and at 0 leaves with a notice of
- * SC_TIMEOUT.
+ * SC_TIMEOUT. Where anyone left, the queue of every region is served then, the lowest slot first:
+ * the notices of those who hold something now come behind all of SC_TIMEOUT.
  * Statuses: SC_SUCCESSFUL. */
 static inline uint32_t scm_clock_tick(sc_manager *m)
 {

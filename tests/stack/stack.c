@@ -1,9 +1,10 @@
 /* Measures the stack that a call needs. Each function is called on a stack of its own that is
  * filled with a pattern; what lies from the stack's top down to the deepest word that lost the
  * pattern was used, by the call and by the few words of this program that make it. The records are
- * fresh, full with 16 waiters whom one return serves, nearly full, and damaged. The functions come
- * from the header (calls.h, which `run` makes of it): a parameter is given the variable of its
- * name. Prints the most that each function used; fails where one needs more than SC_STACK_BYTES. */
+ * fresh, full with 16 waiters whom one return or resize serves, full with 16 of whom one tick sends
+ * some away and serves the others, nearly full, and damaged. The functions come from the header
+ * (calls.h, which `run` makes of it): a parameter is given the variable of its name. Prints the
+ * most that each function used; fails where one needs more than SC_STACK_BYTES. */
 #define _XOPEN_SOURCE 600
 #include <stdio.h>
 #include <string.h>
@@ -28,7 +29,8 @@ static const uint32_t task = 16, priority = 9, ticks = 9, first = 0;
 static uint32_t words[4];
 static const size_t words_count = 4;
 
-#define ARGUMENTS 3
+#define KINDS 6     /* of records */
+#define ARGUMENTS 3 /* and of arguments */
 
 /* 0: a new object, and an object of which nothing is held; 1: a name that is there, a get that may
  * wait, what is held of region 1; 2: what is held of partition 1. */
@@ -75,6 +77,17 @@ static void fill(uint32_t waiters, uint32_t room)
         scm_region_get_segment(&desk, 1, 8, SC_WAIT, i, i, 1);
 }
 
+/* The same with 16 waiters of whom one tick sends 4 away and serves 12: those 4 are the first, wait
+ * one tick and want a page more than the 12 that are free then; the others want a page each. */
+static void fill_for_tick(void)
+{
+    fill(0, 0);
+    for (uint32_t i = 1; i <= SC_TASKS; i++)
+        scm_region_get_segment(&desk, 1, i <= 4 ? 13 * 8 : 8, SC_WAIT, i, i, i <= 4 ? 1 : 9);
+    scm_region_get_segment_size(&desk, 1, held);
+    scm_region_resize_segment(&desk, 1, held, desk.answer[SC_ANSWER_VALUE] - 12 * 8);
+}
+
 /* The bytes of stack that a call uses, this program's own part included. */
 static uint32_t used_by(void (*make)(void))
 {
@@ -98,15 +111,17 @@ static uint32_t most_of(void (*make)(void))
 {
     uint32_t most = 0;
 
-    for (uint32_t turn = 0; turn < 5 * ARGUMENTS; turn++) {
-        const uint32_t kind = turn % 5;
+    for (uint32_t turn = 0; turn < KINDS * ARGUMENTS; turn++) {
+        const uint32_t kind = turn % KINDS;
         uint32_t used;
         fill(kind == 1 ? 15 : 16, kind == 2); /* 1: a place for one waiter more; 2: empty slots */
         if (kind == 3)
             memory[1] = 0xffffffffu; /* region 1's map */
         if (kind == 4)
             memset(desk.record, 0, sizeof desk.record);
-        choose(turn / 5);
+        if (kind == 5)
+            fill_for_tick();
+        choose(turn / KINDS);
         used = used_by(make);
         most = used > most ? used : most;
     }

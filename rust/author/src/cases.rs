@@ -1,12 +1,33 @@
-//! Cases that a comparison has to reach, of ids, generations and page counts,
-//! and how to tell that a call is one.
+//! Cases that a comparison has to reach, of ids, generations, page counts and
+//! serving, and how to tell that a call is one.
 
 use directives::words::*;
 use directives::Directive::*;
 use directives::{Answer, Call, Directive, SCRIPT};
 use model::Model;
+use std::cmp::Ordering;
 use std::fmt;
 use Case::*;
+
+/// How many pages a resize leaves to a segment.
+#[derive(Clone, Copy, Debug, PartialEq, Eq, PartialOrd, Ord)]
+pub enum Pages {
+    Fewer,
+    Same,
+    More,
+}
+
+impl Pages {
+    pub const ALL: [Pages; 3] = [Pages::Fewer, Pages::Same, Pages::More];
+
+    fn title(self) -> &'static str {
+        match self {
+            Pages::Fewer => "fewer pages",
+            Pages::Same => "as many pages",
+            Pages::More => "more pages",
+        }
+    }
+}
 
 #[derive(Clone, Copy, Debug, PartialEq, Eq, PartialOrd, Ord)]
 pub enum Case {
@@ -17,9 +38,11 @@ pub enum Case {
     Earlier(Directive),
     /// .. or a later one.
     Later(Directive),
-    /// The notices of a tick come from two regions, and the one in the lower
-    /// slot has the higher id.
+    /// The time-outs of a tick come from two regions, and the one in the lower
+    /// slot has the higher id ..
     SlotsBeforeIds,
+    /// .. or its grants.
+    GrantsBySlots,
     /// A new region has as many pages as its length divided by the size of a
     /// page and a word ..
     AllPages,
@@ -31,6 +54,28 @@ pub enum Case {
     PassesSpent(Directive),
     /// A create has too many, though a slot is empty: it is spent.
     OnlySpent(Directive),
+    /// A resize serves ..
+    ResizeServes(Pages),
+    /// .. more than one ..
+    ResizeServesMore,
+    /// .. or nobody, though tasks wait in its region.
+    ResizeBlocked(Pages),
+    /// A resize is refused for want of room while tasks wait in its region ..
+    ResizeRefused,
+    /// .. and there is room for the first of them.
+    ResizeRefusedBesideRoom,
+    /// A tick sends tasks away and serves ..
+    TickServes,
+    /// .. in two regions ..
+    TickServesTwo,
+    /// .. in a region that nobody was sent away from ..
+    TickServesOther,
+    /// .. or nobody, though others wait.
+    TickBlocked,
+    /// A tick sends nobody away, though tasks wait ..
+    TickQuiet,
+    /// .. and there is room for the first of a region.
+    TickQuietBesideRoom,
 }
 
 impl Case {
@@ -46,6 +91,13 @@ impl Case {
         for create in [CreateRegion, CreatePartition] {
             cases.extend([PassesSpent(create), OnlySpent(create)]);
         }
+        // After a list of calls there is no room for a first waiter.
+        cases.extend([Pages::Same, Pages::More].map(ResizeServes));
+        cases.extend([
+            ResizeRefusedBesideRoom,
+            TickServesOther,
+            TickQuietBesideRoom,
+        ]);
         cases
     }
 
@@ -54,7 +106,17 @@ impl Case {
         let with_id = directives.iter().copied().filter(|of| of.has_id());
         let mut cases = answer_ids.map(UsedAgain).to_vec();
         cases.extend(with_id.flat_map(|directive| [Earlier(directive), Later(directive)]));
-        cases.extend([SlotsBeforeIds, AllPages, OneLess]);
+        cases.extend([SlotsBeforeIds, GrantsBySlots, AllPages, OneLess]);
+        cases.extend(Pages::ALL.map(ResizeBlocked));
+        cases.extend([
+            ResizeServes(Pages::Fewer),
+            ResizeServesMore,
+            ResizeRefused,
+            TickServes,
+            TickServesTwo,
+            TickBlocked,
+            TickQuiet,
+        ]);
         cases
     }
 }
@@ -66,29 +128,46 @@ impl fmt::Display for Case {
             Earlier(of) => write!(out, "{}: refused for an earlier generation", of.name()),
             Later(of) => write!(out, "{}: refused for a later generation", of.name()),
             SlotsBeforeIds => write!(out, "tick: the lower slot first, with the higher id"),
+            GrantsBySlots => write!(out, "tick: serves the lower slot first, with the higher id"),
             AllPages => write!(out, "{}: as many pages as divided", CreateRegion.name()),
             OneLess => write!(out, "{}: one page less than divided", CreateRegion.name()),
             Spends(of) => write!(out, "{}: leaves a spent slot", of.name()),
             PassesSpent(of) => write!(out, "{}: takes a slot above a spent one", of.name()),
             OnlySpent(of) => write!(out, "{}: status 5 with a spent slot", of.name()),
+            ResizeServes(pages) => write!(out, "resize: {}, serves", pages.title()),
+            ResizeServesMore => write!(out, "resize: serves more than one"),
+            ResizeBlocked(pages) => {
+                write!(out, "resize: {}, nobody of the queue fits", pages.title())
+            }
+            ResizeRefused => write!(out, "resize: status 13 with a queue"),
+            ResizeRefusedBesideRoom => write!(out, "resize: status 13, and the first fits"),
+            TickServes => write!(out, "tick: serves behind its time-outs"),
+            TickServesTwo => write!(out, "tick: serves in two regions"),
+            TickServesOther => write!(out, "tick: serves where nobody was sent away"),
+            TickBlocked => write!(out, "tick: time-outs, and nobody of the others fits"),
+            TickQuiet => write!(out, "tick: no time-out, and tasks wait"),
+            TickQuietBesideRoom => write!(out, "tick: no time-out, and a first one fits"),
         }
     }
 }
 
-/// The ids before a call.
-pub struct Ids {
+/// The ids and the queues before a call.
+pub struct Before {
     regions: Vec<(u32, bool)>,
     partitions: Vec<(u32, bool)>,
     /// The waiting tasks with their regions' ids.
     waiting: Vec<(u32, u32)>,
+    /// The regions with room for the first in their queue.
+    to_serve: Vec<u32>,
 }
 
-impl Ids {
-    pub fn new(model: &Model) -> Ids {
-        Ids {
+impl Before {
+    pub fn new(model: &Model) -> Before {
+        Before {
             regions: model.region_slots(),
             partitions: model.partition_slots(),
             waiting: model.waiting(),
+            to_serve: model.regions_to_serve(),
         }
     }
 
@@ -103,7 +182,12 @@ impl Ids {
             }
             CreatePartition => self.of_create(directive, answer),
             IdentRegion | IdentPartition => vec![(answer.value >= ID_STEP, UsedAgain(directive))],
-            Tick => vec![(self.is_by_slots(answer), SlotsBeforeIds)],
+            Tick => self.of_tick(answer, after),
+            Resize => {
+                let mut cases = self.of_id(directive, call.arguments()[0], answer);
+                cases.extend(self.of_resize(call, answer, after));
+                cases
+            }
             _ if directive.has_id() => self.of_id(directive, call.arguments()[0], answer),
             _ => vec![],
         };
@@ -152,17 +236,69 @@ impl Ids {
         ]
     }
 
-    /// Whether regions get their notices in an order that is not that of ids.
-    fn is_by_slots(&self, answer: &Answer) -> bool {
+    fn of_resize(&self, resize: &Call, answer: &Answer, after: &Model) -> Vec<(bool, Case)> {
+        let (id, size) = (resize.arguments()[0], resize.arguments()[2]);
+        let mut waiting = self.waiting.iter();
+        let Some((page, _)) = after.pages(id).filter(|_| waiting.any(|(_, of)| *of == id)) else {
+            return vec![];
+        };
+        // The value is the old length.
+        let pages = match size.div_ceil(page).cmp(&(answer.value / page)) {
+            Ordering::Less => Pages::Fewer,
+            Ordering::Equal => Pages::Same,
+            Ordering::Greater => Pages::More,
+        };
+        let is_done = answer.status == status::SUCCESSFUL;
+        let is_refused = answer.status == status::UNSATISFIED;
+        let served = answer.notices.len();
+        vec![
+            (is_done && served > 0, ResizeServes(pages)),
+            (is_done && served > 1, ResizeServesMore),
+            (is_done && served == 0, ResizeBlocked(pages)),
+            (is_refused, ResizeRefused),
+            (
+                is_refused && self.to_serve.contains(&id),
+                ResizeRefusedBesideRoom,
+            ),
+        ]
+    }
+
+    fn of_tick(&self, answer: &Answer, after: &Model) -> Vec<(bool, Case)> {
+        let away = self.regions_of(answer, status::TIMEOUT);
+        let served = self.regions_of(answer, status::SUCCESSFUL);
+        let others_wait = !after.waiting().is_empty();
+        let is_quiet = away.is_empty();
+        let is_served = !served.is_empty();
+        vec![
+            (is_by_slots(&away), SlotsBeforeIds),
+            (is_by_slots(&served), GrantsBySlots),
+            (!is_quiet && is_served, TickServes),
+            (served.windows(2).any(|two| two[0] != two[1]), TickServesTwo),
+            (
+                served.iter().any(|region| !away.contains(region)),
+                TickServesOther,
+            ),
+            (!is_quiet && !is_served && others_wait, TickBlocked),
+            (is_quiet && others_wait, TickQuiet),
+            (is_quiet && !self.to_serve.is_empty(), TickQuietBesideRoom),
+        ]
+    }
+
+    /// The ids of the regions in which the tasks of a status waited, by notice.
+    fn regions_of(&self, answer: &Answer, status: u32) -> Vec<u32> {
         let region_of = |task: u32| {
             let mut waiting = self.waiting.iter();
             waiting.find(|(waits, _)| *waits == task).map(|(_, id)| *id)
         };
-        let notices = answer.notices.iter();
-        let ids: Vec<u32> = notices.filter_map(|n| region_of(n.task)).collect();
-        ids.windows(2)
-            .any(|two| slot_of(two[0]) < slot_of(two[1]) && two[0] > two[1])
+        let notices = answer.notices.iter().filter(|n| n.status == status);
+        notices.filter_map(|n| region_of(n.task)).collect()
     }
+}
+
+/// Whether regions get their notices in an order that is not that of ids.
+fn is_by_slots(ids: &[u32]) -> bool {
+    ids.windows(2)
+        .any(|two| slot_of(two[0]) < slot_of(two[1]) && two[0] > two[1])
 }
 
 /// How a new region's page count stands to the division.
@@ -185,9 +321,9 @@ mod tests {
         let mut all = Vec::new();
         for (directive, arguments) in calls {
             let call = directive.call(arguments);
-            let ids = Ids::new(model);
+            let before = Before::new(model);
             let answer = model.call(&call);
-            all.push(ids.cases(&call, &answer, model));
+            all.push(before.cases(&call, &answer, model));
         }
         all
     }
@@ -256,5 +392,100 @@ mod tests {
         ];
         let expected = [vec![AllPages], vec![], vec![OneLess], vec![OneLess]];
         assert_eq!(cases(&mut Model::fresh(), &calls), expected);
+    }
+
+    /// Fourteen pages from 1,088 on, and fourteen from 2,112 on.
+    const A: (Directive, &[u32]) = (CreateRegion, &[1, 1_024, 1_020, 64, 0]);
+    const B: (Directive, &[u32]) = (CreateRegion, &[2, 2_048, 1_020, 64, 0]);
+
+    #[test]
+    fn cases_of_resizes() {
+        let mut model = Model::fresh();
+        cases(&mut model, &[A, (Get, &[1, 896, 0, 0, 0, 0])]);
+        let calls: [(_, &[u32]); 10] = [
+            (Resize, &[1, 1_088, 896]),
+            (Get, &[1, 192, 1, 1, 1, 0]),
+            (Get, &[1, 64, 1, 2, 1, 0]),
+            (Get, &[1, 896, 1, 3, 1, 0]),
+            (Resize, &[1, 1_088, 896]),
+            (Resize, &[1, 1_088, 768]),
+            (Resize, &[1, 1_088, 832]),
+            (Resize, &[1, 1_088, 897]),
+            (Resize, &[1, 1_088, 640]),
+            (Resize, &[1, 1_088, 576]),
+        ];
+        let mut expected = vec![vec![]; calls.len()];
+        expected[4] = vec![ResizeBlocked(Pages::Same)];
+        expected[5] = vec![ResizeBlocked(Pages::Fewer)];
+        expected[6] = vec![ResizeBlocked(Pages::More)];
+        expected[7] = vec![ResizeRefused];
+        expected[8] = vec![ResizeServes(Pages::Fewer), ResizeServesMore];
+        expected[9] = vec![ResizeBlocked(Pages::Fewer)];
+        assert_eq!(cases(&mut model, &calls), expected);
+    }
+
+    #[test]
+    fn cases_of_ticks() {
+        let mut model = Model::fresh();
+        cases(&mut model, &[A, B, (DeleteRegion, &[1]), A]);
+        let calls: [(_, &[u32]); 16] = [
+            (Get, &[2, 768, 0, 0, 0, 0]),
+            (Get, &[2, 128, 0, 0, 0, 0]),
+            (Get, &[17, 768, 0, 0, 0, 0]),
+            (Get, &[17, 128, 0, 0, 0, 0]),
+            (Tick, &[]),
+            (Get, &[2, 192, 1, 1, 1, 2]),
+            (Get, &[17, 192, 1, 2, 1, 2]),
+            (Get, &[2, 64, 1, 3, 1, 0]),
+            (Get, &[17, 64, 1, 4, 1, 0]),
+            (Tick, &[]),
+            (Return, &[2, 2_880]),
+            (Return, &[17, 1_856]),
+            (Tick, &[]),
+            (Get, &[2, 896, 1, 5, 1, 0]),
+            (Get, &[2, 896, 1, 6, 1, 1]),
+            (Tick, &[]),
+        ];
+        let mut expected = vec![vec![]; calls.len()];
+        expected[9] = vec![TickQuiet];
+        expected[12] = vec![SlotsBeforeIds, GrantsBySlots, TickServes, TickServesTwo];
+        expected[15] = vec![TickBlocked];
+        assert_eq!(cases(&mut model, &calls), expected);
+    }
+
+    /// Cases beside room for a first waiter.
+    #[test]
+    fn cases_that_no_list_of_calls_reaches() {
+        let mut model = Model::fresh();
+        cases(&mut model, &[A, B, (Get, &[1, 64, 0, 0, 0, 0])]);
+        for (task, (directive, arguments), expected) in [
+            (
+                1,
+                (Resize, &[1, 1_088, 65][..]),
+                vec![ResizeServes(Pages::More)],
+            ),
+            (
+                2,
+                (Resize, &[1, 1_088, 128]),
+                vec![ResizeServes(Pages::Same)],
+            ),
+            (
+                3,
+                (Resize, &[1, 1_088, 129]),
+                vec![ResizeRefused, ResizeRefusedBesideRoom],
+            ),
+            (4, (Tick, &[]), vec![TickQuiet, TickQuietBesideRoom]),
+        ] {
+            model.put_waiter([task, 1, 64, 1, 0]);
+            let found = cases(&mut model, &[(directive, arguments)]);
+            assert_eq!(found, [expected]);
+        }
+        let calls: [(_, &[u32]); 3] = [
+            (Get, &[2, 896, 0, 0, 0, 0]),
+            (Get, &[2, 896, 1, 5, 1, 1]),
+            (Tick, &[]),
+        ];
+        let expected = [vec![], vec![], vec![TickServes, TickServesOther]];
+        assert_eq!(cases(&mut model, &calls), expected);
     }
 }

@@ -87,7 +87,10 @@ impl Author<'_> {
             }
             ["id", "address"] => self.segment().to_vec(),
             ["id", "address", "size"] => {
-                let [id, address] = self.segment();
+                let [id, address] = match self.random.chance(50) {
+                    true => self.waited_segment(),
+                    false => self.segment(),
+                };
                 vec![id, address, self.new_size(id, address)]
             }
             ["id", "address", "first"] => return self.write(),
@@ -214,6 +217,16 @@ impl Author<'_> {
         ids.retain(|&id| self.model.segments(id).iter().any(|segment| segment.held));
         match ids[..] {
             [] => self.region_id(),
+            _ => self.id(&ids, &self.model.region_slots()),
+        }
+    }
+
+    /// The id of a region in which tasks wait, if there is one.
+    fn waited_region(&mut self) -> u32 {
+        let waiting = self.model.waiting();
+        let ids: Vec<u32> = waiting.iter().map(|(_, id)| *id).collect();
+        match ids[..] {
+            [] => self.busy_region(),
             _ => self.id(&ids, &self.model.region_slots()),
         }
     }
@@ -410,6 +423,16 @@ impl Author<'_> {
     /// The id of a region and mostly the address of one of its held segments.
     fn segment(&mut self) -> [u32; 2] {
         let id = self.busy_region();
+        self.segment_of(id)
+    }
+
+    /// The same of a region in which tasks wait.
+    fn waited_segment(&mut self) -> [u32; 2] {
+        let id = self.waited_region();
+        self.segment_of(id)
+    }
+
+    fn segment_of(&mut self, id: u32) -> [u32; 2] {
         let held = self.model.segments_held(id, true);
         match self.random.pick_any(&held) {
             Some(segment) if !self.is_odd() => [id, segment.address],

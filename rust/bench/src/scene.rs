@@ -162,10 +162,10 @@ impl Builder {
     }
 
     /// Adds a waiter; regions must come by rising index.
-    fn waiter(&mut self, index: u32, pages: u32) {
+    fn waiter(&mut self, index: u32, pages: u32, ticks: u32) {
         let (_, _, page) = self.load.region_shape(index);
         let task = self.waiters as u32 + 1;
-        let place = [task, id_of(index as usize, 0), pages * page, 5, 9];
+        let place = [task, id_of(index as usize, 0), pages * page, 5, ticks];
         self.record[waiter_at(self.waiters)..][..WAITER_WORDS].copy_from_slice(&place);
         self.waiters += 1;
     }
@@ -189,6 +189,11 @@ impl Builder {
     }
 }
 
+/// The waiters of full tables.
+const FULL_QUEUE: u32 = 15;
+/// Ticks that a waiter has left, where it is not sent away.
+const MANY_TICKS: u32 = 9;
+
 /// The name of the object with an index; no two are the same.
 fn name_of(index: u32) -> u32 {
     100 + index
@@ -202,7 +207,7 @@ enum Target {
 }
 
 /// The rows, in the order of the table.
-pub const ROWS: [&str; 18] = [
+pub const ROWS: [&str; 20] = [
     "region create",
     "region ident",
     "region delete",
@@ -212,6 +217,7 @@ pub const ROWS: [&str; 18] = [
     "return segment, serves one",
     "segment size",
     "resize segment",
+    "resize segment, serves one",
     "region information",
     "partition create",
     "partition ident",
@@ -219,6 +225,7 @@ pub const ROWS: [&str; 18] = [
     "get buffer",
     "return buffer",
     "clock tick",
+    "clock tick, sends one away, serves one",
     "segment read, 2 words",
     "segment write, 2 words",
 ];
@@ -266,26 +273,27 @@ pub fn scene(row: &'static str, load: Load) -> Scene {
         }
     }
 
-    // The waiters: all want all pages, so that none is served, but for the
-    // one that is to be.
+    // The waiters: all want all pages and have ticks left, so that none is
+    // served or sent away, but for those that are to be.
     let last_can_wait = builder.record[region_at(last as usize) + NAME] != 0
         && !(target == Target::Region && fill == Fill::Free);
+    let all = builder.pages(last);
+    let queue = match row {
+        _ if !last_can_wait => vec![],
+        "clock tick, sends one away, serves one" => vec![(all, 1), (1, MANY_TICKS)],
+        _ if row.ends_with("serves one") => vec![(1, MANY_TICKS)],
+        "clock tick" => vec![(all, MANY_TICKS)],
+        _ if load.is_full() => vec![(all, MANY_TICKS)],
+        _ => vec![],
+    };
     if load.is_full() {
-        let total = 15;
-        let before_last = if last_can_wait { total - 1 } else { total };
-        for waiter in 0..before_last {
+        for waiter in 0..FULL_QUEUE - queue.len() as u32 {
             let index = (waiter / 2).min(last - 1);
-            builder.waiter(index, builder.pages(index));
+            builder.waiter(index, builder.pages(index), MANY_TICKS);
         }
-        if last_can_wait {
-            let serves = row == "return segment, serves one";
-            let pages = if serves { 1 } else { builder.pages(last) };
-            builder.waiter(last, pages);
-        }
-    } else if row == "return segment, serves one" {
-        builder.waiter(last, 1);
-    } else if row == "clock tick" {
-        builder.waiter(last, builder.pages(last));
+    }
+    for (pages, ticks) in queue {
+        builder.waiter(last, pages, ticks);
     }
 
     let (start, length, page) = load.region_shape(last);
@@ -320,7 +328,7 @@ pub fn scene(row: &'static str, load: Load) -> Scene {
         "get segment, waits" => (get(builder.pages(last), 1), 255),
         "return segment" | "return segment, serves one" => (Call::Return { id, address }, 0),
         "segment size" => (Call::Size { id, address }, 0),
-        "resize segment" => (
+        "resize segment" | "resize segment, serves one" => (
             Call::Resize {
                 id,
                 address,
@@ -354,7 +362,7 @@ pub fn scene(row: &'static str, load: Load) -> Scene {
             let address = builder.held_buffer(last);
             (Call::ReturnBuffer { id, address }, 0)
         }
-        "clock tick" => (Call::Tick, 0),
+        "clock tick" | "clock tick, sends one away, serves one" => (Call::Tick, 0),
         "segment read, 2 words" => (Call::Read { id, address }, page as usize / 4),
         "segment write, 2 words" => (
             Call::Write {
@@ -402,14 +410,18 @@ mod tests {
                     _ => answer.status as usize,
                 };
                 assert_eq!(returned, scene.returned, "{row}, {}", load.name());
-                let served = usize::from(row == "return segment, serves one");
-                assert_eq!(answer.notices.len(), served, "{row}, {}", load.name());
+                let told: Vec<u32> = answer.notices.iter().map(|n| n.status).collect();
+                let expected = match row {
+                    "clock tick, sends one away, serves one" => vec![6, 0],
+                    _ if row.ends_with("serves one") => vec![0],
+                    _ => vec![],
+                };
+                assert_eq!(told, expected, "{row}, {}", load.name());
                 if load.is_full() {
                     let waiting = model.waiting_tasks().len();
                     let expected = match row {
                         "get segment, waits" => 16,
-                        "return segment, serves one" => 14,
-                        _ => 15,
+                        _ => 15 - told.len(),
                     };
                     assert_eq!(waiting, expected, "{row}, {}", load.name());
                 }

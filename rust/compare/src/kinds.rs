@@ -12,6 +12,7 @@ pub enum Kind {
     Mixed,
     Refused,
     Waiting,
+    Serving,
     Partitions,
     Resizing,
     ManySegments,
@@ -38,6 +39,7 @@ impl Kind {
             Kind::Mixed => "mixed calls",
             Kind::Refused => "refused calls",
             Kind::Waiting => "waiting and ticks",
+            Kind::Serving => "serving",
             Kind::Partitions => "partitions",
             Kind::Resizing => "resizing",
             Kind::ManySegments => "many segments",
@@ -61,9 +63,10 @@ impl Kind {
 }
 
 /// The kinds in turn. Those with more to find come more often.
-pub const ROUND: [Kind; 46] = [
+pub const ROUND: [Kind; 49] = [
     Kind::Mixed,
     Kind::Waiting,
+    Kind::Serving,
     Kind::Refused,
     Kind::Partitions,
     Kind::Resizing,
@@ -87,6 +90,7 @@ pub const ROUND: [Kind; 46] = [
     Kind::AtLimit,
     Kind::Mixed,
     Kind::Waiting,
+    Kind::Serving,
     Kind::Refused,
     Kind::Slots,
     Kind::Resizing,
@@ -98,6 +102,7 @@ pub const ROUND: [Kind; 46] = [
     Kind::ManySegments,
     Kind::Mixed,
     Kind::Waiting,
+    Kind::Serving,
     Kind::Refused,
     Kind::Partitions,
     Kind::Generations,
@@ -156,6 +161,7 @@ fn good_script(kind: Kind, random: &mut Random) -> Option<Vec<u8>> {
         Kind::Mixed => mixed(&mut script),
         Kind::Refused => refused(&mut script),
         Kind::Waiting => waiting(&mut script),
+        Kind::Serving => serving(&mut script),
         Kind::Partitions => partitions(&mut script),
         Kind::Resizing => resizing(&mut script),
         Kind::ManySegments => many_segments(&mut script),
@@ -261,6 +267,24 @@ fn waiting(script: &mut Script) {
         (1, One(DeleteRegion)),
         (1, ClearRegion),
         (1, One(CreateRegion)),
+    ]);
+}
+
+/// Tasks behind a first one who does not fit, in several regions, until a
+/// resize makes room or a tick sends the first one away.
+fn serving(script: &mut Script) {
+    script.style.odd = script.random.pick(&[0, 0, 3]);
+    script.style.longest = script.random.pick(&[300, 1_000, 3_000]);
+    script.style.waits = 90;
+    script.repeat(2, 6, One(CreateRegion));
+    script.fill(&[
+        (8, BlockedQueue),
+        (8, One(Tick)),
+        (8, One(Resize)),
+        (4, One(Get)),
+        (4, One(Return)),
+        (2, RenewRegion),
+        (1, One(Information)),
     ]);
 }
 

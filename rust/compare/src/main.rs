@@ -29,7 +29,7 @@ Usage: compare PROGRAM SECOND [--seed N] [--scripts N]
 
 The examples of the rules run first. At the first difference the script and
 both outputs are shown. At the end the scripts, statuses, bad lines and cases of
-ids and page counts are counted.
+ids, page counts and serving are counted.
 
 Exit code 0: no difference, and everything that should occur did.
 Exit code 1: a difference, a program that failed, or something never occurred.
@@ -114,8 +114,7 @@ fn compare(programs: &[String; 2], seed: u64, scripts: u64) -> Result<String, St
     let tell = |title: &str, script: &[u8], problem: String| {
         format!("{title}:\n{}\n{problem}\n", shown(script))
     };
-    let of_scripts = |example: &Example| example.generation == 0;
-    for example in examples::all().into_iter().filter(of_scripts) {
+    for example in examples::all().into_iter().filter(Example::is_of_scripts) {
         let script = script_of(&example);
         agreed_output(programs, &script)
             .map_err(|problem| tell(&format!("Example {}", example.title), &script, problem))?;

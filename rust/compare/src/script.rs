@@ -5,6 +5,7 @@
 //! that are compared run on their own.
 
 use author::{Author, Random, Style, EDGES};
+use directives::words::TASKS;
 use directives::{is_choice, Answer, Call, Directive, MAX_SCRIPT, SCRIPT};
 use model::Model;
 
@@ -28,6 +29,9 @@ pub enum Step {
     /// Such a get that is then cut down to one page, so that a small free
     /// segment stays behind it.
     TrimmedGet,
+    /// Tasks that wait in a region of which all was held, and a part of it
+    /// given back: too little for the first of them, who waits a few ticks.
+    BlockedQueue,
     /// Returning all that a region holds, and deleting it.
     ClearRegion,
     /// Returning all that a partition holds, and deleting it.
@@ -115,6 +119,7 @@ impl Script {
             Step::Edges => self.edges(),
             Step::LittleGet => drop(self.little_get()),
             Step::TrimmedGet => self.trimmed_get(),
+            Step::BlockedQueue => drop(self.blocked_queue()),
             Step::ClearRegion => {
                 let id = self.author().busy_region();
                 self.clear_region(id);
@@ -175,6 +180,42 @@ impl Script {
             let size = self.random.between(1, page);
             self.add(Call::Resize { id, address, size });
         }
+    }
+
+    fn blocked_queue(&mut self) -> Option<()> {
+        let id = self.author().region_id();
+        let (page, pages) = self.author().pages(id);
+        // First one page, so that the rest can be given back.
+        self.add(get(id, page));
+        for free in self.model.segments_held(id, false) {
+            self.add(get(id, free.length));
+        }
+        let held = self.model.segments_held(id, true);
+        let given = self.random.pick_any(&held)?;
+        let back = given.length / page;
+        let ticks = self.random.between(1, 2);
+        self.wait(id, page * pages.min(back + 1), 1, ticks)?;
+        for _ in 0..self.random.between(1, 3) {
+            let size = self.random.between(1, page * back);
+            let ticks = self.random.between(0, 3);
+            self.wait(id, size, 2, ticks)?;
+        }
+        let address = given.address;
+        if back > 1 && self.random.chance(30) {
+            let size = self.random.between(1, page);
+            self.add(Call::Resize { id, address, size })?;
+        } else {
+            self.add(Call::Return { id, address })?;
+        }
+        Some(())
+    }
+
+    /// A get of an idle task that may wait.
+    fn wait(&mut self, id: u32, size: u32, priority: u32, ticks: u32) -> Option<Answer> {
+        let waiting = self.model.waiting_tasks();
+        let task = (1..=TASKS as u32).find(|task| !waiting.contains(task))?;
+        let get = [id, size, 1, task, priority, ticks];
+        self.add(Directive::Get.call(&get))
     }
 
     fn clear_region(&mut self, id: u32) {

@@ -1,7 +1,7 @@
 //! Counts what the scripts have led to.
 
 use crate::kinds::{Kind, ROUND};
-use author::cases::{Case, Ids};
+use author::cases::{Before, Case};
 use directives::{Answer, Directive, Notice, SCRIPT};
 use model::Model;
 use std::collections::BTreeMap;
@@ -32,7 +32,7 @@ impl Tally {
             Some(_) => self.bad_lines += 1,
             None => {}
         }
-        // Calls are answered in turn. The model tells which ids were live.
+        // Calls are answered in turn. The model tells which ids were live and who waited.
         let mut model = Model::fresh();
         for (call, answer) in second::calls(script).iter().zip(&answers) {
             let called = (call.directive(), answer.status);
@@ -41,9 +41,9 @@ impl Tally {
             for notice in &answer.notices {
                 *self.notices.entry(notice.status).or_default() += 1;
             }
-            let ids = Ids::new(&model);
+            let before = Before::new(&model);
             model.call(call);
-            for case in ids.cases(call, answer, &model) {
+            for case in before.cases(call, answer, &model) {
                 *self.cases.entry(case).or_default() += 1;
             }
         }
@@ -145,9 +145,9 @@ impl fmt::Display for Tally {
             }
             writeln!(out)?;
         }
-        writeln!(out, "Ids, generations and page counts:")?;
+        writeln!(out, "Ids, generations, page counts and serving:")?;
         for (case, count) in &self.cases {
-            writeln!(out, "  {:<54}{count:>9}", case.to_string())?;
+            writeln!(out, "  {:<58}{count:>9}", case.to_string())?;
         }
         Ok(())
     }

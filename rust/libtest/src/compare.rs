@@ -12,7 +12,7 @@ use crate::lists::{self, List};
 use crate::sound;
 use crate::state::State;
 use crate::tally::Tally;
-use author::cases::Ids;
+use author::cases::Before;
 use author::Random;
 use directives::words::*;
 use directives::{Answer, Call, Directive};
@@ -97,6 +97,7 @@ impl<'a, L: Library> Comparison<'a, L> {
                         answer = self.step(&mut random, &mut model, call).map_err(tell)?;
                     }
                     Step::Set(word, value) => model.client_write(*word, *value),
+                    Step::Queue(place) => model.put_waiter(*place),
                     _ => {}
                 }
                 example.check(step, &model, &answer)?;
@@ -155,12 +156,12 @@ impl<'a, L: Library> Comparison<'a, L> {
     ) -> Result<Answer, String> {
         let (record, memory) = (model.record(), model.memory().to_vec());
         let before = answer_before(random, call, model, words);
-        let ids = Ids::new(model);
+        let found = Before::new(model);
         let answer = model.call(call);
         let (record_after, memory_after) = (model.record(), model.memory());
         sound::check(&record_after, memory_after)
             .map_err(|clause| format!("{call:?} leaves the model unsound: {clause}"))?;
-        let cases = ids.cases(call, &answer, model);
+        let cases = found.cases(call, &answer, model);
         self.tally.add_sound_call(cases, &answer, model);
 
         let buffers = [&record[..], &memory, &before];
@@ -243,6 +244,16 @@ impl<'a, L: Library> Comparison<'a, L> {
                 let words = state.answer_words.max(ANSWER_WORDS);
                 self.step_with(random, &mut found.clone(), &call, words)?;
             }
+        }
+        // No list of calls leaves room for a first waiter.
+        let resizes = if found.regions_to_serve().is_empty() {
+            0
+        } else {
+            4
+        };
+        for _ in 0..resizes {
+            let call = list.call_of(Directive::Resize, random, &found);
+            self.step(random, &mut found.clone(), &call)?;
         }
         for _ in 0..random.between(0, 8) {
             let call = list.call(random, &found);

@@ -945,6 +945,35 @@ pub const KINDS: &[Kind] = &[
             Some(())
         },
     ),
+    sound(
+        "queue: room for the first waiter, no time-out",
+        |random, state| {
+            state.plant_first_waiters(random)?;
+            for at in state.waiters() {
+                let ticks = &mut state.record[at + TICKS];
+                *ticks += u32::from(*ticks == 1);
+            }
+            Some(())
+        },
+    ),
+    sound(
+        "queue: room for the first waiter, and a time-out",
+        |random, state| {
+            state.plant_first_waiters(random)?;
+            let at = state.plant_waiter(random)?;
+            state.record[at + TICKS] = 1;
+            Some(())
+        },
+    ),
+    sound(
+        "queue: lower slot with the higher id, served",
+        |random, state| {
+            state.plant_two_queues(random)?;
+            let at = state.some_waiter(random)?;
+            state.record[at + TICKS] = 1;
+            state.plant_first_waiters(random)
+        },
+    ),
     unsound("queue: by whole ids and not by slots", |random, state| {
         state.plant_two_queues(random)?;
         let used = WAITERS_AT..WAITERS_AT + state.waiters().len() * WAITER_WORDS;

@@ -332,14 +332,15 @@ impl State<'_> {
         let region = Region::find(self.record, id)?;
         let (page, pages) = region.held_at(self.memory, address)?;
         self.free_and_join(&region, page, page + pages);
-        self.serve(id, &region);
+        self.serve(id, &region, 0);
         Ok(0)
     }
 
-    /// Serves the first waiter of a region for as long as there is room.
-    fn serve(&mut self, id: u32, region: &Region) {
+    /// Serves the first waiter of a region for as long as there is room. The
+    /// answer has so many notices before, and then as many as this gives.
+    fn serve(&mut self, id: u32, region: &Region, told: usize) -> usize {
         let Some(place) = self.waiters().position(|waiter| waiter[REGION] == id) else {
-            return;
+            return told;
         };
         let mut served = 0;
         for waiter in self.record[waiter_at(place)..].chunks_exact(WAITER_WORDS) {
@@ -351,12 +352,13 @@ impl State<'_> {
                 break;
             };
             let notice = [task, status::SUCCESSFUL, address];
-            put_notice(self.answer, served, notice);
+            put_notice(self.answer, told + served, notice);
             served += 1;
         }
         let (to, from) = (waiter_at(place), waiter_at(place + served));
         self.record.copy_within(from.., to);
         self.record[RECORD_WORDS - served * WAITER_WORDS..].fill(0);
+        told + served
     }
 
     fn size(&mut self, id: u32, address: u32) -> Result<u32, u32> {
@@ -398,6 +400,7 @@ impl State<'_> {
             self.memory[region.word(page)] = 2 * new as u32 + 1;
             self.free_up(&region, page + new, after);
         }
+        self.serve(id, &region, 0);
         Ok(value)
     }
 
@@ -534,7 +537,20 @@ impl State<'_> {
             staying += 1;
         }
         self.record[waiter_at(staying)..waiter_at(staying + left)].fill(0);
+        if left > 0 {
+            self.serve_all(left);
+        }
         Ok(0)
+    }
+
+    /// Serves the queue of every region, behind so many notices.
+    fn serve_all(&mut self, mut told: usize) {
+        for index in 0..SLOTS {
+            let id = id_of(index, self.record[region_at(index) + GENERATION]);
+            if let Ok(region) = Region::find(self.record, id) {
+                told = self.serve(id, &region, told);
+            }
+        }
     }
 
     fn ident(&mut self, name: u32, slot_at: fn(usize) -> usize) -> Result<u32, u32> {
@@ -641,8 +657,13 @@ mod tests {
             (Directive::GetBuffer, &[1]),
             (Directive::Get, &[1, 300, 0, 0, 0, 0]),
             (Directive::Get, &[1, 300, 1, 3, 9, 2]),
+            (Directive::Get, &[1, 112, 1, 4, 9, 0]),
+            (Directive::Get, &[1, 112, 1, 5, 9, 0]),
+            (Directive::Resize, &[1, 112, 288]),
             (Directive::Information, &[1]),
             (Directive::Tick, &[]),
+            (Directive::Tick, &[]),
+            (Directive::Resize, &[1, 112, 16]),
             (Directive::Return, &[1, 3]),
             (Directive::CreatePartition, &[3, 612, 8, 8]),
             (Directive::DeletePartition, &[2]),

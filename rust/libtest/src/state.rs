@@ -138,11 +138,6 @@ impl State {
     }
 
     pub fn plant_waiter_in(&mut self, random: &mut Random, region: usize) -> Option<usize> {
-        let end = self.unused_place()?;
-        let used = self.waiters();
-        let waits = |task: u32| used.iter().any(|&at| self.record[at + TASK] == task);
-        let tasks: Vec<u32> = (1..=TASKS as u32).filter(|&task| !waits(task)).collect();
-        let task = random.pick_any(&tasks)?;
         let most = self.layout(region).pages * self.record[region + PAGE];
         let size = random.between(1, most);
         let priority = random.pick(&[1, 2, 3, 254, 255]);
@@ -151,12 +146,62 @@ impl State {
             let (other, urgency) = (self.region_of(at), self.record[at + PRIORITY]);
             other < Some(region) || other == Some(region) && (!by_priority || urgency <= priority)
         };
-        let place = used.iter().filter(|&&at| is_ahead(at)).count();
-        let at = waiter_at(place);
-        self.record.copy_within(at..end, at + WAITER_WORDS);
+        let ahead = self.waiters().iter().filter(|&&at| is_ahead(at)).count();
         let ticks = random.pick(&[0, 1, 2, MAX]);
-        let words = [task, self.id(region), size, priority, ticks];
-        self.record[at..at + WAITER_WORDS].copy_from_slice(&words);
+        self.insert_waiter(random, ahead, [self.id(region), size, priority, ticks])
+    }
+
+    /// Sees to it that something of a region is held and something free, if its
+    /// last segment has two pages; the state stays sound.
+    fn hold_and_free(&mut self, region: usize) {
+        let segments = self.segments(region);
+        let (at, pages, _) = segments[segments.len() - 1];
+        let all_same = segments.iter().all(|&(_, _, held)| held == segments[0].2);
+        if all_same && pages > 1 {
+            self.memory[at] = 2 * (pages - 1) + 1;
+            self.memory[at + pages as usize - 1] = 2;
+        }
+    }
+
+    /// Adds a waiter for whom there is room in front of each queue; the state
+    /// stays sound. Gives nothing if no region can have one.
+    pub fn plant_first_waiters(&mut self, random: &mut Random) -> Option<()> {
+        let mut planted = None;
+        for region in self.regions(true) {
+            self.hold_and_free(region);
+            let free = self.segments(region).into_iter();
+            let free = free.filter(|&(_, _, held)| !held);
+            let most = free.map(|(_, pages, _)| pages).max();
+            let Some(pages) = most.filter(|_| self.anything_held(region)) else {
+                continue;
+            };
+            let size = random.between(1, pages * self.record[region + PAGE]);
+            let is_ahead = |at: usize| self.region_of(at) < Some(region);
+            let ahead = self.waiters().iter().filter(|&&at| is_ahead(at)).count();
+            let ticks = random.pick(&[0, 2, MAX]);
+            let words = [self.id(region), size, 1, ticks];
+            planted = self.insert_waiter(random, ahead, words).or(planted);
+        }
+        planted.map(|_| ())
+    }
+
+    /// Adds a waiter behind so many others, by the words behind its task, and
+    /// gives its place.
+    fn insert_waiter(
+        &mut self,
+        random: &mut Random,
+        ahead: usize,
+        words: [u32; WAITER_WORDS - 1],
+    ) -> Option<usize> {
+        let end = self.unused_place()?;
+        let used = self.waiters();
+        let waits = |task: u32| used.iter().any(|&at| self.record[at + TASK] == task);
+        let tasks: Vec<u32> = (1..=TASKS as u32).filter(|&task| !waits(task)).collect();
+        let task = random.pick_any(&tasks)?;
+        let at = waiter_at(ahead);
+        self.record.copy_within(at..end, at + WAITER_WORDS);
+        self.record[at + TASK] = task;
+        self.record[at + REGION..at + WAITER_WORDS].copy_from_slice(&words);
         Some(at)
     }
 

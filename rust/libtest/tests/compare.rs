@@ -248,6 +248,198 @@ fn faults_of_the_queue_are_found() {
     });
 }
 
+/// Whether a call on these words is done or refused by its own checks.
+fn is_sound(b: &Buffers) -> bool {
+    sound::check(b.record, b.memory).is_ok() && b.answer.len() >= ANSWER_WORDS
+}
+
+/// The call with only some waiters in the queue; the others are put back, and
+/// have lost a tick by a tick. Where both are of one region, those that the call
+/// finds must leave by it.
+fn with_waiters(
+    b: &mut Buffers,
+    call: &Call,
+    mut is_kept: impl FnMut(&[u32; WAITER_WORDS]) -> bool,
+) -> usize {
+    let all = used(b.record).to_vec();
+    let (kept, mut others): (Vec<_>, Vec<_>) = all.into_iter().partition(&mut is_kept);
+    let put = |record: &mut [u32], places: &[[u32; WAITER_WORDS]]| {
+        record[WAITERS_AT..].fill(0);
+        record[WAITERS_AT..][..places.len() * WAITER_WORDS].copy_from_slice(&places.concat());
+    };
+    put(b.record, &kept);
+    let returned = plain(b, call);
+    if call.directive() == Directive::Tick {
+        others
+            .iter_mut()
+            .for_each(|place| place[TICKS] = place[TICKS].saturating_sub(1));
+    }
+    others.extend_from_slice(used(b.record));
+    others.sort_by_key(|place| slot_of(place[REGION]));
+    put(b.record, &others);
+    returned
+}
+
+/// Taking waiters out and putting them back is no fault by itself.
+#[test]
+fn waiters_are_put_back() {
+    let mut library = Faulty(|b: &mut Buffers, call: &Call| match call.directive() {
+        Directive::Tick if is_sound(b) => with_waiters(b, call, |_| true),
+        Directive::Size | Directive::Information if is_sound(b) => {
+            with_waiters(b, call, |place| place[REGION] % 2 == 0)
+        }
+        _ => plain(b, call),
+    });
+    assert!(run(&mut library, 50_000).is_ok());
+}
+
+/// The words of a call's buffers, to make other calls on.
+fn copies(b: &Buffers) -> [Vec<u32>; 3] {
+    [&*b.record, &*b.memory, &*b.answer].map(<[u32]>::to_vec)
+}
+
+fn plain_on(words: &mut [Vec<u32>; 3], call: &Call) -> usize {
+    let [record, memory, answer] = words;
+    let buffers = Buffers {
+        record,
+        memory,
+        answer,
+    };
+    Plain.call(buffers, call)
+}
+
+/// The old length and the new one, in bytes, of a resize that is done.
+fn lengths(b: &Buffers, call: &Call) -> Option<(u32, u32)> {
+    let &Call::Resize { id, size, .. } = call else {
+        return None;
+    };
+    let mut words = copies(b);
+    let page = b.record[region_at(slot_of(id).filter(|_| is_sound(b))?) + PAGE];
+    let is_done = plain_on(&mut words, call) == 0;
+    is_done.then(|| (words[2][0], size.div_ceil(page) * page))
+}
+
+#[test]
+fn faults_of_resizes_that_serve_are_found() {
+    type Change = fn(u32, u32) -> bool;
+    for (title, is_wrong) in [
+        ("a smaller segment", (|old, new| new < old) as Change),
+        ("an equal segment", |old, new| new == old),
+        ("a larger segment", |old, new| new > old),
+    ] {
+        must_be_found(&format!("{title} serves nobody"), |b, call| {
+            match lengths(b, call) {
+                Some((old, new)) if is_wrong(old, new) => with_waiters(b, call, |_| false),
+                _ => plain(b, call),
+            }
+        });
+    }
+    must_be_found("a refused resize serves", |b, call| {
+        let returned = plain(b, call);
+        if let (&Call::Resize { id, address, .. }, 13) = (call, returned) {
+            let size = b.answer[0];
+            plain(b, &Call::Resize { id, address, size });
+        }
+        returned
+    });
+    must_be_found("a segment grows after serving", |b, call| {
+        match (call, lengths(b, call)) {
+            (&Call::Resize { id, address, .. }, Some((old, new))) if new > old => {
+                let size = old;
+                plain(b, &Call::Resize { id, address, size });
+                let notices = b.answer[NOTICES_AT..ANSWER_WORDS].to_vec();
+                let returned = plain(b, call);
+                if notices[0] != 0 {
+                    b.answer[NOTICES_AT..ANSWER_WORDS].copy_from_slice(&notices);
+                }
+                returned
+            }
+            _ => plain(b, call),
+        }
+    });
+    must_be_found("a resize that serves has no value", |b, call| {
+        let returned = plain(b, call);
+        if call.directive() == Directive::Resize && returned == 0 && b.answer[NOTICES_AT] != 0 {
+            b.answer[0] = 0;
+        }
+        returned
+    });
+}
+
+/// A tick on sound words, or any other call as it is.
+fn must_be_found_in_ticks(title: &str, mut fault: impl FnMut(&mut Buffers, &Call) -> usize) {
+    must_be_found(title, |b, call| {
+        if call.directive() == Directive::Tick && is_sound(b) {
+            return fault(b, call);
+        }
+        plain(b, call)
+    });
+}
+
+/// The notices of an answer.
+fn notices<'a>(b: &'a mut Buffers) -> &'a mut [[u32; NOTICE_WORDS]] {
+    let (notices, _) = b.answer[NOTICES_AT..ANSWER_WORDS].as_chunks_mut();
+    let count = notices.iter().take_while(|notice| notice[0] != 0).count();
+    &mut notices[..count]
+}
+
+#[test]
+fn faults_of_ticks_that_serve_are_found() {
+    let is_away = |place: &[u32; WAITER_WORDS]| place[TICKS] == 1;
+    must_be_found_in_ticks("a tick serves nobody", |b, call| {
+        with_waiters(b, call, is_away)
+    });
+    must_be_found_in_ticks("a tick serves only where one left", |b, call| {
+        let left = used(b.record).to_vec().into_iter().filter(is_away);
+        let left: Vec<u32> = left.map(|place| place[REGION]).collect();
+        with_waiters(b, call, |place| left.contains(&place[REGION]))
+    });
+    must_be_found_in_ticks("a tick serves one region", |b, call| {
+        let mut words = copies(b);
+        plain_on(&mut words, call);
+        let [.., answer] = &words;
+        let mut told = answer[NOTICES_AT..ANSWER_WORDS].chunks(NOTICE_WORDS);
+        let first = told.find(|notice| notice[0] != 0 && notice[1] == 0);
+        let mut places = used(b.record).iter();
+        let served = places.find(|place| first.is_some_and(|notice| notice[0] == place[TASK]));
+        let region = served.map(|place| place[REGION]);
+        with_waiters(b, call, |place| {
+            is_away(place) || Some(place[REGION]) == region
+        })
+    });
+    must_be_found_in_ticks("a tick without a time-out serves", |b, call| {
+        let places = used(b.record).to_vec();
+        let waits = |task: &u32| places.iter().any(|place| place[TASK] == *task);
+        let idle = (1..=TASKS as u32).find(|task| !waits(task));
+        let (Some(last), Some(task), false) = (places.last(), idle, places.iter().any(is_away))
+        else {
+            return plain(b, call);
+        };
+        // A time-out of one more task, of which nobody hears.
+        let more = [task, last[REGION], last[WANTED], 255, 1];
+        b.record[waiter_at(places.len())..][..WAITER_WORDS].copy_from_slice(&more);
+        let returned = plain(b, call);
+        let told = &mut b.answer[NOTICES_AT..ANSWER_WORDS];
+        told[..NOTICE_WORDS].fill(0);
+        told.rotate_left(NOTICE_WORDS);
+        returned
+    });
+    must_be_found_in_ticks("grants before time-outs", |b, call| {
+        let returned = plain(b, call);
+        notices(b).sort_by_key(|notice| notice[1]);
+        returned
+    });
+    must_be_found_in_ticks("grants by whole ids", |b, call| {
+        let places = used(b.record).to_vec();
+        let region = |task: u32| places.iter().find(|p| p[TASK] == task).map(|p| p[REGION]);
+        let returned = plain(b, call);
+        let told = notices(b);
+        let away = told.iter().take_while(|notice| notice[1] != 0).count();
+        told[away..].sort_by_key(|notice| region(notice[0]));
+        returned
+    });
+}
+
 #[test]
 fn faults_of_words_are_found() {
     must_be_found("a refusal changes a memory word", |b, call| {

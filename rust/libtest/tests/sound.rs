@@ -118,6 +118,8 @@ fn sound_changes_pass() {
     assert_eq!(set(waiter(2, TASK), 16), Ok(()));
     assert_eq!(set(waiter(2, WANTED), 1), Ok(()));
     assert_eq!(set(waiter(5, PRIORITY), 7), Ok(()));
+    // A first waiter for whom there is room: no list of calls leaves one.
+    assert_eq!(set(waiter(1, WANTED), 768), Ok(()));
     // Generations of regions without waiters, of partitions and of empty slots.
     assert_eq!(set(region(3, GENERATION), 65_535), Ok(()));
     assert_eq!(set(region(8, GENERATION), 65_536), Ok(()));

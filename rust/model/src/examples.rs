@@ -10,7 +10,7 @@ pub struct Example {
     pub title: &'static str,
     /// What all words of the memory are before.
     pub fill: u32,
-    /// The generation of every slot before; only with 0 a script can start so.
+    /// The generation of every slot before.
     pub generation: u32,
     pub steps: Vec<Step>,
 }
@@ -20,6 +20,8 @@ pub enum Step {
     Call(Call, Answer),
     /// A word that a client writes.
     Set(usize, u32),
+    /// A waiter who is put into the record, by the words of its place.
+    Queue([u32; WAITER_WORDS]),
     /// Words that the memory must have, from a word on.
     Memory(usize, Vec<u32>),
     /// Words that the record must have, from a word on.
@@ -76,6 +78,9 @@ impl Example {
                 return;
             }
             ("set", &[word, value]) => Step::Set(word as usize, value),
+            ("queue", &[task, id, size, priority, ticks]) => {
+                Step::Queue([task, id, size, priority, ticks])
+            }
             ("memory", &[word]) => Step::Memory(word as usize, numbers(right)),
             ("record", &[word]) => Step::Record(word as usize, numbers(right)),
             ("waiting", []) => Step::Waiting(numbers(right)),
@@ -132,6 +137,12 @@ fn answer_of(call: &Call, text: &str) -> Answer {
 }
 
 impl Example {
+    /// Whether a script can have the example's calls and come to its answers.
+    pub fn is_of_scripts(&self) -> bool {
+        let mut steps = self.steps.iter();
+        self.generation == 0 && !steps.any(|step| matches!(step, Step::Queue(..)))
+    }
+
     /// A model at the example's start.
     pub fn start(&self) -> Model {
         let mut record = [0; RECORD_WORDS];
@@ -150,7 +161,7 @@ impl Example {
             Step::Call(call, expected) if answer != expected => {
                 return Err(format!("{}: {call:?}: {answer:?}", self.title));
             }
-            Step::Call(..) | Step::Set(..) => return Ok(()),
+            Step::Call(..) | Step::Set(..) | Step::Queue(..) => return Ok(()),
             Step::Memory(first, words) => (at(model.memory(), *first, words.len()), words),
             Step::Record(first, words) => (at(&record, *first, words.len()), words),
             Step::Waiting(tasks) => (model.waiting_tasks(), tasks),
@@ -175,6 +186,7 @@ mod tests {
                 match step {
                     Step::Call(call, _) => answer = model.call(call),
                     Step::Set(word, value) => model.client_write(*word, *value),
+                    Step::Queue(place) => model.put_waiter(*place),
                     _ => {}
                 }
                 let checked = example.check(step, &model, &answer);

@@ -16,7 +16,7 @@ mod region;
 mod slots;
 
 use directives::words::*;
-use directives::{Answer, Call};
+use directives::{Answer, Call, Notice};
 use partition::Partition;
 pub use region::Segment;
 use region::{Region, Waiter};
@@ -101,18 +101,20 @@ impl Model {
             regions: Slots::new(region),
             partitions: Slots::new(partition),
         };
-        for place in record[WAITERS_AT..].chunks(WAITER_WORDS) {
-            let [task, region, size, priority, ticks] = *place else {
-                unreachable!("a place has so many words");
-            };
-            if task != 0 {
-                let region = model.regions.live_mut(region);
-                let region = region.expect("a waiter's region is live");
-                let waiter = Waiter::new(task, size, priority, ticks);
-                region.queue.push_back(waiter);
-            }
+        let (places, _) = record[WAITERS_AT..].as_chunks();
+        for place in places.iter().filter(|place| place[TASK] != 0) {
+            model.put_waiter(*place);
         }
         model
+    }
+
+    /// Puts a waiter into its region's queue, by the words of a place. A call
+    /// does so only where there is no room for it.
+    pub fn put_waiter(&mut self, place: [u32; WAITER_WORDS]) {
+        let [task, region, size, priority, ticks] = place;
+        let region = self.regions.live_mut(region);
+        let region = region.expect("a waiter's region is live");
+        region.enqueue(Waiter::new(task, size, priority, ticks));
     }
 
     /// The memory, word by word.
@@ -298,7 +300,9 @@ impl Model {
             region.take_back(page + new, page + old);
         } else if !region.extend(page + old, page + new) {
             answer.status = status::UNSATISFIED;
+            return Ok(answer);
         }
+        answer.notices = region.serve();
         region.draw(&mut self.memory);
         Ok(answer)
     }
@@ -312,7 +316,14 @@ impl Model {
 
     fn tick(&mut self) -> Answer {
         let regions = self.regions.objects_mut();
-        Answer::notices(regions.flat_map(Region::tick).collect())
+        let mut notices: Vec<Notice> = regions.flat_map(Region::tick).collect();
+        if !notices.is_empty() {
+            for region in self.regions.objects_mut() {
+                notices.extend(region.serve());
+                region.draw(&mut self.memory);
+            }
+        }
+        Answer::notices(notices)
     }
 
     fn create_partition(&mut self, name: u32, area: Area, size: u32) -> Result<Answer, Refusal> {
@@ -464,6 +475,14 @@ impl Model {
     /// The tasks that wait, in the same order.
     pub fn waiting_tasks(&self) -> Vec<u32> {
         self.waiting().iter().map(|(task, _)| *task).collect()
+    }
+
+    /// The ids of the regions with room for the first in their queue, by rising
+    /// slot. No list of calls leaves one so.
+    pub fn regions_to_serve(&self) -> Vec<u32> {
+        let can_serve = |slot: &&Slot<Region>| slot.object.as_ref().is_some_and(Region::can_serve);
+        let slots = self.regions.iter().filter(can_serve);
+        slots.map(|slot| slot.id).collect()
     }
 
     /// The start, the buffer size and the number of buffers of a live partition.

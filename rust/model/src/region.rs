@@ -174,9 +174,14 @@ impl Region {
         self.owners[first..end].fill(self.loans);
     }
 
+    /// The first page of the lowest run of so many free pages.
+    fn lowest(&self, pages: usize) -> Option<usize> {
+        self.owners.windows(pages).position(is_free)
+    }
+
     /// Lends the lowest run of so many free pages and gives its address.
     pub fn lend(&mut self, pages: usize) -> Option<u32> {
-        let page = self.owners.windows(pages).position(is_free)?;
+        let page = self.lowest(pages)?;
         self.own(page, page + pages);
         Some(self.address_of(page))
     }
@@ -201,6 +206,12 @@ impl Region {
         let ahead = |other: &Waiter| !self.by_priority || other.priority <= waiter.priority;
         let place = self.queue.iter().take_while(|other| ahead(other)).count();
         self.queue.insert(place, waiter);
+    }
+
+    /// Whether there is room for the first waiter.
+    pub fn can_serve(&self) -> bool {
+        let first = self.queue.front();
+        first.is_some_and(|first| self.lowest(self.pages_for(first.size)).is_some())
     }
 
     /// Serves the first waiter for as long as there is room for it.

@@ -69,10 +69,11 @@ fn every_call_and_every_status() {
          tick -> 0 0
          tick -> 0 0 task 3 with 6 0
          size id=1 address=64 -> 0 448
-         resize id=1 address=64 size=100 -> 0 448
+         resize id=1 address=64 size=100 -> 0 448 task 5 with 0 192
          resize id=1 address=64 size=512 -> 13 128
-         info id=1 -> 0 1 320 320 2 512 640
-         return id=1 address=512 -> 0 0 task 5 with 0 192
+         get id=1 size=512 wait=1 task=6 priority=1 ticks=0 -> 255 0
+         info id=1 -> 0 1 256 256 3 512 704
+         return id=1 address=512 -> 0 0 task 6 with 0 256
          return id=1 address=512 -> 9 0
          delete-region id=1 -> 12 0
          info id=2 -> 4 0 0 0 0 0 0
@@ -158,6 +159,44 @@ fn notices_are_written_to_the_byte() {
                   status=255\nvalue=0\nstatus=0\nvalue=0\n\
                   task=3\nwith=0\nvalue=64\ntask=5\nwith=0\nvalue=704\n";
     assert_output(&script, output);
+}
+
+/// Behind the value of a resize, and time-outs and grants of a tick alike.
+#[test]
+fn notices_of_a_resize_and_of_a_tick_are_written_to_the_byte() {
+    let script = script_of(
+        "create-region name=1 start=4 length=1020 page=64 order=0
+         get id=1 size=960 wait=0 task=0 priority=0 ticks=0
+         get id=1 size=64 wait=1 task=3 priority=1 ticks=0
+         get id=1 size=960 wait=1 task=4 priority=1 ticks=1
+         get id=1 size=64 wait=1 task=5 priority=1 ticks=0
+         resize id=1 address=64 size=832
+         tick",
+    );
+    let output = "status=0\nvalue=1\nstatus=0\nvalue=64\nstatus=255\nvalue=0\n\
+                  status=255\nvalue=0\nstatus=255\nvalue=0\n\
+                  status=0\nvalue=960\ntask=3\nwith=0\nvalue=896\n\
+                  status=0\nvalue=0\ntask=4\nwith=6\nvalue=0\ntask=5\nwith=0\nvalue=960\n";
+    assert_output(&script, output);
+}
+
+#[test]
+fn resizes_and_ticks_serve() {
+    assert_answers(
+        "create-region name=1 start=4 length=1020 page=64 order=0 -> 0 1
+         get id=1 size=960 wait=0 task=0 priority=0 ticks=0 -> 0 64
+         get id=1 size=192 wait=1 task=3 priority=1 ticks=2 -> 255 0
+         get id=1 size=64 wait=1 task=5 priority=1 ticks=0 -> 255 0
+         get id=1 size=64 wait=1 task=6 priority=1 ticks=0 -> 255 0
+         get id=1 size=64 wait=1 task=7 priority=1 ticks=0 -> 255 0
+         resize id=1 address=64 size=900 -> 0 960
+         resize id=1 address=64 size=961 -> 13 960
+         resize id=1 address=64 size=832 -> 0 960
+         tick -> 0 0
+         tick -> 0 0 task 3 with 6 0 task 5 with 0 896 task 6 with 0 960
+         resize id=1 address=64 size=768 -> 0 832 task 7 with 0 832
+         tick -> 0 0",
+    );
 }
 
 #[test]
