@@ -1,5 +1,5 @@
 -- WRONG SERVING: the managers 57 to 66, each of which is wrong about who is served after a resize or a tick, or in which order. Those that
--- show along a list of calls don't meet demand 3. The others show only where a first waiter stands beside room, which no list reaches: a
+-- show along a list of calls don't meet demand 3. The others show at once where a first waiter stands beside room, which no list reaches: a
 -- sound record has him put into the queue by hand, and one call over it refutes demand 1 or demand 2. Assumes nothing.
 use mathlib.Core.Path.{refl}
 use mathlib.Core.Bool.{Bool, cond, _&&_}
