@@ -15,12 +15,12 @@ use Rattle.arith.proofs.Laws.Layout.{count-end}
 use Rattle.manager.specs.Access.{readSegment, writeSegment}
 use Rattle.manager.specs.Map.{held, total}
 use Rattle.manager.proofs.Laws.Map.{Sized, total-append, total-cons}
-use Rattle.manager.specs.Paged.{heldFrom}
+use Rattle.manager.specs.Kind.{heldFrom}
 use Rattle.manager.proofs.Laws.Paged.{Spot, spot, held-at}
 use Rattle.manager.specs.Record.{regionOf}
 use Rattle.map.specs.Word.{heldWordAt}
 use Rattle.map.proofs.Word.{held-told}
-use Rattle.manager.specs.Region.{layoutOf, pagesOf, firstPageOf, addressOf, pageAt, startsPage, segments, heldAt}
+use Rattle.manager.specs.Region.{kind, layoutOf, pagesOf, firstPageOf, addressOf, pageAt, startsPage, segments, heldAt}
 use Rattle.manager.specs.Result.{Result, Performs, answerOf, checked, refused, replied, done}
 use Rattle.manager.proofs.Laws.Result.{performs-by, performs-reply}
 use Rattle.manager.specs.Sound.{sound}
@@ -101,7 +101,7 @@ module _ (m : List ℕ) (r : Region) (s : Sited m r) where
   -- and end where the last of the region's do, or before
   held-ends : (a p k : ℕ) → a ≡ addressOf r p → p + k ≤ firstPageOf r + pagesOf r → a + k * r .page ≤ 4 * length m
   held-ends a p k e h =
-      let b = count-end (r .start) (r .length) (r .page) (omega (arith, s .laid .page-low)) (s .laid .some) in
+      let b = count-end (kind r .allowed) (r .start) (r .length) (r .page) (omega (arith, s .laid .page-low)) (s .laid .some) in
       omega (
         arith,
         e,

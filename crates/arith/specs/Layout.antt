@@ -1,7 +1,7 @@
 -- Where the map and the pages of an area lie, and how many pages there are: rules 3.3 and 3.4. Pages are numbered from address 0:
 -- page p starts at p times the page size.
 use Prim.Native.Nat.{ℕ, zero, suc, _+_, _*_, _/_}
-use mathlib.Core.Bool.{Bool, cond}
+use mathlib.Core.Bool.{Bool, true, cond, _&&_}
 use lib.Dec.{leb, eqb}
 use Rattle.arith.specs.Round.{roundUp, pagesFor}
 use Rattle.arith.specs.declared.Layout.{Layout}
@@ -27,14 +27,18 @@ largest (suc k) t = cond (t (suc k)) (suc k) (largest k t)
 unfoldable pub mostPages : ℕ → ℕ → ℕ
 mostPages length page = cond (eqb page 0) 0 (length / (page + 4))
 
--- "Regions: Layout": the largest n for which all fits
-unfoldable pub pageCount : ℕ → ℕ → ℕ → ℕ
-pageCount start length page = largest (mostPages length page) (fits start length page)
+-- "Regions: Layout": the largest n for which all fits, of those that a kind of region may have
+unfoldable pub pageCount : (ℕ → Bool) → ℕ → ℕ → ℕ → ℕ
+pageCount allowed start length page = largest (mostPages length page) (λ n. allowed n && fits start length page n)
+
+-- a region of pages may have any number of them
+abbrev pub anyNumber : ℕ → Bool
+anyNumber n = true
 
 -- an area with n pages: the place of the map's first word, the page count, the number of the first page
 abbrev pub layoutWith : ℕ → ℕ → ℕ → Layout
 layoutWith start page n = record { map = mapStart start / 4; pages = n; first = firstPage start page n }
 
 -- and with as many as fit
-abbrev pub layoutOf : ℕ → ℕ → ℕ → Layout
-layoutOf start length page = layoutWith start page (pageCount start length page)
+abbrev pub layoutOf : (ℕ → Bool) → ℕ → ℕ → ℕ → Layout
+layoutOf allowed start length page = layoutWith start page (pageCount allowed start length page)

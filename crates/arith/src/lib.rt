@@ -3,7 +3,8 @@
 ghost use mathlib.Core.Path.{_≡_};
 ghost use Prim.Native.Nat.{_<_};
 ghost use Rattle.arith.specs.Round.{roundUp, pagesFor};
-ghost use Rattle.arith.specs.Layout.{mostPages, layoutWith, layoutOf};
+ghost use Rattle.arith.specs.Power.{powerUp, isPower};
+ghost use Rattle.arith.specs.Layout.{largest, mostPages, anyNumber, layoutWith, layoutOf};
 
 // Where the map and the pages of an area lie: the index of the map's first word, how many pages there are, and the number of the
 // first one. Page p starts at p times the page size.
@@ -65,7 +66,7 @@ fn with_pages(start: u32, page: u32, n: u32) -> Layout
 // The layout of an area with the largest number of pages that fit. The division gives that number or, where rounding the map's start
 // and the first page up costs room, one more.
 pub fn layout_of(start: u32, length: u32, page: u32) -> Layout
-    ensures { λ l. ⌜ l ≡ layoutOf start length page ⌝ }
+    ensures { λ l. ⌜ l ≡ layoutOf anyNumber start length page ⌝ }
 {
     let n = most_pages(length, page);
     let l = with_pages(start, page, n);
@@ -78,4 +79,40 @@ pub fn layout_of(start: u32, length: u32, page: u32) -> Layout
         return l;
     }
     with_pages(start, page, n - 1)
+}
+
+// The least power of two at or above k; 1 for 0.
+pub fn power_up(k: u32) -> u64
+    ensures { λ r. ⌜ r ≡ powerUp k ⌝ }
+{
+    let wide = k as u64;
+    let mut b: u64 = 1;
+    while b < wide {
+        b = b * 2;
+    }
+    b
+}
+
+// The largest power of two at or below a number; 0 for 0.
+pub fn power_down(most: u64) -> u64
+    ensures { λ r. ⌜ r ≡ largest most isPower ⌝ }
+{
+    if most == 0 {
+        return 0;
+    }
+    let mut b: u64 = 1;
+    while b <= most / 2 {
+        b = b * 2;
+    }
+    b
+}
+
+// The layout of an area with the largest power of two pages that fits: what fewer pages take fits too, so that is the largest at or
+// below the number of pages that fit.
+pub fn layout_by_halves(start: u32, length: u32, page: u32) -> Layout
+    ensures { λ l. ⌜ l ≡ layoutOf isPower start length page ⌝ }
+{
+    let l = layout_of(start, length, page);
+    let n = power_down(l.pages as u64);
+    with_pages(start, page, n as u32)
 }

@@ -7,16 +7,18 @@ use Prim.Native.Nat.{ℕ, _*_, _+_, _/_, _%_, _<_}
 use native.Mathlib.Omega.{arith}
 use lib.Dec.{leb, eqb}
 use lib.ListN.{length}
-use borrow.Author.Tests.{leb-true, leb-false, eqb-true, eqb-false, ltb-false, not-false}
+use borrow.Author.Tests.{leb-false, eqb-true, eqb-false, ltb-false, not-false}
 use Rattle.manager.specs.Lists.{every, any}
 use Rattle.manager.specs.Record.{slots, noRegion, regionOf, idOf, withRegion, noPartition, slotOf, generationOf, partitionOf, withPartition}
 use Rattle.manager.specs.Result.{Result, done, replied}
 use Rattle.manager.specs.Map.{total}
-use Rattle.manager.specs.Paged.{free+, allocate, paged, reachFrom, changeFrom, onPlace}
-use Rattle.manager.proofs.Laws.Paged.{total-free, total-take, total-change}
+use Rattle.manager.specs.Kind.{allocate, onPlace}
+use Rattle.manager.specs.Paged.{free+}
+use Rattle.manager.proofs.Laws.Paged.{total-free}
+use Rattle.manager.proofs.Laws.Kinds.{keeps}
 use Rattle.manager.specs.Queue.{enqueue, leaving}
 use Rattle.manager.proofs.Laws.Appended.{by-case, some-append}
-use Rattle.manager.specs.Region.{dead, pagesOf, firstPageOf, pageAt, addressOf, segments, withSegments, heldAt, pagesAsked, placed, taken}
+use Rattle.manager.specs.Region.{kind, canHave, dead, pagesOf, firstPageOf, pageAt, addressOf, segments, withSegments, heldAt, pagesAsked, placed, taken}
 use Rattle.manager.specs.Serve.{serve, fromServed}
 use Rattle.manager.specs.Sound.{sound, LaidPartition}
 use Rattle.manager.proofs.Laws.Sound.{sited}
@@ -116,7 +118,7 @@ module _ (m : List ℕ) (d : Manager) where
     taken-only ok live =
         let r = regionOf d id in
         let k = pagesAsked r size in
-        drawn-only m r (allocate paged k (firstPageOf r) (segments m r)) (total-take k (firstPageOf r) (segments m r) ∙ mapped id ok live .pages)
+        drawn-only m r (allocate (kind r) k (firstPageOf r) (segments m r)) (keeps (r .order) .total-take k (firstPageOf r) (segments m r) ∙ mapped id ok live .pages)
 
     waits : (w : Waiter) → sound m d ≡ true → CallEffects m d (GetSegment id size Yes task priority ticks) (replied m (enqueue d w) Waiting 0)
     unfolding enqueue any
@@ -152,8 +154,8 @@ module _ (m : List ℕ) (d : Manager) where
       effects m d (ReturnSegment id address) _ _ refl refl (λ ok c.
       acts m d (ReturnSegment id address) ok _ refl refl (λ w.
       let s = mapped id ok (c .0) in
-      let g = changeFrom p 0 (firstPageOf r) (segments m r) in
-      let t : total g ≡ pagesOf r = total-change p 0 (firstPageOf r) (segments m r) (omega arith) ∙ s .pages in
+      let g = kind r .change p 0 (firstPageOf r) (segments m r) in
+      let t : total g ≡ pagesOf r = keeps (r .order) .total-return p (firstPageOf r) (segments m r) ∙ s .pages in
       only-then (drawn-only m r g t) (served-only _ d id (drawn-mapped m r s g t))))
 
   -- a resize: the map with the segment changed, and then the queue served; or 13 with the old length
@@ -164,15 +166,14 @@ module _ (m : List ℕ) (d : Manager) where
       let p = pageAt r address in
       let k = pagesAsked r size in
       let old = heldAt m r address * r .page in
-      let most = reachFrom p (firstPageOf r) (segments m r) in
-      let g = changeFrom p k (firstPageOf r) (segments m r) in
+      let g = kind r .change p k (firstPageOf r) (segments m r) in
       let c = ResizeSegment id address size in
       effects m d c _ _ refl refl (λ ok q.
-      by-case (leb k most)
+      by-case (canHave m r address k)
       (λ b. CallEffects m d c (cond b (fromServed old (serve (withSegments m r g) d id)) (replied m d Unsatisfied old)))
       (λ e. acts m d c ok _ refl refl (λ w.
       let s = mapped id ok (q .1 .0) in
-      let t : total g ≡ pagesOf r = total-change p k (firstPageOf r) (segments m r) (leb-true k most e) ∙ s .pages in
+      let t : total g ≡ pagesOf r = keeps (r .order) .total-change p k (firstPageOf r) (segments m r) e ∙ s .pages in
       only-then (drawn-only m r g t) (served-only _ d id (drawn-mapped m r s g t))))
       (λ e. refuses m d c ok Unsatisfied old refl refl refl refl))
 

@@ -132,13 +132,13 @@ module _ (state m answer : List ℕ) (call : Call) where
 pub ruleset calling = (too-short, no-record, ran)
 
 -- a call with a choice: c is the call with the choice as it was read
-module _ (choice : ℕ) (state m answer : List ℕ) (call : Call) where
-  pub no-choice : 1 < choice → Leaves (chosen choice state m answer call) state m answer 25
-  no-choice h = rw (lt-leb choice 1 h) (record { words = refl; memory = refl; answered = refl; number = refl })
+module _ (last choice : ℕ) (state m answer : List ℕ) (call : Call) where
+  pub no-choice : last < choice → Leaves (chosen last choice state m answer call) state m answer 25
+  no-choice h = rw (lt-leb choice last h) (record { words = refl; memory = refl; answered = refl; number = refl })
 
-  pub with-choice : choice ≤ 1 → (c : Call) (state′ m′ answer′ : List ℕ) (number : ℕ) → c ≡ call → Leaves (called state m answer c) state′ m′ answer′ number
-      → Leaves (chosen choice state m answer call) state′ m′ answer′ number
-  with-choice h c state′ m′ answer′ number e l = rw (le-leb choice 1 h) (rw e at l)
+  pub with-choice : choice ≤ last → (c : Call) (state′ m′ answer′ : List ℕ) (number : ℕ) → c ≡ call → Leaves (called state m answer c) state′ m′ answer′ number
+      → Leaves (chosen last choice state m answer call) state′ m′ answer′ number
+  with-choice h c state′ m′ answer′ number e l = rw (le-leb choice last h) (rw e at l)
 
 pub ruleset choosing = (no-choice, with-choice)
 

@@ -68,9 +68,9 @@ unfoldable pub called : List ℕ → List ℕ → List ℕ → Call → Outcome
 called state m answer call =
     cond (wellFormed state && leb answerSize (length answer)) (performed answer (perform m (unpack state) call)) (damaged state m answer)
 
--- a call with an argument that is a choice
-abbrev pub chosen : ℕ → List ℕ → List ℕ → List ℕ → Call → Outcome
-chosen choice state m answer call = cond (leb choice 1) (called state m answer call) (damaged state m answer)
+-- a call with an argument that is a choice, a number up to the last
+abbrev pub chosen : ℕ → ℕ → List ℕ → List ℕ → List ℕ → Call → Outcome
+chosen last choice state m answer call = cond (leb choice last) (called state m answer call) (damaged state m answer)
 
 abbrev pub waitAt : ℕ → Wait
 waitAt w = cond (eqb w 0) No Yes

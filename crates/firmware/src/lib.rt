@@ -7,7 +7,7 @@ use call::INTERNAL_ERROR;
 use call::run_call;
 use call::wait_at;
 use manager::Call;
-ghost use Rattle.packing.specs.Packing.{orderAt};
+ghost use Rattle.packing.specs.Packing.{lastOrder, orderAt};
 ghost use Rattle.firmware.specs.Exported.{Leaves, Reads, Writes, called, chosen, waitAt, segmentWords, segmentWritten};
 
 // Makes a region.
@@ -22,10 +22,10 @@ pub extern "C" fn sc_region_create(
     page: u32,
     order: u32,
 ) -> u32
-    ensures { λ r. ⌜ Leaves (chosen order (now (state .entry)) (now (memory .entry)) (now (answer .entry)) (Call.CreateRegion name start length page (orderAt order)))
+    ensures { λ r. ⌜ Leaves (chosen lastOrder order (now (state .entry)) (now (memory .entry)) (now (answer .entry)) (Call.CreateRegion name start length page (orderAt order)))
         (now (state .exit)) (now (memory .exit)) (now (answer .exit)) r ⌝ }
 {
-    if 1 < order {
+    if packing::LAST_ORDER < order {
         return INTERNAL_ERROR;
     }
     let order = packing::order_at(order);
@@ -84,7 +84,7 @@ pub extern "C" fn sc_region_get_segment(
     priority: u32,
     ticks: u32,
 ) -> u32
-    ensures { λ r. ⌜ Leaves (chosen wait (now (state .entry)) (now (memory .entry)) (now (answer .entry)) (Call.GetSegment id size (waitAt wait) task priority ticks))
+    ensures { λ r. ⌜ Leaves (chosen 1 wait (now (state .entry)) (now (memory .entry)) (now (answer .entry)) (Call.GetSegment id size (waitAt wait) task priority ticks))
         (now (state .exit)) (now (memory .exit)) (now (answer .exit)) r ⌝ }
 {
     if 1 < wait {

@@ -1,12 +1,15 @@
--- All that a worked example computes with, in three parts: maps and checks of lists; the queue, the chain and the sound record; serving and
+-- All that a worked example computes with, in three parts: maps of both kinds and checks of lists; the queue, the chain and the sound record; serving and
 -- the directives. An example unfolds these names. Assumes nothing.
 use Prim.Native.Nat.{_+_}
+use Rattle.arith.specs.Power.{levelFrom}
 use Rattle.arith.specs.Layout.{largest, mostPages, pageCount}
 use Rattle.manager.specs.Record.{slotOf, generationOf, idOf, objectOf}
 use Rattle.manager.specs.Result.{checked, tasksTold}
 use Rattle.manager.specs.Lists.{every, any, indexOf, pairwise, adjacent}
 use Rattle.manager.specs.Map.{draw, decode, tiledFrom, tiled, soundMap, freeSizes, heldSizes, largestOf, sumOf, total}
-use Rattle.manager.specs.Paged.{apart, free+, lead, rest, placeFrom, occupyFrom, heldFrom, reachFrom, changeFrom}
+use Rattle.manager.specs.Kind.{heldFrom}
+use Rattle.manager.specs.Paged.{apart, free+, lead, rest, placeFrom, occupyFrom, reachFrom, changeFrom}
+use Rattle.manager.specs.Halves.{lowOf, highOf, isWhole, isFree, halved, smallest, lowestFree, placeBlock, carve, occupyBlock, join, releaseBlock}
 use Rattle.manager.specs.Region.{regionAreas, partitionAreas}
 use Rattle.manager.specs.Queue.{goesBefore, push, insert, removeAt, enqueue, dequeue, staying, leaving, afterTick}
 use Rattle.manager.specs.Serve.{serveUpTo, serve, serveSlot, serveSlots, serveAll}
@@ -17,8 +20,12 @@ use Rattle.manager.specs.Partitions.{createPartition, identPartition, de
 use Rattle.manager.specs.Access.{readSegment, writeSegment}
 use Rattle.manager.specs.Perform.{perform}
 
+unfoldable pub blocks : Unit {0}
+unfolding levelFrom lowOf highOf isWhole isFree halved smallest lowestFree placeBlock carve occupyBlock join releaseBlock
+blocks = tt
+
 unfoldable pub maps : Unit {0}
-unfolding largest mostPages pageCount checked tasksTold every any indexOf pairwise adjacent draw decode tiledFrom tiled soundMap apart freeSizes heldSizes largestOf sumOf total free+ lead rest placeFrom occupyFrom heldFrom reachFrom changeFrom
+unfolding blocks largest mostPages pageCount checked tasksTold every any indexOf pairwise adjacent draw decode tiledFrom tiled soundMap apart freeSizes heldSizes largestOf sumOf total free+ lead rest placeFrom occupyFrom heldFrom reachFrom changeFrom
 maps = tt
 
 unfoldable pub records : Unit {0}

@@ -8,6 +8,8 @@ pub mod Map
 pub mod Apart
 pub mod Paged
 pub mod Shift
+pub mod Halves
+pub mod Kinds
 pub mod Sound
 pub mod Region
 pub mod Areas

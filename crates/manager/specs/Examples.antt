@@ -5,7 +5,7 @@ use mathlib.Core.Bool.{Bool, true, false, _&&_}
 use mathlib.Core.List.{List, [], _∷_}
 use lib.ListN.{replicate}
 use lib.Dec.{eqb}
-use Rattle.arith.specs.Layout.{mostPages, pageCount, firstPage}
+use Rattle.arith.specs.Layout.{mostPages, anyNumber, pageCount, firstPage}
 use Rattle.manager.specs.Status.{numberOf}
 use Rattle.manager.specs.Record.{slots, tasks, mostWords, emptiedRegion, emptiedPartition, noWaiter, fresh, regionOf}
 use Rattle.manager.specs.Result.{Result}
@@ -13,7 +13,7 @@ use Rattle.manager.specs.Region.{mapWords}
 use Rattle.manager.specs.Perform.{perform}
 use Rattle.manager.specs.declared.Call.{Call}
 use Rattle.manager.specs.declared.Call.the-variants.{CreateRegion, IdentRegion, DeleteRegion, GetSegment, ReturnSegment, ResizeSegment, CreatePartition, DeletePartition, GetBuffer, ReturnBuffer, Tick}
-use Rattle.manager.specs.declared.Order.the-variants.{Fifo}
+use Rattle.manager.specs.declared.Order.the-variants.{Fifo, HalvesFifo, HalvesPriority}
 use Rattle.manager.specs.declared.Wait.the-variants.{No, Yes}
 use Rattle.manager.specs.declared.Manager.{Manager}
 use Rattle.manager.specs.declared.Notice.{Notice}
@@ -57,7 +57,7 @@ atGeneration g = record { regions = replicate slots (emptiedRegion g); partition
 abbrev pub holds : Row → Bool
 holds (layout start bytes page most n first last) =
     eqb (mostPages bytes page) most
-    && (eqb (pageCount start bytes page) n && (eqb (firstPage start page n * page) first && eqb (first + n * page) (last + 1)))
+    && (eqb (pageCount anyNumber start bytes page) n && (eqb (firstPage start page n * page) first && eqb (first + n * page) (last + 1)))
 holds (calls ss) = follows (replicate mostWords 0) fresh ss (λ m d. true)
 holds (words ss ws) = follows (replicate mostWords 0) fresh ss (λ m d. same (mapWords m (regionOf d 1)) ws)
 holds (later g ss) = follows (replicate mostWords 0) (atGeneration g) ss (λ m d. true)
@@ -68,6 +68,10 @@ a = step (CreateRegion 1 4 1020 64 Fifo) 0 1 []
 
 abbrev pub again : ℕ → Step
 again id = step (CreateRegion 1 4 1020 64 Fifo) 0 id []
+
+-- 16 pages by halves, from 128 to 1,151
+abbrev pub h : Step
+h = step (CreateRegion 1 4 1148 64 HalvesFifo) 0 1 []
 
 abbrev pub remove : ℕ → ℕ → Step
 remove id status = step (DeleteRegion id) status 0 []
@@ -173,4 +177,28 @@ table =
     ∷ step (ReturnSegment 2 1856) 0 0 []
     ∷ step Tick 0 0 (2 ∷ 6 ∷ 0 ∷ 1 ∷ 6 ∷ 0 ∷ 4 ∷ 0 ∷ 1856 ∷ [])
     ∷ [])
+    -- Request 4. A by halves has 8 pages, from 64 to 575. 20 pages of 8 fit from 88 on; by halves it is 16, behind a shorter map, from 72 on.
+    ∷ calls (step (CreateRegion 1 4 1020 64 HalvesFifo) 0 1 [] ∷ get 513 8 0 ∷ get 512 0 64 ∷ [])
+    ∷ calls (step (CreateRegion 1 8 248 8 Fifo) 0 1 [] ∷ get 160 0 88 ∷ [])
+    ∷ calls (step (CreateRegion 1 8 248 8 HalvesPriority) 0 1 [] ∷ get 129 8 0 ∷ get 128 0 72 ∷ [])
+    -- 16 pages, gets of 1, 3 and 2 pages. The map is 3, 2, 5, 0, 9, 0, 0, 0, 16, then seven zeros.
+    ∷ words (h ∷ get 64 0 128 ∷ get 192 0 384 ∷ get 128 0 256 ∷ []) (3 ∷ 2 ∷ 5 ∷ 0 ∷ 9 ∷ 0 ∷ 0 ∷ 0 ∷ 16 ∷ replicate 7 0)
+    -- The smallest block serves, page 5, and not page 0, the lower block of four.
+    ∷ calls (h ∷ get 256 0 128 ∷ get 64 0 384 ∷ return 128 0 [] ∷ get 64 0 448 ∷ get 128 0 512 ∷ get 256 0 128 ∷ [])
+    -- Page 1 comes back last of the first four: it joins page 0, and both join pages 2 and 3; pages 4 to 7 are held.
+    ∷ words
+    (h ∷ get 64 0 128 ∷ get 64 0 192 ∷ get 128 0 256 ∷ get 256 0 384 ∷ return 128 0 [] ∷ return 256 0 [] ∷ return 192 0 [] ∷ [])
+    (8 ∷ 0 ∷ 0 ∷ 0 ∷ 9 ∷ 0 ∷ 0 ∷ 0 ∷ 16 ∷ replicate 7 0)
+    -- With the last of them back it is one free block again.
+    ∷ words
+    (h ∷ get 64 0 128 ∷ get 64 0 192 ∷ get 128 0 256 ∷ get 256 0 384 ∷ return 128 0 [] ∷ return 256 0 [] ∷ return 192 0 [] ∷ return 384 0 [] ∷ [])
+    (32 ∷ replicate 15 0)
+    -- Pages 2 and 3 adjoin pages 4 and 5, and are not their other half: both stay, and four pages are had from page 8 on.
+    ∷ words
+    (h ∷ get 128 0 128 ∷ get 128 0 256 ∷ get 128 0 384 ∷ get 128 0 512 ∷ return 256 0 [] ∷ return 384 0 [] ∷ get 256 0 640 ∷ [])
+    (5 ∷ 0 ∷ 4 ∷ 0 ∷ 4 ∷ 0 ∷ 5 ∷ 0 ∷ 9 ∷ 0 ∷ 0 ∷ 0 ∷ 8 ∷ replicate 3 0)
+    -- A waiter for eight pages is served when the second four join the first.
+    ∷ calls (h ∷ get 512 0 128 ∷ get 256 0 640 ∷ get 256 0 896 ∷ waits 3 512 ∷ return 640 0 [] ∷ return 896 0 (3 ∷ 0 ∷ 640 ∷ []) ∷ [])
+    -- Three pages have four: a resize to four is 0, to two or to five 13.
+    ∷ calls (h ∷ get 192 0 128 ∷ resize 128 256 0 256 [] ∷ resize 128 128 13 256 [] ∷ resize 128 257 13 256 [] ∷ [])
     ∷ []

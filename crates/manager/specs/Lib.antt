@@ -3,7 +3,9 @@ pub mod Record
 pub mod Result
 pub mod Lists
 pub mod Map
+pub mod Kind
 pub mod Paged
+pub mod Halves
 pub mod Region
 pub mod Words
 pub mod Queue

@@ -1,12 +1,12 @@
--- Rules 5: how a region of pages places, frees and resizes segments. A kind of region is one
--- record of such functions, and the directives and the queue are stated over it. Assumes nothing.
+-- Rules 5.1 to 5.3: how a region of pages places, frees and resizes segments. Assumes nothing.
 use Prim.Native.Nat.{ℕ, zero, suc, _+_, _-_}
 use mathlib.Core.Bool.{Bool, cond, _&&_, _||_}
 use mathlib.Core.List.{List, [], _∷_}
 use lib.Dec.{eqb, leb}
 use Rattle.manager.specs.Lists.{adjacent}
+use Rattle.arith.specs.Layout.{anyNumber}
 use Rattle.manager.specs.Map.{Segment, free, held, isHeldSegment}
-use Rattle.manager.specs.declared.Order.{Order}
+use Rattle.manager.specs.Kind.{Kind}
 use Rattle.manager.specs.declared.Place.{Place}
 use Rattle.manager.specs.declared.Place.the-variants.{At, Nowhere}
 
@@ -46,11 +46,6 @@ placeFrom k at [] = Nowhere
 placeFrom k at (held n ∷ s) = placeFrom k (at + n) s
 placeFrom k at (free n ∷ s) = cond (leb k n) (At at) (placeFrom k (at + n) s)
 
--- by where a search ends
-abbrev pub onPlace : {A : Type 0} → Place → (ℕ → A) → A → A
-onPlace (At p) f z = f p
-onPlace Nowhere f z = z
-
 -- k pages from page p on are held, where they lie in a free segment: what it has before them and behind them stays free
 unfoldable pub occupyFrom : ℕ → ℕ → ℕ → List Segment → List Segment
 occupyFrom p k at [] = []
@@ -58,13 +53,7 @@ occupyFrom p k at (held n ∷ s) = held n ∷ occupyFrom p k (at + n) s
 occupyFrom p k at (free n ∷ s) =
     cond (leb at p && leb (p + k) (at + n)) (free+ (p - at) (held k ∷ free+ (at + n - (p + k)) s)) (free n ∷ occupyFrom p k (at + n) s)
 
--- the pages of the held segment that starts at page p, where the map starts at page `at`; 0 where none does
-unfoldable pub heldFrom : ℕ → ℕ → List Segment → ℕ
-heldFrom p at [] = 0
-heldFrom p at (free n ∷ s) = heldFrom p (at + n) s
-heldFrom p at (held n ∷ s) = cond (eqb at p) n (heldFrom p (at + n) s)
-
--- the most that it can have: its own pages and those of an adjoining free follower
+-- the most that the held segment at page p can have: its own pages and those of an adjoining free follower
 unfoldable pub reachFrom : ℕ → ℕ → List Segment → ℕ
 reachFrom p at [] = 0
 reachFrom p at (free n ∷ s) = reachFrom p (at + n) s
@@ -77,36 +66,14 @@ changeFrom p k at [] = []
 changeFrom p k at (free n ∷ s) = free+ n (changeFrom p k (at + n) s)
 changeFrom p k at (held n ∷ s) = cond (eqb at p) (held+ k (free+ (n + lead s - k) (rest s))) (held n ∷ changeFrom p k (at + n) s)
 
--- a kind of region
-pub record Kind : Type 0 where
-  -- the pages that are given for k pages asked for
-  pub rounded : ℕ → ℕ
-  -- how the segments of a sound map stand
-  pub proper : List Segment → Bool
-  -- of a map that starts at page `at`, the argument before it: where k pages are placed, and the map with the k pages from a page on held
-  pub place : ℕ → ℕ → List Segment → Place
-  pub occupy : ℕ → ℕ → ℕ → List Segment → List Segment
-  -- the pages of the held segment at a page, the most that it can have, and the map with k pages for it
-  pub held : ℕ → ℕ → List Segment → ℕ
-  pub reach : ℕ → ℕ → List Segment → ℕ
-  pub change : ℕ → ℕ → ℕ → List Segment → List Segment
-
--- Get: k pages are held where they are placed; where they are not, nothing changes
-abbrev pub allocate : Kind → ℕ → ℕ → List Segment → List Segment
-allocate K k at s = onPlace (K .place k at s) (λ p. K .occupy p k at s) s
-
 abbrev pub paged : Kind
 paged =
     record {
       rounded = λ k. k;
+      allowed = anyNumber;
       proper = apart;
       place = placeFrom;
       occupy = occupyFrom;
-      held = heldFrom;
-      reach = reachFrom;
+      canHave = λ p k at s. leb k (reachFrom p at s);
       change = changeFrom;
     }
-
--- the kind of a region, by its order: every region is of pages
-abbrev pub kindOf : Order → Kind
-kindOf o = paged

@@ -12,13 +12,15 @@ use Rattle.manager.specs.declared.Manager.{Manager}
 use Rattle.manager.specs.declared.Waiter.{Waiter}
 use Rattle.manager.specs.declared.Notice.{Notice}
 use Rattle.manager.specs.declared.Order.{Order}
-use Rattle.manager.specs.declared.Order.the-variants.{Fifo, Priority}
+use Rattle.manager.specs.declared.Order.the-variants.{Fifo, Priority, HalvesFifo, HalvesPriority}
 use Rattle.manager.specs.declared.Status.the-variants.{Timeout}
 
 -- whether an order goes by priority; in FIFO order all go by arrival
 abbrev pub byPriority : Order → Bool
 byPriority Fifo = false
 byPriority Priority = true
+byPriority HalvesFifo = false
+byPriority HalvesPriority = true
 
 -- priority 1 is most urgent; equal ones go by arrival
 abbrev pub urgent : Order → ℕ → ℕ → Bool

@@ -1,6 +1,6 @@
 -- Rules 6: where a region's map and pages lie in the memory. Assumes nothing.
 use Prim.Native.Nat.{ℕ, _+_, _*_, _/_, _%_}
-use mathlib.Core.Bool.{Bool, cond, _&&_}
+use mathlib.Core.Bool.{Bool, true, false, cond, _&&_}
 use mathlib.Core.List.{List, [], _∷_, _++_}
 use lib.ListN.{take, drop}
 use lib.Seq.{sets}
@@ -10,7 +10,11 @@ use Rattle.arith.specs.Layout.{layoutOf as layoutAt}
 use Rattle.arith.specs.declared.Layout.{Layout}
 use Rattle.manager.specs.Lists.{any}
 use Rattle.manager.specs.Map.{Segment, isHeldSegment, decode, draw, freeSizes, heldSizes}
-use Rattle.manager.specs.Paged.{Kind, kindOf, allocate, free+}
+use Rattle.manager.specs.Kind.{Kind, allocate, heldFrom}
+use Rattle.manager.specs.Paged.{free+, paged}
+use Rattle.manager.specs.Halves.{halves}
+use Rattle.manager.specs.declared.Order.{Order}
+use Rattle.manager.specs.declared.Order.the-variants.{Fifo, Priority, HalvesFifo, HalvesPriority}
 use Rattle.manager.specs.declared.Region.{Region}
 use Rattle.manager.specs.declared.Partition.{Partition}
 use Rattle.manager.specs.declared.Manager.{Manager}
@@ -21,12 +25,22 @@ use Rattle.manager.specs.declared.Place.{Place}
 abbrev pub dead : Region → Bool
 dead r = eqb (r .name) 0
 
+-- the kind of a region, by its order
+abbrev pub byHalves : Order → Bool
+byHalves Fifo = false
+byHalves Priority = false
+byHalves HalvesFifo = true
+byHalves HalvesPriority = true
+
+abbrev pub kindOf : Order → Kind
+kindOf o = cond (byHalves o) halves paged
+
 abbrev pub kind : Region → Kind
 kind r = kindOf (r .order)
 
 -- its layout: how many pages it has, the number of the first one, the place of its map's first word
 abbrev pub layoutOf : Region → Layout
-layoutOf r = layoutAt (r .start) (r .length) (r .page)
+layoutOf r = layoutAt (kind r .allowed) (r .start) (r .length) (r .page)
 
 abbrev pub pagesOf : Region → ℕ
 pagesOf r = layoutOf r .pages
@@ -68,12 +82,12 @@ withSegments m r s = sets m (mapAt r) (draw s)
 abbrev pub opened : List ℕ → Region → List ℕ
 opened m r = withSegments m r (free+ (pagesOf r) [])
 
--- the pages of the held segment that starts at an address (0 where none does), and the most that it can have
+-- the pages of the held segment that starts at an address (0 where none does), and whether it can have k pages
 abbrev pub heldAt : List ℕ → Region → ℕ → ℕ
-heldAt m r a = cond (startsPage r a) (kind r .held (pageAt r a) (firstPageOf r) (segments m r)) 0
+heldAt m r a = cond (startsPage r a) (heldFrom (pageAt r a) (firstPageOf r) (segments m r)) 0
 
-abbrev pub roomAt : List ℕ → Region → ℕ → ℕ
-roomAt m r a = kind r .reach (pageAt r a) (firstPageOf r) (segments m r)
+abbrev pub canHave : List ℕ → Region → ℕ → ℕ → Bool
+canHave m r a k = kind r .canHave (pageAt r a) k (firstPageOf r) (segments m r)
 
 -- the memory after that segment has k pages; 0: it is returned
 abbrev pub changed : List ℕ → Region → ℕ → ℕ → List ℕ

@@ -9,9 +9,9 @@ use Rattle.manager.specs.Record.{slots, tasks, noRegion, emptiedRegion, 
 use Rattle.manager.specs.Result.{Result, Check, check, checked, refused, done, replied}
 use Rattle.manager.specs.Lists.{any, indexOf}
 use Rattle.manager.specs.Map.{largestOf, sumOf}
-use Rattle.manager.specs.Region.{dead, pagesOf, addressOf, opened, heldAt, roomAt, changed, anyHeld, frees, helds, pagesAsked, servable, placed, taken, areas, overlap}
+use Rattle.manager.specs.Region.{dead, pagesOf, addressOf, opened, heldAt, canHave, changed, anyHeld, frees, helds, pagesAsked, servable, placed, taken, areas, overlap}
 use Rattle.manager.specs.Queue.{enqueue, waiting, leaving, afterTick}
-use Rattle.manager.specs.Paged.{onPlace}
+use Rattle.manager.specs.Kind.{onPlace}
 use Rattle.manager.specs.Serve.{behind, serve, serveAfter, fromServed}
 use Rattle.manager.specs.Sound.{sound}
 use Rattle.manager.specs.declared.Manager.{Manager}
@@ -150,7 +150,7 @@ resizeSegment m d id address size =
     ∷ check (dead r) InvalidId
     ∷ check (eqb old 0) InvalidAddress
     ∷ [])
-    (cond (leb k (roomAt m r address))
+    (cond (canHave m r address k)
     (fromServed (old * r .page) (serve (changed m r address k) d id))
     (replied m d Unsatisfied (old * r .page)))
 

@@ -7,7 +7,7 @@ use lib.ListN.{getD}
 use lib.Dec.{ltb}
 use Rattle.manager.specs.Record.{slots, tasks, noRegion, noWaiter, noInformation, regionOf, idOf}
 use Rattle.manager.specs.Result.{Result}
-use Rattle.manager.specs.Paged.{onPlace}
+use Rattle.manager.specs.Kind.{onPlace}
 use Rattle.manager.specs.Region.{dead, addressOf, pagesAsked, placed, taken}
 use Rattle.manager.specs.Queue.{firstOf, dequeue}
 use Rattle.manager.specs.declared.Manager.{Manager}

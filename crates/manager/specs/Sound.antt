@@ -16,7 +16,7 @@ use Rattle.manager.specs.declared.Region.{Region}
 use Rattle.manager.specs.declared.Partition.{Partition}
 use Rattle.manager.specs.declared.Waiter.{Waiter}
 use Rattle.manager.specs.declared.Order.{Order}
-use Rattle.manager.specs.declared.Order.the-variants.{Fifo, Priority}
+use Rattle.manager.specs.declared.Order.the-variants.{Fifo, Priority, HalvesFifo, HalvesPriority}
 
 -- "Memory of allowed length"
 abbrev pub soundLength : List ℕ → Bool
@@ -37,6 +37,8 @@ soundSize bytes size = leb size bytes && (eqb (size % 4) 0 && leb 8 size)
 abbrev pub isFifo : Order → Bool
 isFifo Fifo = true
 isFifo Priority = false
+isFifo HalvesFifo = false
+isFifo HalvesPriority = false
 
 -- "empty slots zero", but for the generation
 abbrev pub emptyRegion : Region → Bool

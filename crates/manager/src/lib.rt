@@ -4,10 +4,12 @@ ghost use mathlib.Core.Path.{_≡_};
 ghost use Rattle.manager.specs.Record.{fresh, emptiedRegion, emptiedPartition};
 ghost use Rattle.manager.specs.Status.{numberOf};
 
-// The discipline of a region's wait queue: by arrival, or by priority.
+// The discipline of a region's wait queue, by arrival or by priority, and the region's kind: of pages, or by halves.
 pub enum Order {
     Fifo,
     Priority,
+    HalvesFifo,
+    HalvesPriority,
 }
 
 // Whether a get may wait.
@@ -34,7 +36,7 @@ pub enum Status {
     Waiting,
 }
 
-// A region: its slot's generation, its area as asked for, its page size, rounded, and its queue's discipline. An empty slot has name 0.
+// A region: its slot's generation, its area as asked for, its page size, rounded, and its order. An empty slot has name 0.
 pub struct Region {
     pub name: u32,
     pub generation: u32,

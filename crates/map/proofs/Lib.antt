@@ -1,4 +1,6 @@
 pub mod Scan
+pub mod Order
 pub mod Check
+pub mod Block
 pub mod Part
 pub mod Word

@@ -13,7 +13,7 @@ use Rattle.manager.specs.Lists.{any}
 use Rattle.manager.proofs.Laws.Lists.{Seeking, some-next, some-here, some-end}
 use Rattle.manager.proofs.Laws.Map.{decode-skip}
 use Rattle.manager.specs.Map.{Segment, free, held, isHeld, isHeldSegment, decode}
-use Rattle.manager.specs.Paged.{heldFrom}
+use Rattle.manager.specs.Kind.{heldFrom}
 
 -- one word: odd, even, 0
 pub decode-held : (w : ℕ) (ws : List ℕ) → w % 2 ≡ 1 → decode (w ∷ ws) ≡ held (w / 2) ∷ decode ws

@@ -2,19 +2,19 @@
 -- words before it finds (`one-word`). Assumes nothing.
 use Prim.Native.Nat.{ℕ, zero, suc, _+_, _-_, _*_, _/_, _%_, _≤_, _<_}
 use mathlib.Core.Path.{_≡_, refl, sym, ap, _∙_}
-use mathlib.Core.Bool.{Bool, true, false, cond, not, _&&_, _||_}
+use mathlib.Core.Bool.{Bool, true, false, cond, not, _&&_}
 use mathlib.Core.List.{List, [], _∷_}
 use native.Mathlib.Omega.{arith}
-use borrow.Author.Tests.{eq-eqb, ne-eqb, eqb-true, eqb-false, leb-true, leb-false}
+use borrow.Author.Tests.{ne-eqb, eqb-true, eqb-false, leb-true, leb-false}
 use lib.Dec.{eqb, leb}
 use lib.ListN.{length, getD}
 use Rattle.manager.specs.Lists.{any}
-use Rattle.manager.proofs.Laws.Map.{head-parts, rest-parts, no-end, decode-start, decode-skip, size-of, held-of as mark-of, total-cons, total-decoded, sound-tiled}
-use Rattle.manager.proofs.Laws.Apart.{Well, well-decoded}
-use Rattle.manager.specs.Map.{Segment, free, held, segmentOf, isHeld, isHeldSegment, decode, tiledFrom, tiled, soundMap, total}
-use Rattle.manager.specs.Paged.{apart, heldFrom}
+use Rattle.manager.proofs.Laws.Map.{head-parts, rest-parts, no-end, decode-start, decode-skip, size-of, total-cons, total-decoded, sized-decoded, redraw, Sized, sound-tiled, sound-proper}
+use Rattle.manager.proofs.Laws.Kinds.{Keeps, keeps}
+use Rattle.manager.specs.Map.{Segment, free, held, segmentOf, isHeld, isHeldSegment, draw, decode, tiledFrom, tiled, soundMap, total}
+use Rattle.manager.specs.Kind.{Kind, heldFrom}
 use Rattle.manager.specs.Record.{regionOf}
-use Rattle.manager.specs.Region.{layoutOf, pagesOf, firstPageOf, mapWords, segments, heldAt, anyHeld}
+use Rattle.manager.specs.Region.{kind, layoutOf, pagesOf, firstPageOf, mapWords, segments, heldAt, anyHeld}
 use Rattle.manager.specs.Sound.{sound}
 use Rattle.manager.specs.Sound.{Sited}
 use Rattle.manager.proofs.Laws.Sound.{sited, tiled-map, map-long}
@@ -102,40 +102,48 @@ held-of m r s l el a n en = en ∙ rw (el, ne-eqb (r .page) 0 (λ z. omega (arit
     starts true = reads (leb (firstPageOf r) (a / r .page)) refl
     starts false = refl
 
--- NOTHING HELD. Behind a free segment stands a held one, if anything
-behind-free : (t : List Segment) → Well false t → any isHeldSegment t ≡ not (eqb (total t) 0)
-unfolding any total
-behind-free [] v = refl
-behind-free (free n ∷ t) v = absurd (let z : _≡_ {A = ℕ} 0 1 = cc in omega arith)
-behind-free (held n ∷ t) v = rw (ne-eqb (n + total t) 0 (λ e. omega (arith, v .0)))
+-- NOTHING HELD, in a map of every kind: its first word says a free segment of all n pages. One that does leaves no page for another
+sized-none : (s : List Segment) → Sized s → total s ≡ 0 → s ≡ []
+sized-none [] w e = refl
+sized-none (g ∷ s) w e = absurd (omega (arith, w .0, total-cons g s))
 
--- so nothing is held exactly where the first word says a free segment of all n pages
-first-by-mark : (w n : ℕ) (t : List Segment) (b : Bool) → isHeld w ≡ b → w / 2 + total t ≡ n → Well b t
-    → (b || any isHeldSegment t) ≡ not (eqb w (2 * n))
-first-by-mark w n t true e h v = rw (ne-eqb w (2 * n) (λ x. omega (arith, eqb-true (w % 2) 1 e)))
-first-by-mark w n t false e h v = behind-free t v ∙ ap not (by-test (eqb (total t) 0) refl)
-  where
-    by-test : (x : Bool) → eqb (total t) 0 ≡ x → eqb (total t) 0 ≡ eqb w (2 * n)
-    by-test true q = q ∙ sym (eq-eqb w (2 * n) (omega (arith, eqb-true (total t) 0 q, eqb-false (w % 2) 1 e)))
-    by-test false q = q ∙ sym (ne-eqb w (2 * n) (λ x. eqb-false (total t) 0 q (omega arith)))
-
-first-says : (ws : List ℕ) → soundMap apart ws ≡ true → 1 ≤ length ws → any isHeldSegment (decode ws) ≡ not (eqb (getD ws 0 0) (2 * length ws))
+free-first : (w : ℕ) (ws : List ℕ) → tiled (w ∷ ws) ≡ true → w ≡ 2 * suc (length ws) → any isHeldSegment (decode (w ∷ ws)) ≡ false
 unfolding tiled any
-first-says [] e h = absurd (omega arith)
-first-says (w ∷ ws) e h =
-    let p = head-parts w ws (sound-tiled apart (w ∷ ws) e) in
-    let d : decode (w ∷ ws) ≡ segmentOf w ∷ decode ws = decode-start w ws (omega (arith, p .0)) in
-    let v : Well true (segmentOf w ∷ decode ws) = rw d at (well-decoded (w ∷ ws) e) in
-    let n : w / 2 + total (decode ws) ≡ suc (length ws) =
-    rw (← size-of w, ← total-cons (segmentOf w) (decode ws), ← d) (total-decoded (w ∷ ws) (sound-tiled apart (w ∷ ws) e)) in
-    rw (d, mark-of w) (first-by-mark w (suc (length ws)) (decode ws) (isHeld w) refl n (rw (mark-of w) at (v .2)))
+free-first w ws e h =
+    let d : decode (w ∷ ws) ≡ segmentOf w ∷ decode ws = decode-start w ws (omega arith) in
+    let z : Sized (segmentOf w ∷ decode ws) = rw d at (sized-decoded (w ∷ ws) e) in
+    let t : total (segmentOf w ∷ decode ws) ≡ suc (length ws) = rw d at (total-decoded (w ∷ ws) e) in
+    let n : decode ws ≡ [] = sized-none (decode ws) (z .1) (omega (arith, total-cons (segmentOf w) (decode ws), size-of w)) in
+    let f : isHeld w ≡ false = ne-eqb (w % 2) 1 (λ x. omega arith) in
+    rw (d, n, f)
+
+none-first : (K : Kind) → Keeps K → (w : ℕ) (ws : List ℕ) → soundMap (K .proper) (w ∷ ws) ≡ true → any isHeldSegment (decode (w ∷ ws)) ≡ false
+    → w ≡ 2 * suc (length ws)
+unfolding draw
+none-first K keeps w ws e h =
+    let t = sound-tiled (K .proper) (w ∷ ws) e in
+    let n : total (decode (w ∷ ws)) ≡ suc (length ws) = total-decoded (w ∷ ws) t in
+    let o = keeps .none-held (decode (w ∷ ws)) (omega arith) (record { sized = sized-decoded (w ∷ ws) t; proper = sound-proper (K .proper) (w ∷ ws) e }) h in
+    let d : draw (free (suc (length ws)) ∷ []) ≡ w ∷ ws = ap (λ (k : ℕ). draw (free k ∷ [])) (sym n) ∙ ap draw (sym o) ∙ redraw (w ∷ ws) t in
+    let f : suc (length ws) * 2 + 0 ≡ w = ap (λ (l : List ℕ). getD l 0 0) d in
+    omega arith
+
+first-says : (K : Kind) → Keeps K → (ws : List ℕ) → soundMap (K .proper) ws ≡ true → 1 ≤ length ws
+    → any isHeldSegment (decode ws) ≡ not (eqb (getD ws 0 0) (2 * length ws))
+first-says K keeps [] e h = absurd (omega arith)
+first-says K keeps (w ∷ ws) e h = go (eqb w (2 * suc (length ws))) refl (any isHeldSegment (decode (w ∷ ws))) refl
+  where
+    go : (b : Bool) → eqb w (2 * suc (length ws)) ≡ b → (c : Bool) → any isHeldSegment (decode (w ∷ ws)) ≡ c → c ≡ not b
+    go true f c x = sym x ∙ free-first w ws (sound-tiled (K .proper) (w ∷ ws) e) (eqb-true w (2 * suc (length ws)) f)
+    go false f true x = refl
+    go false f false x = absurd (eqb-false w (2 * suc (length ws)) f (none-first K keeps w ws e x))
 
 -- a region whose map is sound
 pub free-of : (m : List ℕ) (r : Region) → Sited m r → (l : Layout) → l ≡ layoutOf r → (b : Bool) → b ≡ oneFree m l → not b ≡ anyHeld m r
 free-of m r s l el b eb =
     let n : length (mapWords m r) ≡ pagesOf r = map-long m r (s .laid) in
     let t : oneFree m l ≡ eqb (getD (mapWords m r) 0 0) (2 * length (mapWords m r)) = rw (el, n) in
-    ap not (eb ∙ t) ∙ sym (first-says (mapWords m r) (s .sound) (omega (arith, n, s .laid .some)))
+    ap not (eb ∙ t) ∙ sym (first-says (kind r) (keeps (r .order)) (mapWords m r) (s .sound) (omega (arith, n, s .laid .some)))
 
 -- A LIVE REGION OF A SOUND RECORD
 module _ (m : List ℕ) (d : Manager) (id : ℕ) (e : sound m d ≡ true) (r : Region) (er : r ≡ regionOf d id) (n : r .name ≡ 0 → ⊥) (l : Layout) (el : l ≡ layoutOf r) where

@@ -1,26 +1,50 @@
 // Where a region's map lies in the memory, and what its words say. Every function is total: any words are read, sound or not.
+mod halves;
+
 use arith::Layout;
+use manager::Order;
 use manager::Region;
 ghost use mathlib.Core.Path.{_≡_};
 ghost use Prim.Native.Nat.{_-_, _/_};
 ghost use Rattle.manager.specs.Lists.{any};
 ghost use Rattle.manager.specs.Map.{decode, soundMap, isHeldSegment};
 ghost use Rattle.manager.specs.Paged.{apart};
-ghost use Rattle.manager.specs.Region.{layoutOf, wordsAt, pagesAsked};
+ghost use Rattle.manager.specs.Region.{byHalves, kindOf, layoutOf, wordsAt, pagesAsked};
 ghost use Rattle.map.specs.Word.{heldWord, heldWordAt, oneFree};
+
+// Whether a region of an order is one by halves; else it is of pages.
+pub fn by_halves(o: Order) -> bool
+    ensures { λ b. ⌜ b ≡ byHalves o ⌝ }
+{
+    match o {
+        Order::Fifo => false,
+        Order::Priority => false,
+        Order::HalvesFifo => true,
+        Order::HalvesPriority => true,
+    }
+}
 
 // Where the region's map and pages lie: a directive works it out once, and hands it on.
 pub fn layout_of(r: Region) -> Layout
     ensures { λ l. ⌜ l ≡ layoutOf r ⌝ }
 {
+    let order = r.order;
+    if by_halves(order) {
+        return arith::layout_by_halves(r.start, r.length, r.page);
+    }
     arith::layout_of(r.start, r.length, r.page)
 }
 
-// How many pages a request for so many bytes takes.
-pub fn pages_asked(r: Region, size: u32) -> u32
+// How many pages a request for so many bytes takes: by halves, a power of two.
+pub fn pages_asked(r: Region, size: u32) -> u64
     ensures { λ n. ⌜ n ≡ pagesAsked r size ⌝ }
 {
-    arith::pages_for(size, r.page)
+    let n = arith::pages_for(size, r.page);
+    let order = r.order;
+    if by_halves(order) {
+        return arith::power_up(n);
+    }
+    n as u64
 }
 
 // The words of a map: fewer where the memory ends before them.
@@ -39,8 +63,18 @@ pub fn map_words<'a>(mem: &'a [u32], l: Layout) -> &'a [u32]
     &mem[at..end]
 }
 
+// Whether the words are a sound map of a region of an order.
+pub fn is_sound(map: &[u32], o: Order) -> bool
+    ensures { λ r. ⌜ r ≡ soundMap (kindOf o .proper) (now (map .entry)) ⌝ }
+{
+    if by_halves(o) {
+        return halves::is_sound(map);
+    }
+    is_apart(map)
+}
+
 // Whether the words are a sound map of a region of pages. `due` words of the segment that was begun are still to come; `before` is 1 where it is held.
-pub fn is_sound(map: &[u32]) -> bool
+fn is_apart(map: &[u32]) -> bool
     ensures { λ r. ⌜ r ≡ soundMap apart (now (map .entry)) ⌝ }
 {
     let mut i = 0;
@@ -86,7 +120,7 @@ pub fn any_held(map: &[u32]) -> bool
 
 // The pages that word p of a map says, where it is marked as held; else 0. In a sound map that is the held segment which starts there,
 // and no other word has to be read.
-fn held_word(map: &[u32], p: usize) -> u32
+pub fn held_word(map: &[u32], p: usize) -> u32
     ensures { λ r. ⌜ r ≡ heldWord (now (map .entry)) p ⌝ }
 {
     if map.len() <= p {

@@ -17,23 +17,29 @@ use Rattle.manager.specs.declared.Region.{Region}
 use Rattle.manager.specs.declared.Partition.{Partition}
 use Rattle.manager.specs.declared.Waiter.{Waiter}
 use Rattle.manager.specs.declared.Order.{Order}
-use Rattle.manager.specs.declared.Order.the-variants.{Fifo, Priority}
-use Rattle.packing.specs.Packing.{regionSize, partitionSize, waiterSize, orderWord, orderAt, regionWords, partitionWords, waiterWords, allWords, allAt, choices, regionAt, partitionAt, waiterAt, partitionsAt, waitersAt, recordWords, pack, unpack, wellFormed}
+use Rattle.manager.specs.declared.Order.the-variants.{Fifo, Priority, HalvesFifo, HalvesPriority}
+use Rattle.packing.specs.Packing.{regionSize, partitionSize, waiterSize, lastOrder, orderWord, orderAt, regionWords, partitionWords, waiterWords, allWords, allAt, choices, regionAt, partitionAt, waiterAt, partitionsAt, waitersAt, recordWords, pack, unpack, wellFormed}
 use Rattle.packing.proofs.Laws.{all-length, region-size}
 
--- A CHOICE
+-- AN ORDER
 order-of-word : (o : Order) → orderAt (orderWord o) ≡ o
 order-of-word Fifo = refl
 order-of-word Priority = refl
+order-of-word HalvesFifo = refl
+order-of-word HalvesPriority = refl
 
-word-of-order : (w : ℕ) → w ≤ 1 → orderWord (orderAt w) ≡ w
+word-of-order : (w : ℕ) → w ≤ lastOrder → orderWord (orderAt w) ≡ w
 word-of-order zero h = refl
 word-of-order (suc zero) h = refl
-word-of-order (suc (suc w)) h = absurd (omega arith)
+word-of-order (suc (suc zero)) h = refl
+word-of-order (suc (suc (suc zero))) h = refl
+word-of-order (suc (suc (suc (suc w)))) h = absurd (omega arith)
 
-choice-word : (o : Order) → orderWord o ≤ 1
+choice-word : (o : Order) → orderWord o ≤ lastOrder
 choice-word Fifo = omega arith
 choice-word Priority = omega arith
+choice-word HalvesFifo = omega arith
+choice-word HalvesPriority = omega arith
 
 -- READING WHAT WAS PACKED
 module _ {A : Type 0} (f : A → List ℕ) (g : List ℕ → ℕ → A) (size : ℕ) (some : (x : A) → length (f x) ≡ size)
@@ -166,13 +172,13 @@ module _ (ws : List ℕ) where
       let e₆ : i + 2 + 5 ≡ i + 7 = omega arith in
       rw (words-from i 7 h, words-from (i + 1) 6 (omega arith), e₁, six-from (i + 2) (omega arith), e₂, e₃, e₄, e₅, e₆)
 
-  choice-at : (n i k : ℕ) → choices n ws i ≡ true → k < n → getD ws (i + regionSize * k + 5) 0 ≤ 1
+  choice-at : (n i k : ℕ) → choices n ws i ≡ true → k < n → getD ws (i + regionSize * k + 5) 0 ≤ lastOrder
   unfolding choices
   choice-at zero i k e h = absurd (omega arith)
-  choice-at (suc n) i zero e h = let at : i + regionSize * 0 ≡ i = omega arith in rw at (leb-true _ _ (and-first (leb (getD ws (i + 5) 0) 1) (choices n ws (i + regionSize)) e))
-  choice-at (suc n) i (suc k) e h = let at : i + regionSize * suc k ≡ i + regionSize + regionSize * k = omega arith in rw at (choice-at n (i + regionSize) k (and-second (leb (getD ws (i + 5) 0) 1) _ e) (omega arith))
+  choice-at (suc n) i zero e h = let at : i + regionSize * 0 ≡ i = omega arith in rw at (leb-true _ _ (and-first (leb (getD ws (i + 5) 0) lastOrder) (choices n ws (i + regionSize)) e))
+  choice-at (suc n) i (suc k) e h = let at : i + regionSize * suc k ≡ i + regionSize + regionSize * k = omega arith in rw at (choice-at n (i + regionSize) k (and-second (leb (getD ws (i + 5) 0) lastOrder) _ e) (omega arith))
 
-  region-again : (i : ℕ) → i + regionSize ≤ length ws → getD ws (i + 5) 0 ≤ 1 → regionWords (regionAt ws i) ≡ take regionSize (drop i ws)
+  region-again : (i : ℕ) → i + regionSize ≤ length ws → getD ws (i + 5) 0 ≤ lastOrder → regionWords (regionAt ws i) ≡ take regionSize (drop i ws)
   unfolding regionAt regionWords
   region-again i h c = rw (six-from i h, word-of-order _ c)
 

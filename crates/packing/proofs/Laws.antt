@@ -17,8 +17,8 @@ use Rattle.manager.specs.declared.Region.{Region}
 use Rattle.manager.specs.declared.Partition.{Partition}
 use Rattle.manager.specs.declared.Waiter.{Waiter}
 use Rattle.manager.specs.declared.Order.{Order}
-use Rattle.manager.specs.declared.Order.the-variants.{Fifo, Priority}
-use Rattle.packing.specs.Packing.{regionSize, partitionSize, waiterSize, orderWord, orderAt, regionWords, partitionWords, waiterWords, allWords, allAt, choices, regionAt, partitionAt, waiterAt, partitionsAt, waitersAt, recordWords, pack, packed, unpack, unpacked}
+use Rattle.manager.specs.declared.Order.the-variants.{HalvesPriority}
+use Rattle.packing.specs.Packing.{lastOrder, regionSize, partitionSize, waiterSize, orderWord, orderAt, regionWords, partitionWords, waiterWords, allWords, allAt, choices, regionAt, partitionAt, waiterAt, partitionsAt, waitersAt, recordWords, pack, packed, unpack, unpacked}
 
 -- the first part starts at 0
 pub at-first : (n : ℕ) → n ≡ 0 + n
@@ -52,21 +52,20 @@ module _ {A : Type 0} (f : List ℕ → ℕ → A) (z : A) (size n base : ℕ) (
   unfolding allAt
   take-end all k v h = let none : n - k ≡ 0 = omega arith in fill-full z n all k _ (rw none at (v .fill)) h
 
--- a choice read
-module _ (w : ℕ) where
-  pub first-choice : w ≡ 0 → Fifo ≡ orderAt w
-  first-choice e = rw (eq-eqb w 0 e)
+-- the last order read
+pub last-order : (w : ℕ) → (w ≡ 0 → ⊥) → (w ≡ 1 → ⊥) → (w ≡ 2 → ⊥) → HalvesPriority ≡ orderAt w
+last-order zero h k l = absurd (h refl)
+last-order (suc zero) h k l = absurd (k refl)
+last-order (suc (suc zero)) h k l = absurd (l refl)
+last-order (suc (suc (suc w))) h k l = refl
 
-  pub second-choice : (w ≡ 0 → ⊥) → Priority ≡ orderAt w
-  second-choice h = rw (ne-eqb w 0 h)
-
--- a region read, its choice by itself
+-- a region read, its order by itself
 pub region-read : (ws : List ℕ) (at : ℕ) (o : Order) → o ≡ orderAt (getD ws (at + 5) 0)
     → record { name = getD ws at 0; generation = getD ws (at + 1) 0; start = getD ws (at + 2) 0; length = getD ws (at + 3) 0; page = getD ws (at + 4) 0; order = o } ≡ regionAt ws at
 unfolding regionAt
 region-read ws at o e = rw e
 
--- choices looked at: those of the regions up to k
+-- orders looked at: those of the regions up to k
 pub record Choosing (n : ℕ) (ws : List ℕ) (k : ℕ) : Type 0 where
   pub within : k ≤ n
   pub rest : choices (n - k) ws (regionSize * k) ≡ choices n ws 0
@@ -79,16 +78,16 @@ module _ (n : ℕ) (ws : List ℕ) where
     left : n - k ≡ suc (n - (k + 1))
     left = omega arith
 
-    pub choose-next : getD ws (at + 5) 0 ≤ 1 → Choosing n ws (k + 1)
+    pub choose-next : getD ws (at + 5) 0 ≤ lastOrder → Choosing n ws (k + 1)
     unfolding choices
     choose-next c =
         let next : regionSize * (k + 1) ≡ regionSize * k + regionSize = omega arith in
-        let here : getD ws (regionSize * k + 5) 0 ≤ 1 = rw (← e) c in
+        let here : getD ws (regionSize * k + 5) 0 ≤ lastOrder = rw (← e) c in
         record { within = omega arith; rest = rw next (rw (left, le-leb _ _ here) at (v .rest)) }
 
-    pub choose-none : 1 < getD ws (at + 5) 0 → false ≡ choices n ws 0
+    pub choose-none : lastOrder < getD ws (at + 5) 0 → false ≡ choices n ws 0
     unfolding choices
-    choose-none c = let here : 1 < getD ws (regionSize * k + 5) 0 = rw (← e) c in rw (left, lt-leb _ _ here) at (v .rest)
+    choose-none c = let here : lastOrder < getD ws (regionSize * k + 5) 0 = rw (← e) c in rw (left, lt-leb _ _ here) at (v .rest)
 
   pub choose-end : (k : ℕ) → Choosing n ws k → n ≤ k → true ≡ choices n ws 0
   unfolding choices
@@ -218,7 +217,7 @@ module _ (ws : List ℕ) (d : Manager) (e : d ≡ fresh) where
 
 pub ruleset taking = (unmapped, at-first, take-regions, take-partitions, take-waiters, take-next, take-end)
 
-pub ruleset reading = (first-choice, second-choice, region-read)
+pub ruleset reading = (region-read)
 
 -- words that say no record
 module _ (ws : List ℕ) (d : Manager) (e : d ≡ fresh) where

@@ -11,7 +11,7 @@ use Rattle.manager.specs.declared.Region.{Region}
 use Rattle.manager.specs.declared.Partition.{Partition}
 use Rattle.manager.specs.declared.Waiter.{Waiter}
 use Rattle.manager.specs.declared.Order.{Order}
-use Rattle.manager.specs.declared.Order.the-variants.{Fifo, Priority}
+use Rattle.manager.specs.declared.Order.the-variants.{Fifo, Priority, HalvesFifo, HalvesPriority}
 use Rattle.packing.specs.declared.Unpacked.{Unpacked}
 
 -- how many words an element of each kind has
@@ -34,13 +34,22 @@ waitersAt = partitionsAt + partitionSize * slots
 abbrev pub recordWords : ℕ
 recordWords = waitersAt + waiterSize * tasks
 
--- a choice as a word, and back; a word above 1 is no choice
+-- an order as a word, and back; a word above 3 is no order
 abbrev pub orderWord : Order → ℕ
 orderWord Fifo = 0
 orderWord Priority = 1
+orderWord HalvesFifo = 2
+orderWord HalvesPriority = 3
+
+-- the largest word that is an order
+abbrev pub lastOrder : ℕ
+lastOrder = 3
 
 abbrev pub orderAt : ℕ → Order
-orderAt w = cond (eqb w 0) Fifo Priority
+orderAt zero = Fifo
+orderAt (suc zero) = Priority
+orderAt (suc (suc zero)) = HalvesFifo
+orderAt (suc (suc (suc w))) = HalvesPriority
 
 unfoldable pub regionWords : Region → List ℕ
 regionWords r = r .name ∷ r .generation ∷ r .start ∷ r .length ∷ r .page ∷ orderWord (r .order) ∷ []
@@ -93,10 +102,10 @@ abbrev pub waiterAt : List ℕ → ℕ → Waiter
 waiterAt ws i =
     record { task = getD ws i 0; region = getD ws (i + 1) 0; size = getD ws (i + 2) 0; priority = getD ws (i + 3) 0; ticks = getD ws (i + 4) 0 }
 
--- the words say a record: their number is right, and each choice is one
+-- the words say a record: their number is right, and each order is one
 unfoldable pub choices : ℕ → List ℕ → ℕ → Bool
 choices zero ws i = true
-choices (suc n) ws i = leb (getD ws (i + 5) 0) 1 && choices n ws (i + regionSize)
+choices (suc n) ws i = leb (getD ws (i + 5) 0) lastOrder && choices n ws (i + regionSize)
 
 abbrev pub wellFormed : List ℕ → Bool
 wellFormed ws = eqb (length ws) recordWords && choices slots ws 0

@@ -24,14 +24,19 @@ pub fn copy(words: &mut [u32], at: usize, from: &[u32])
     }
 }
 
-// The choice that a word says: 0 is the first.
+// The largest word that is an order.
+pub const LAST_ORDER: u32 = 3;
+
+// The order that a word says.
 pub fn order_at(word: u32) -> Order
     ensures { λ r. ⌜ r ≡ orderAt word ⌝ }
 {
-    if word == 0 {
-        return Order::Fifo;
+    match word {
+        0 => Order::Fifo,
+        1 => Order::Priority,
+        2 => Order::HalvesFifo,
+        _ => Order::HalvesPriority,
     }
-    Order::Priority
 }
 
 // What words say: a record, if they say one.
@@ -54,7 +59,7 @@ pub(crate) const WAITERS_AT: usize = PARTITIONS_AT + PARTITION_SIZE * Manager::S
 
 pub const RECORD_WORDS: usize = WAITERS_AT + WAITER_SIZE * Manager::TASKS;
 
-// The record that the words say; not ok where their number is wrong or a choice is none.
+// The record that the words say; not ok where their number is wrong or an order is none.
 pub fn unpack(words: &[u32]) -> Unpacked
     ensures { λ r. ⌜ r ≡ unpacked (now (words .entry)) ⌝ }
 {

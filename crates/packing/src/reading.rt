@@ -1,4 +1,5 @@
 // Reading the parts of a record from its words.
+use crate::LAST_ORDER;
 use crate::PARTITION_SIZE;
 use crate::PARTITIONS_AT;
 use crate::REGION_SIZE;
@@ -15,7 +16,7 @@ ghost use lib.ListN.{length};
 ghost use Rattle.manager.specs.Record.{slots, tasks};
 ghost use Rattle.packing.specs.Packing.{regionSize, partitionSize, waiterSize, recordWords, partitionsAt, waitersAt, choices, allAt, regionAt, partitionAt, waiterAt};
 
-// Whether each region's choice is one.
+// Whether each region's order is one.
 pub(crate) fn choices(words: &[u32]) -> bool
     requires { ⌜ length (now words) ≡ recordWords ⌝ }
     ensures { λ r. ⌜ r ≡ choices slots (now (words .entry)) 0 ⌝ }
@@ -24,7 +25,7 @@ pub(crate) fn choices(words: &[u32]) -> bool
     while k < Manager::SLOTS {
         let at = REGION_SIZE * k;
         k = k + 1;
-        if 1 < words[at + 5] {
+        if LAST_ORDER < words[at + 5] {
             return false;
         }
     }

@@ -21,6 +21,8 @@ fn order(o: Order) -> u32
     match o {
         Order::Fifo => 0,
         Order::Priority => 1,
+        Order::HalvesFifo => 2,
+        Order::HalvesPriority => 3,
     }
 }
 

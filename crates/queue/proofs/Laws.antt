@@ -13,11 +13,10 @@ use Rattle.manager.specs.declared.Manager.{Manager}
 use Rattle.manager.specs.declared.Region.{Region}
 use Rattle.manager.specs.declared.Waiter.{Waiter}
 use Rattle.manager.specs.declared.Order.{Order}
-use Rattle.manager.specs.declared.Order.the-variants.{Fifo, Priority}
 use Rattle.manager.specs.Record.{tasks, noWaiter, slotOf, regionOf, withQueue}
 use Rattle.manager.specs.Lists.{any, indexOf}
 use Rattle.manager.proofs.Laws.Lists.{Placing, index-start, index-next, index-here, index-end, Seeking, some-start, some-next, some-here, some-end}
-use Rattle.manager.specs.Queue.{goesBefore, push, insert, pull, removeAt, enqueue, dequeue, waitsFor}
+use Rattle.manager.specs.Queue.{byPriority, goesBefore, push, insert, pull, removeAt, enqueue, dequeue, waitsFor}
 use Rattle.objects.proofs.Laws.{unmapped}
 
 -- the tests of `goes_before`, one after the other; i and j are the slots of the two
@@ -32,13 +31,13 @@ module _ (o : Order) (w x : Waiter) where
     before-later h = rw (ne-eqb _ _ n, ← p, ← q, lt-ltb _ _ h)
 
     module _ (h : j ≤ i) where
-      pub before-fifo : i ≡ j → o ≡ Fifo → false ≡ goesBefore o w x
+      pub before-fifo : i ≡ j → (b : Bool) → b ≡ byPriority o → b ≡ false → false ≡ goesBefore o w x
       unfolding goesBefore
-      before-fifo e k = rw (ne-eqb _ _ n, ← p, ← q, le-ltb _ _ h, eq-eqb _ _ e, k)
+      before-fifo e b f k = rw (ne-eqb _ _ n, ← p, ← q, le-ltb _ _ h, eq-eqb _ _ e, sym f ∙ k)
 
-      pub before-priority : i ≡ j → o ≡ Priority → ltb (w .priority) (x .priority) ≡ goesBefore o w x
+      pub before-priority : i ≡ j → (b : Bool) → b ≡ byPriority o → b ≡ true → ltb (w .priority) (x .priority) ≡ goesBefore o w x
       unfolding goesBefore
-      before-priority e k = rw (ne-eqb _ _ n, ← p, ← q, le-ltb _ _ h, eq-eqb _ _ e, k)
+      before-priority e b f k = rw (ne-eqb _ _ n, ← p, ← q, le-ltb _ _ h, eq-eqb _ _ e, sym f ∙ k)
 
       pub before-not : (i ≡ j → ⊥) → false ≡ goesBefore o w x
       unfolding goesBefore

@@ -12,9 +12,21 @@ ghost use mathlib.Core.Path.{_≡_};
 ghost use mathlib.Core.List.{_++_};
 ghost use lib.ListN.{take, drop};
 ghost use Rattle.manager.specs.Lists.{indexOf};
-ghost use Rattle.manager.specs.Queue.{goesBefore, push, removeAt, enqueue, dequeue, firstOf, waiting, aged, expired, leaving, afterTick};
+ghost use Rattle.manager.specs.Queue.{byPriority, goesBefore, push, removeAt, enqueue, dequeue, firstOf, waiting, aged, expired, leaving, afterTick};
 ghost use Rattle.manager.specs.Record.{noWaiter};
 ghost use Rattle.reply.specs.Notices.{Notices};
+
+// Whether an order goes by priority; else all go by arrival.
+fn by_priority(o: Order) -> bool
+    ensures { λ b. ⌜ b ≡ byPriority o ⌝ }
+{
+    match o {
+        Order::Fifo => false,
+        Order::Priority => true,
+        Order::HalvesFifo => false,
+        Order::HalvesPriority => true,
+    }
+}
 
 // Whether a waiter w of a region of order o goes before x: x is an unused place, of a region in a later slot, or less urgent.
 pub fn goes_before(o: Order, w: Waiter, x: Waiter) -> bool
@@ -28,11 +40,11 @@ pub fn goes_before(o: Order, w: Waiter, x: Waiter) -> bool
     if mine < other {
         return true;
     }
-    if mine == other {
-        return match o {
-            Order::Fifo => false,
-            Order::Priority => w.priority < x.priority,
-        };
+    if mine != other {
+        return false;
+    }
+    if by_priority(o) {
+        return w.priority < x.priority;
     }
     false
 }

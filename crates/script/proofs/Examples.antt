@@ -4,7 +4,7 @@ use mathlib.Core.List.{List, [], _∷_}
 use Rattle.text.specs.Bytes.{bytes}
 use Rattle.text.specs.Lines.{numberAfter, numberOf, lineFrom, starts, fieldAt}
 use Rattle.text.specs.Decimal.{digits, decimal, lineOf}
-use Rattle.manager.specs.declared.Order.the-variants.{Fifo}
+use Rattle.manager.specs.declared.Order.the-variants.{Fifo, HalvesPriority}
 use Rattle.manager.specs.declared.Wait.the-variants.{No}
 use Rattle.manager.specs.declared.Call.{Call}
 use Rattle.manager.specs.declared.Call.the-variants.{CreateRegion, GetSegment, ReturnSegment, RegionInformation, Tick}
@@ -51,10 +51,14 @@ pub no-digit : readAll (bytes "call=info\nid=\n") ≡ record { calls = []; bad =
 unfolding readAll readFrom readCall findRow keyAt numbersFrom fieldAt lineFrom starts numberOf numberAfter
 no-digit = refl
 
--- an order other than 0 or 1, keys in another order, a line that does not end, and a missing line
-pub order-two : readAll (bytes "call=create-region\nname=1\nstart=4\nlength=1020\npage=64\norder=2\n") ≡ record { calls = []; bad = some 54 }
+-- an order by halves; an order other than 0 to 3, keys in another order, a line that does not end, and a missing line
+pub order-three : readAll (bytes "call=create-region\nname=1\nstart=4\nlength=1020\npage=64\norder=3\n") ≡ whole (CreateRegion 1 4 1020 64 HalvesPriority ∷ [])
 unfolding readAll readFrom readCall findRow keyAt numbersFrom fieldAt lineFrom starts numberOf numberAfter
-order-two = refl
+order-three = refl
+
+pub order-four : readAll (bytes "call=create-region\nname=1\nstart=4\nlength=1020\npage=64\norder=4\n") ≡ record { calls = []; bad = some 54 }
+unfolding readAll readFrom readCall findRow keyAt numbersFrom fieldAt lineFrom starts numberOf numberAfter
+order-four = refl
 
 pub other-key : readAll (bytes "call=return\naddress=0\nid=0\n") ≡ record { calls = []; bad = some 12 }
 unfolding readAll readFrom readCall findRow keyAt numbersFrom fieldAt lineFrom starts numberOf numberAfter

@@ -14,7 +14,7 @@ use Rattle.text.specs.Lines.{starts}
 use Rattle.text.specs.declared.Entry.{Entry}
 use Rattle.text.specs.declared.Entry.the-variants.{Took, Bad}
 use Rattle.text.proofs.Laws.{starts-fits}
-use Rattle.manager.specs.declared.Order.the-variants.{Priority}
+use Rattle.manager.specs.declared.Order.the-variants.{HalvesPriority}
 use Rattle.manager.specs.declared.Wait.the-variants.{Yes}
 use Rattle.script.specs.Table.{Key, keys, noKey, Row, calls, noRow, orderOf, waitOf}
 use Rattle.script.specs.Reading.{findRow, keyAt, numbers, wrong, numbersFrom, onNumbers, onRow, fieldsOf, readCall}
@@ -27,9 +27,11 @@ use Rattle.script.proofs.Tables.{sequence, sequenceFrom, keysOf, keyNum
 
 -- ---- choices
 
-pub order-other : (n : ℕ) → (n ≡ 0 → ⊥) → Priority ≡ orderOf n
-order-other zero h = absurd (h refl)
-order-other (suc n) h = refl
+pub order-other : (n : ℕ) → (n ≡ 0 → ⊥) → (n ≡ 1 → ⊥) → (n ≡ 2 → ⊥) → HalvesPriority ≡ orderOf n
+order-other zero h k l = absurd (h refl)
+order-other (suc zero) h k l = absurd (k refl)
+order-other (suc (suc zero)) h k l = absurd (l refl)
+order-other (suc (suc (suc n))) h k l = refl
 
 pub wait-other : (n : ℕ) → (n ≡ 0 → ⊥) → Yes ≡ waitOf n
 wait-other zero h = absurd (h refl)

@@ -6,7 +6,7 @@ use mathlib.Core.List.{List, [], _∷_}
 use native.Mathlib.Omega.{arith}
 use lib.ListN.{length, getD, take}
 use Rattle.manager.specs.declared.Order.{Order}
-use Rattle.manager.specs.declared.Order.the-variants.{Fifo, Priority}
+use Rattle.manager.specs.declared.Order.the-variants.{Fifo, Priority, HalvesFifo, HalvesPriority}
 use Rattle.manager.specs.declared.Wait.{Wait}
 use Rattle.manager.specs.declared.Wait.the-variants.{No, Yes}
 use Rattle.manager.specs.declared.Call.{Call}
@@ -81,9 +81,11 @@ plain : (r : Row) → ((vs : List ℕ) → rowOf (r .call vs) ≡ r) → ((vs : 
 unfolding Makes
 plain r f g vs h = record { its-row = f vs; its-numbers = g vs ∙ spread-fit (r .keys) vs h }
 
-order-back : (n : ℕ) → n ≤ 1 → orderNumber (orderOf n) ≡ n
+order-back : (n : ℕ) → n ≤ 3 → orderNumber (orderOf n) ≡ n
 order-back zero h = refl
-order-back (suc n) h = let e : n ≡ 0 = omega arith in rw e
+order-back (suc zero) h = refl
+order-back (suc (suc zero)) h = refl
+order-back (suc (suc (suc n))) h = let e : n ≡ 0 = omega arith in rw e
 
 wait-back : (n : ℕ) → n ≤ 1 → waitNumber (waitOf n) ≡ n
 wait-back zero h = refl
@@ -125,6 +127,8 @@ made k h vs f = all-at Makes calls each-makes k h vs f
 order-there : (o : Order) → orderOf (orderNumber o) ≡ o
 order-there Fifo = refl
 order-there Priority = refl
+order-there HalvesFifo = refl
+order-there HalvesPriority = refl
 
 wait-there : (w : Wait) → waitOf (waitNumber w) ≡ w
 wait-there No = refl

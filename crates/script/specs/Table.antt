@@ -7,7 +7,7 @@ use mathlib.Core.Bool.{Bool, true, false}
 use lib.ListN.{getD}
 use Rattle.text.specs.Bytes.{bytes}
 use Rattle.manager.specs.declared.Order.{Order}
-use Rattle.manager.specs.declared.Order.the-variants.{Fifo, Priority}
+use Rattle.manager.specs.declared.Order.the-variants.{Fifo, Priority, HalvesFifo, HalvesPriority}
 use Rattle.manager.specs.declared.Wait.{Wait}
 use Rattle.manager.specs.declared.Wait.the-variants.{No, Yes}
 use Rattle.manager.specs.declared.Call.{Call}
@@ -40,7 +40,7 @@ pageKey = key "page" largest
 
 -- "order 0 FIFO or 1 priority"
 abbrev pub orderKey : Key
-orderKey = key "order" 1
+orderKey = key "order" 3
 
 abbrev pub idKey : Key
 idKey = key "id" largest
@@ -75,7 +75,9 @@ noKey = record { text = []; most = 0 }
 
 abbrev pub orderOf : ℕ → Order
 orderOf zero = Fifo
-orderOf (suc n) = Priority
+orderOf (suc zero) = Priority
+orderOf (suc (suc zero)) = HalvesFifo
+orderOf (suc (suc (suc n))) = HalvesPriority
 
 abbrev pub waitOf : ℕ → Wait
 waitOf zero = No
@@ -170,6 +172,8 @@ noRow = record { line = []; keys = []; sixValues = one; call = λ v. Tick }
 abbrev pub orderNumber : Order → ℕ
 orderNumber Fifo = 0
 orderNumber Priority = 1
+orderNumber HalvesFifo = 2
+orderNumber HalvesPriority = 3
 
 abbrev pub waitNumber : Wait → ℕ
 waitNumber No = 0

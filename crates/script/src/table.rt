@@ -20,7 +20,7 @@ pub(crate) const MOST: [u32; 12] = [
     4294967295,
     4294967295,
     4294967295,
-    1,
+    3,
     4294967295,
     4294967295,
     1,
@@ -141,7 +141,9 @@ fn order_of(n: u32) -> Order
 {
     match n {
         0 => Order::Fifo,
-        _ => Order::Priority,
+        1 => Order::Priority,
+        2 => Order::HalvesFifo,
+        _ => Order::HalvesPriority,
     }
 }
 

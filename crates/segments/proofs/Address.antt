@@ -9,12 +9,11 @@ use mir.Syntax.{w32}
 use mir.Val.{Fits}
 use borrow.Author.Needs.{fits-under}
 use Rattle.arith.specs.declared.Layout.{Layout}
-use Rattle.arith.proofs.Laws.Round.{pages-some}
 use Rattle.manager.specs.Record.{regionOf}
 use Rattle.manager.specs.Region.{layoutOf, heldAt, pagesAsked}
 use Rattle.manager.specs.Sound.{sound, Sited}
 use Rattle.manager.proofs.Laws.Sound.{live-sited, pages-end}
-use Rattle.manager.proofs.Laws.Region.{held-few}
+use Rattle.manager.proofs.Laws.Region.{held-few, asked-some}
 use Rattle.map.specs.Word.{heldWordAt}
 use Rattle.map.proofs.Word.{held-of}
 use Rattle.manager.specs.declared.Manager.{Manager}
@@ -26,7 +25,7 @@ module _ (m : List ℕ) (d : Manager) (b : Bool) (eb : b ≡ sound m d) (h : b �
 
   -- a request for something takes a page
   pub some-asked : (size : ℕ) → (size ≡ 0 → ⊥) → (k : ℕ) → k ≡ pagesAsked r size → 1 ≤ k
-  some-asked size z k e = rw e (pages-some size (r .page) (omega (arith, live .laid .page-low)) (pos-of-ne-zero z))
+  some-asked size z k e = rw e (asked-some m r live size (pos-of-ne-zero z))
 
   module _ (l : Layout) (el : l ≡ layoutOf r) (address n : ℕ) (wn : n ≡ heldWordAt m l (r .page) address) where
     pub held-is : n ≡ heldAt m r address

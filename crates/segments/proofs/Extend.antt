@@ -10,7 +10,8 @@ use lib.ListN.{length, getD, set}
 use Rattle.manager.specs.Map.{held, wordsOf, draw, decode, tiled, soundMap}
 use Rattle.manager.proofs.Laws.Map.{sound-tiled, reread, draw-append, draw-cons}
 use Rattle.manager.proofs.Laws.Apart.{Well, well-sized, well-decoded, well-drawn}
-use Rattle.manager.specs.Paged.{apart, free+, lead, rest, heldFrom, reachFrom, changeFrom}
+use Rattle.manager.specs.Kind.{heldFrom}
+use Rattle.manager.specs.Paged.{apart, free+, lead, rest, reachFrom, changeFrom}
 use Rattle.manager.proofs.Laws.Paged.{well-rest, lead-none, rest-none, well-change}
 use Rattle.segments.specs.MapWords.{holding, Extends}
 use Rattle.segments.proofs.Words.{holding-words}

@@ -12,7 +12,7 @@ use Rattle.manager.specs.Result.{Result, Performs, checked, answerOf, replied, 
 use Rattle.manager.proofs.Laws.Result.{performs-replied}
 use Rattle.manager.specs.Region.{layoutOf, pagesOf, addressOf, pagesAsked, placed, taken}
 use Rattle.manager.specs.Queue.{enqueue}
-use Rattle.manager.specs.Paged.{onPlace}
+use Rattle.manager.specs.Kind.{onPlace}
 use Rattle.manager.specs.Regions.{waitChecks, unplaced, getSegment}
 use Rattle.manager.specs.Sound.{sound, Sited}
 use Rattle.manager.specs.declared.Manager.{Manager}

@@ -1,26 +1,25 @@
--- The region's map lent to the stores. They name a page by the place of its word, the region names it by its address: word i is that of page
--- first + i. What the words become, the memory has in their place, and the region stays a live one. Assumes nothing.
+-- The part of the memory that is a region's map, lent to the stores and put back: what they do by the places of words is what the rules say
+-- by pages and addresses. For regions of every kind, by what a kind keeps. Assumes nothing.
 use Prim.Native.Nat.{ℕ, _+_, _-_, _*_, _/_, _≤_}
-use mathlib.Core.Path.{_≡_, refl, sym, ap, _∙_}
+use mathlib.Core.Path.{_≡_, sym, ap, _∙_}
 use mathlib.Core.Bool.{Bool, true, false, cond}
-use mathlib.Core.List.{List, _∷_}
+use mathlib.Core.List.{List}
 use native.Mathlib.Omega.{arith}
 use native.Mathlib.Nat.{add-zero, le-mul-of-pos-right}
 use lib.ListN.{length}
-use mir.Syntax.{w64}
+use mir.Syntax.{w32, w64}
 use mir.Val.{Fits}
 use borrow.Author.Needs.{fits-under}
 use Rattle.arith.specs.declared.Layout.{Layout}
-use Rattle.manager.specs.Map.{Segment, free, decode, draw, soundMap, total}
-use Rattle.manager.proofs.Laws.Map.{total-append, total-cons}
-use Rattle.manager.proofs.Laws.Apart.{Well, well-sized, well-proper}
-use Rattle.manager.specs.Paged.{apart, paged, allocate, placeFrom, heldFrom, reachFrom, changeFrom}
-use Rattle.manager.proofs.Laws.Paged.{hit, spot, fit-is, take-none, well-take, total-take, well-change, total-change}
-use Rattle.manager.proofs.Laws.Shift.{shifted, place-shift, held-shift, reach-shift, change-shift}
-use Rattle.manager.specs.Region.{layoutOf, pagesOf, firstPageOf, addressOf, startsPage, pageAt, wordsAt, mapWords, segments, withSegments, heldAt, roomAt, placed}
+use Rattle.manager.specs.Map.{Segment, decode, draw, soundMap, total}
+use Rattle.manager.specs.Kind.{allocate, heldFrom}
+use Rattle.manager.proofs.Laws.Kinds.{Stands, keeps}
+use Rattle.manager.proofs.Laws.Paged.{spot}
+use Rattle.manager.proofs.Laws.Shift.{shifted, held-shift}
+use Rattle.manager.specs.Region.{kind, layoutOf, pagesOf, firstPageOf, addressOf, startsPage, pageAt, wordsAt, mapWords, segments, withSegments, heldAt, canHave, placed}
 use Rattle.manager.proofs.Laws.Region.{lent, putBack, lent-in, lent-fits, lent-bytes, put-back}
 use Rattle.manager.specs.Sound.{Sited}
-use Rattle.manager.proofs.Laws.Sound.{map-long, pages-few, address-in, sited-with, well-segments, total-segments, same-segments}
+use Rattle.manager.proofs.Laws.Sound.{map-long, pages-few, address-in, sited-with, sized-segments, proper-segments, total-segments, same-segments}
 use Rattle.manager.specs.declared.Region.{Region}
 use Rattle.manager.specs.declared.Place.{Place}
 use Rattle.manager.specs.declared.Place.the-variants.{At, Nowhere}
@@ -29,9 +28,6 @@ use Rattle.segments.specs.Lending.{Changes, Takes}
 
 -- ---- a page, and the place of its word
 
-placed-word : (first k : ℕ) (s : List Segment) → shifted first (placeFrom k 0 s) ≡ placeFrom k first s
-placed-word first k s = sym (rw (add-zero first) at (place-shift first k 0 s))
-
 -- where a segment is held, its page is not before the first one
 module _ (first p i : ℕ) (s : List Segment) (h : 1 ≤ heldFrom p first s) (ei : i ≡ p - first) where
   page-is : first + i ≡ p
@@ -39,12 +35,6 @@ module _ (first p i : ℕ) (s : List Segment) (h : 1 ≤ heldFrom p first s) (ei
 
   held-word : heldFrom i 0 s ≡ heldFrom p first s
   held-word = sym (rw (page-is, add-zero first) at (held-shift first i 0 s))
-
-  reach-word : reachFrom i 0 s ≡ reachFrom p first s
-  reach-word = sym (rw (page-is, add-zero first) at (reach-shift first i 0 s))
-
-  change-word : (k : ℕ) → changeFrom i k 0 s ≡ changeFrom p k first s
-  change-word k = sym (rw (page-is, add-zero first) at (change-shift first i k 0 s))
 
 -- what is held at an address is held at its page
 held-page : (m : List ℕ) (r : Region) (a : ℕ) → 1 ≤ heldAt m r a → 1 ≤ heldFrom (pageAt r a) (firstPageOf r) (segments m r)
@@ -56,24 +46,21 @@ held-page m r a h = go (startsPage r a) h
 
 -- ---- what is placed in a region
 
-module _ (m : List ℕ) (r : Region) (s : Sited m r) (k : ℕ) where
+module _ (m : List ℕ) (r : Region) (s : Sited m r) (k : ℕ) (o : 1 ≤ k) where
   placed-in : (p : ℕ) → placed m r k ≡ At p → p + k ≤ firstPageOf r + pagesOf r
-  placed-in p e =
-      let h = hit k (firstPageOf r) (segments m r) p e in
-      let t : total (segments m r) ≡ total (h .pre) + (h .pages + total (h .post)) =
-      ap total (h .is) ∙ total-append (h .pre) (free (h .pages) ∷ h .post) ∙ ap (λ (n : ℕ). total (h .pre) + n) (total-cons (free (h .pages)) (h .post)) in
-      omega (arith, total-segments m r s, h .room, h .page)
+  placed-in p e = omega (arith, keeps (r .order) .place-in k (firstPageOf r) (segments m r) p o e .1, total-segments m r s)
 
   placed-address : (p : ℕ) → placed m r k ≡ At p → addressOf r p ≤ 65536
   placed-address p e = omega (arith, address-in m r (s .laid) p k (placed-in p e))
 
-  module _ (out : List ℕ) (q : Place) (t : Takes r k m out q) where
-    pub taken-address : (p : ℕ) → q ≡ At p → addressOf r p ≤ 65536
-    taken-address p e = placed-address p (sym (t .place) ∙ e)
+pub taken-address : (m : List ℕ) (r : Region) (k : ℕ) (out : List ℕ) (q : Place) → Takes r k m out q → (p : ℕ) → q ≡ At p → addressOf r p ≤ 65536
+taken-address m r k out q t p e = t .within p e
 
-    -- nothing is taken where nothing is found
-    pub none-taken : q ≡ Nowhere → out ≡ m
-    none-taken e = t .memory ∙ ap (withSegments m r) (take-none k (firstPageOf r) (segments m r) (sym (t .place) ∙ e)) ∙ same-segments m r s
+-- nothing is taken where nothing is found
+pub none-taken : (m : List ℕ) (r : Region) → Sited m r → (k : ℕ) (out : List ℕ) (q : Place) → Takes r k m out q → q ≡ Nowhere → out ≡ m
+none-taken m r s k out q t e =
+    let n : placed m r k ≡ Nowhere = sym (t .place) ∙ e in
+    t .memory ∙ ap (withSegments m r) (rw n) ∙ same-segments m r s
 
 -- ---- the words of the map: sound, few, and at a place of theirs what the region has at an address
 
@@ -84,38 +71,53 @@ module _ (m : List ℕ) (r : Region) (s : Sited m r) (l : Layout) (el : l ≡ la
   first-is : l .first ≡ firstPageOf r
   first-is = rw el
 
-  pub words-sound : soundMap apart ws ≡ true
+  pub words-sound : soundMap (kind r .proper) ws ≡ true
   words-sound = rw words-are (s .sound)
 
   pub words-few : length ws ≤ 16384
   words-few = rw words-are (omega (arith, map-long m r (s .laid), pages-few m r (s .laid)))
 
-  words-placed : (k : ℕ) → shifted (l .first) (placeFrom k 0 (decode ws)) ≡ placed m r k
-  words-placed k = rw (words-are, first-is) (placed-word (firstPageOf r) k (segments m r))
+  words-placed : (k : ℕ) → shifted (l .first) (kind r .place k 0 (decode ws)) ≡ placed m r k
+  words-placed k = rw (words-are, first-is) (sym (rw (add-zero (firstPageOf r)) at (keeps (r .order) .place-shift (firstPageOf r) k 0 (segments m r))))
 
-  pub page-fits : (k i : ℕ) (q : Place) → q ≡ placeFrom k 0 (decode ws) → q ≡ At i → Fits w64 (l .first + i)
-  page-fits k i q eq e =
+  pub page-fits : (k : ℕ) → 1 ≤ k → (i : ℕ) (q : Place) → q ≡ kind r .place k 0 (decode ws) → q ≡ At i → Fits w64 (l .first + i)
+  page-fits k o i q eq e =
       let x : placed m r k ≡ At (l .first + i) = sym (words-placed k) ∙ rw (← eq, e) in
       fits-under w64 (l .first + i) 65537
-      (omega (arith, placed-address m r s k (l .first + i) x, le-mul-of-pos-right {m = r .page} (l .first + i) (omega (arith, s .laid .page-low)))) tt
+      (omega (arith, placed-address m r s k o (l .first + i) x, le-mul-of-pos-right {m = r .page} (l .first + i) (omega (arith, s .laid .page-low)))) tt
 
   module _ (a : ℕ) (h : 1 ≤ heldAt m r a) (i : ℕ) (ei : i ≡ a / r .page - l .first) where
     index-is : i ≡ pageAt r a - firstPageOf r
     index-is = rw first-is at ei
 
+    page-of : firstPageOf r + i ≡ pageAt r a
+    page-of = page-is (firstPageOf r) (pageAt r a) i (segments m r) (held-page m r a h) index-is
+
     pub words-held : 1 ≤ heldFrom i 0 (decode ws)
     words-held = rw (words-are, held-word (firstPageOf r) (pageAt r a) i (segments m r) (held-page m r a h) index-is) (held-page m r a h)
 
-    pub words-reach : (n : ℕ) → n ≡ reachFrom i 0 (decode ws) → n ≡ roomAt m r a
-    words-reach n e = e ∙ rw words-are (reach-word (firstPageOf r) (pageAt r a) i (segments m r) (held-page m r a h) index-is)
+    have-words : (k : ℕ) → kind r .canHave i k 0 (decode ws) ≡ canHave m r a k
+    have-words k =
+        rw words-are (sym (rw (page-of, add-zero (firstPageOf r)) at (keeps (r .order) .have-shift (firstPageOf r) i k 0 (segments m r))))
 
-    pub words-room : (k : ℕ) → k ≤ roomAt m r a → k ≤ reachFrom i 0 (decode ws)
-    words-room k x = omega (arith, words-reach (reachFrom i 0 (decode ws)) refl)
+    pub words-have : (k : ℕ) (b : Bool) → b ≡ kind r .canHave i k 0 (decode ws) → b ≡ canHave m r a k
+    words-have k b e = e ∙ have-words k
 
-    words-change : (k : ℕ) → changeFrom i k 0 (decode ws) ≡ changeFrom (pageAt r a) k (firstPageOf r) (segments m r)
-    words-change k = rw words-are (change-word (firstPageOf r) (pageAt r a) i (segments m r) (held-page m r a h) index-is k)
+    pub words-can : (k : ℕ) → canHave m r a k ≡ true → kind r .canHave i k 0 (decode ws) ≡ true
+    words-can k e = have-words k ∙ e
 
-pub ruleset reading = (words-sound, words-few, words-held, words-reach)
+    words-change : (k : ℕ) → kind r .change i k 0 (decode ws) ≡ kind r .change (pageAt r a) k (firstPageOf r) (segments m r)
+    words-change k =
+        rw words-are (sym (rw (page-of, add-zero (firstPageOf r)) at (keeps (r .order) .change-shift (firstPageOf r) i k 0 (segments m r))))
+
+pub ruleset reading = (words-sound, words-few, words-held, words-have)
+
+-- what a segment can have is no more than the region's pages
+module _ (m : List ℕ) (r : Region) (s : Sited m r) (a k : ℕ) where
+  pub have-fits : canHave m r a k ≡ true → Fits w32 k
+  have-fits e =
+      let f = keeps (r .order) .have-few (pageAt r a) k (firstPageOf r) (segments m r) e in
+      fits-under w32 k 16385 (omega (arith, total-segments m r s, pages-few m r (s .laid))) tt
 
 -- ---- those words lent, and others put back
 
@@ -135,23 +137,31 @@ module _ (m : List ℕ) (r : Region) (s : Sited m r) (l : Layout) (el : l ≡ la
   pub start-fits : Fits w64 (l .map * 4)
   start-fits = lent-bytes r l el m (s .laid)
 
+  -- its segments stand as its kind has them
+  stands : Stands (kind r) (segments m r)
+  stands = record { sized = sized-segments m r s; proper = proper-segments m r s }
+
   -- segments drawn there
-  module _ (t : List Segment) (e : total t ≡ pagesOf r) (w : Well true t) (ws : List ℕ) (x : ws ≡ draw t) where
+  module _ (t : List Segment) (e : total t ≡ pagesOf r) (w : Stands (kind r) t) (ws : List ℕ) (x : ws ≡ draw t) where
     drawn : after ws ≡ withSegments m r t
     drawn = ap after x ∙ put-back r l el m (s .laid) t e
 
     drawn-sited : Sited (after ws) r
-    drawn-sited = rw drawn (sited-with m r (s .laid) t e (well-sized true t w) (well-proper t w))
+    drawn-sited = rw drawn (sited-with m r (s .laid) t e (w .sized) (w .proper))
 
-  module _ (k : ℕ) (o : 1 ≤ k) (q : Place) (eq : q ≡ placeFrom k 0 (decode part)) (ws : List ℕ) (ew : ws ≡ draw (allocate paged k 0 (decode part))) where
+  module _ (k : ℕ) (o : 1 ≤ k) (q : Place) (eq : q ≡ kind r .place k 0 (decode part)) (ws : List ℕ) (ew : ws ≡ draw (allocate (kind r) k 0 (decode part))) where
     takes : Takes r k m (after ws) (shifted (l .first) q)
     takes =
-        let t = allocate paged k (firstPageOf r) (segments m r) in
-        let x : ws ≡ draw t = ew ∙ ap (λ (w : List ℕ). draw (allocate paged k 0 (decode w))) (words-are m r s l el part (words-whole m l)) ∙ ap draw (fit-is k 0 (segments m r) ∙ sym (fit-is k (firstPageOf r) (segments m r))) in
-        let n = total-take k (firstPageOf r) (segments m r) ∙ total-segments m r s in
-        let w = well-take k (firstPageOf r) (segments m r) o (well-segments m r s) in
+        let first = firstPageOf r in
+        let t = allocate (kind r) k first (segments m r) in
+        let c : allocate (kind r) k 0 (segments m r) ≡ t = sym (rw (add-zero first) at (keeps (r .order) .take-shift first k 0 (segments m r))) in
+        let x : ws ≡ draw t = ew ∙ ap (λ (w : List ℕ). draw (allocate (kind r) k 0 (decode w))) (words-are m r s l el part (words-whole m l)) ∙ ap draw c in
+        let n = keeps (r .order) .total-take k first (segments m r) ∙ total-segments m r s in
+        let w = keeps (r .order) .stands-take k first (segments m r) o stands in
+        let place = ap (shifted (l .first)) eq ∙ words-placed m r s l el part (words-whole m l) k in
         record {
-          place = ap (shifted (l .first)) eq ∙ words-placed m r s l el part (words-whole m l) k;
+          place = place;
+          within = λ p e. placed-address m r s k o p (sym place ∙ e);
           memory = drawn t n w ws x;
           sited = drawn-sited t n w ws x;
         }
@@ -163,15 +173,23 @@ module _ (m : List ℕ) (r : Region) (s : Sited m r) (l : Layout) (el : l ≡ la
     takes-at i e = rw e at takes
 
   module _ (a : ℕ) (h : 1 ≤ heldAt m r a) (i : ℕ) (ei : i ≡ a / r .page - l .first) where
-    pub changes : (k : ℕ) → k ≤ roomAt m r a → (ws : List ℕ) → ws ≡ draw (changeFrom i k 0 (decode part)) → Changes r a k m (after ws)
-    changes k b ws ew =
-        let t = changeFrom (pageAt r a) k (firstPageOf r) (segments m r) in
+    put-change : (k : ℕ) → total (kind r .change (pageAt r a) k (firstPageOf r) (segments m r)) ≡ total (segments m r)
+        → Stands (kind r) (kind r .change (pageAt r a) k (firstPageOf r) (segments m r))
+        → (ws : List ℕ) → ws ≡ draw (kind r .change i k 0 (decode part)) → Changes r a k m (after ws)
+    put-change k e w ws ew =
+        let t = kind r .change (pageAt r a) k (firstPageOf r) (segments m r) in
         let x : ws ≡ draw t = ew ∙ ap draw (words-change m r s l el part (words-whole m l) a h i ei k) in
-        let n = total-change (pageAt r a) k (firstPageOf r) (segments m r) b ∙ total-segments m r s in
-        let w = well-change (pageAt r a) k (firstPageOf r) (segments m r) (well-segments m r s) in
+        let n = e ∙ total-segments m r s in
         record { memory = drawn t n w ws x; sited = drawn-sited t n w ws x }
 
-    pub releases : (ws : List ℕ) → ws ≡ draw (changeFrom i 0 0 (decode part)) → Changes r a 0 m (after ws)
-    releases ws ew = changes 0 (omega arith) ws ew
+    pub changes : (k : ℕ) → 1 ≤ k → canHave m r a k ≡ true → (ws : List ℕ) → ws ≡ draw (kind r .change i k 0 (decode part)) → Changes r a k m (after ws)
+    changes k o b =
+        put-change k (keeps (r .order) .total-change (pageAt r a) k (firstPageOf r) (segments m r) b)
+        (keeps (r .order) .stands-change (pageAt r a) k (firstPageOf r) (segments m r) o stands)
 
-pub ruleset drawing = (words-whole, words-sound, words-few, words-held, words-room, page-fits, part-in, part-fits, start-fits, takes-none, takes-at, changes, releases)
+    pub releases : (ws : List ℕ) → ws ≡ draw (kind r .change i 0 0 (decode part)) → Changes r a 0 m (after ws)
+    releases =
+        put-change 0 (keeps (r .order) .total-return (pageAt r a) (firstPageOf r) (segments m r))
+        (keeps (r .order) .stands-return (pageAt r a) (firstPageOf r) (segments m r) (held-page m r a h) stands)
+
+pub ruleset drawing = (words-whole, words-sound, words-few, words-held, words-can, page-fits, have-fits, part-in, part-fits, start-fits, takes-none, takes-at, changes, releases)

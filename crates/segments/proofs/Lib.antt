@@ -4,6 +4,8 @@ pub mod Take
 pub mod Stands
 pub mod Extend
 pub mod Release
+pub mod Blocks
+pub mod Order
 pub mod Lend
 pub mod Serve
 pub mod Rounds

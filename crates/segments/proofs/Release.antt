@@ -11,7 +11,8 @@ use borrow.Author.Tests.{eq-eqb, ne-eqb}
 use Rattle.manager.specs.Map.{Segment, free, held, isHeldSegment, sizeOf, wordsOf, draw, decode, soundMap, total}
 use Rattle.manager.proofs.Laws.Map.{markOf, draw-append, draw-cons, length-draw, total-append, total-cons}
 use Rattle.manager.proofs.Laws.Apart.{Well, well-at}
-use Rattle.manager.specs.Paged.{apart, free+, lead, rest, heldFrom, reachFrom, changeFrom}
+use Rattle.manager.specs.Kind.{heldFrom}
+use Rattle.manager.specs.Paged.{apart, free+, lead, rest, reachFrom, changeFrom}
 use Rattle.manager.proofs.Laws.Paged.{onto, onto-append, onto-last, free-join, well-rest}
 use Rattle.segments.specs.MapWords.{beforeFrom}
 use Rattle.segments.proofs.Words.{word-at, set-past, set-mark, join-words}

@@ -1,17 +1,15 @@
 -- Resize, exit by exit: the tests that led there, in their order, give the definition's result; then the segment has so many pages, where it
 -- can have them, and the queue is served in the memory that it has them in. Assumes nothing.
-use Prim.Native.Nat.{ℕ, _*_, _≤_, _<_}
-use mathlib.Core.Path.{_≡_}
-use mathlib.Core.Bool.{Bool, true, false, cond}
+use Prim.Native.Nat.{ℕ, _*_}
+use mathlib.Core.Path.{_≡_, sym, _∙_}
+use mathlib.Core.Bool.{Bool, true, false, cond, not}
 use mathlib.Core.List.{List, []}
-use native.Mathlib.Omega.{arith}
-use lib.Dec.{leb}
-use borrow.Author.Tests.{eq-eqb, ne-eqb, le-leb, lt-leb, not-true, not-false}
+use borrow.Author.Tests.{eq-eqb, ne-eqb, not-true, not-false}
 use Rattle.arith.specs.declared.Layout.{Layout}
 use Rattle.manager.specs.Record.{regionOf}
 use Rattle.manager.specs.Result.{Result, Performs, checked, answerOf, replied, refused}
 use Rattle.manager.proofs.Laws.Result.{performs-replied}
-use Rattle.manager.specs.Region.{layoutOf, heldAt, roomAt, changed, pagesAsked}
+use Rattle.manager.specs.Region.{layoutOf, heldAt, canHave, changed, pagesAsked}
 use Rattle.manager.specs.Serve.{serve, fromServed}
 use Rattle.manager.specs.Regions.{resizeSegment}
 use Rattle.manager.specs.Sound.{sound}
@@ -25,18 +23,18 @@ use Rattle.segments.proofs.Address.{held-is, length-fits}
 
 -- what is done once the checks have passed
 abbrev Fitted : List ℕ → Manager → ℕ → Region → ℕ → ℕ → ℕ → Result
-Fitted m d id r address k old = cond (leb k (roomAt m r address)) (fromServed old (serve (changed m r address k) d id)) (replied m d Unsatisfied old)
+Fitted m d id r address k old = cond (canHave m r address k) (fromServed old (serve (changed m r address k) d id)) (replied m d Unsatisfied old)
 
-module _ (m : List ℕ) (d : Manager) (id : ℕ) (r : Region) (address k old : ℕ) (g : ℕ) (eg : g ≡ roomAt m r address) where
-  pub fitted-no : (a : Answer) → g < k → a ≡ answerOf (replied [] d Unsatisfied old) → Performs (Fitted m d id r address k old) m a
-  fitted-no a h f = performs-replied m a _ d Unsatisfied old f (rw (← eg, lt-leb _ _ h))
+module _ (m : List ℕ) (d : Manager) (id : ℕ) (r : Region) (address k old : ℕ) (b : Bool) (eb : b ≡ canHave m r address k) where
+  pub fitted-no : (a : Answer) → not b ≡ true → a ≡ answerOf (replied [] d Unsatisfied old) → Performs (Fitted m d id r address k old) m a
+  fitted-no a h f = performs-replied m a _ d Unsatisfied old f (rw (← eb, not-true b h))
 
-  pub fitted-yes : k ≤ g → (out : List ℕ) → Changes r address k m out → (last : List ℕ) (a : Answer)
+  pub fitted-yes : not b ≡ false → (out : List ℕ) → Changes r address k m out → (last : List ℕ) (a : Answer)
       → Performs (fromServed old (serve out d id)) last a → Performs (Fitted m d id r address k old) last a
-  fitted-yes h out x last a p = rw (← eg, le-leb _ _ h, ← (x .memory)) p
+  fitted-yes h out x last a p = rw (← eb, not-false b h, ← (x .memory)) p
 
-  pub fitted-room : k ≤ g → k ≤ roomAt m r address
-  fitted-room h = omega arith
+  pub fitted-room : not b ≡ false → canHave m r address k ≡ true
+  fitted-room h = sym eb ∙ not-false b h
 
 pub ruleset fitting = (fitted-no, fitted-yes, fitted-room)
 

@@ -9,7 +9,7 @@ use native.Mathlib.Omega.{arith}
 use lib.ListN.{length, getD, set, take}
 use lib.Dec.{eqb, leb, ltb}
 use borrow.Author.Tests.{lt-ltb, le-ltb, ltb-true, leb-true, not-true}
-use Rattle.arith.proofs.Laws.Round.{pages-some}
+use Rattle.manager.proofs.Laws.Region as region
 use Rattle.manager.specs.Record.{tasks, noWaiter, noNotice, regionOf}
 use Rattle.manager.specs.Lists.{count, indexOf}
 use Rattle.manager.proofs.Laws.Lists.{and-first, and-second, every-at, index-passes}
@@ -18,7 +18,7 @@ use Rattle.manager.specs.Queue.{firstOf, waitsFor, dequeue}
 use Rattle.manager.proofs.Laws.Queue.{dequeue-every, count-remove, length-remove, sound-every}
 use Rattle.manager.proofs.Laws.Appended.{every-imp, by-case, count-most}
 use Rattle.manager.proofs.Laws.Notices.{first-waits}
-use Rattle.manager.specs.Paged.{onPlace}
+use Rattle.manager.specs.Kind.{onPlace}
 use Rattle.manager.specs.Serve.{quiet, granted, telling, serveUpTo, serve, fromServed}
 use Rattle.manager.specs.Sound.{sound, soundPlace, soundWaiter}
 use Rattle.manager.specs.Sound.{Sited}
@@ -55,7 +55,7 @@ asked-some m r d id i k s a q l e =
     let w = getD (d .waiters) i noWaiter in
     let h : waitsFor id w ≡ true = rw q (index-passes noWaiter (waitsFor id) (d .waiters) (omega arith)) in
     let g : 1 ≤ w .size = asks-some id w h (every-at asks (d .waiters) i noWaiter a l) in
-    rw e (pages-some (w .size) (r .page) (omega (arith, s .laid .page-low)) g)
+    rw e (region.asked-some m r s (w .size) g)
 
 -- the waiters of sound books ask for something
 place-asks : (m : List ℕ) (d : Manager) (w : Waiter) → soundPlace m d w ≡ true → asks w ≡ true

@@ -9,7 +9,8 @@ use lib.ListN.{length, getD, set, length-append}
 use Rattle.manager.specs.Map.{Segment, free, held, wordsOf, draw, decode, soundMap, total}
 use Rattle.manager.proofs.Laws.Map.{Sized, sound-tiled, redraw, draw-append, draw-cons, length-draw, length-words}
 use Rattle.manager.proofs.Laws.Apart.{Well, well-sized, well-decoded, well-at}
-use Rattle.manager.specs.Paged.{apart, free+, held+, lead, rest, heldFrom, reachFrom, changeFrom}
+use Rattle.manager.specs.Kind.{heldFrom}
+use Rattle.manager.specs.Paged.{apart, free+, held+, lead, rest, reachFrom, changeFrom}
 use Rattle.manager.proofs.Laws.Paged.{onto, onto-last, spot, held-at, reach-at, change-at, free-none}
 use Rattle.segments.specs.MapWords.{Extends}
 use Rattle.segments.proofs.Words.{word-at, words-in, set-past, join-words}

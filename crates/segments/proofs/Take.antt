@@ -8,7 +8,8 @@ use lib.ListN.{length, getD}
 use Rattle.manager.specs.Map.{Segment, free, held, wordsOf, draw, decode, soundMap}
 use Rattle.manager.proofs.Laws.Map.{sound-tiled, redraw, draw-append, draw-cons, length-draw}
 use Rattle.manager.proofs.Laws.Apart.{Well, well-decoded, well-at}
-use Rattle.manager.specs.Paged.{apart, free+, paged, placeFrom, allocate}
+use Rattle.manager.specs.Kind.{allocate}
+use Rattle.manager.specs.Paged.{apart, free+, paged, placeFrom}
 use Rattle.manager.proofs.Laws.Paged.{fit-is, hit, take-none, free-none, free-front}
 use Rattle.manager.specs.declared.Place.the-variants.{At, Nowhere}
 use Rattle.segments.specs.MapWords.{holding}

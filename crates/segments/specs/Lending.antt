@@ -1,19 +1,21 @@
 -- What the private functions on a region's pages in the memory do. Assumes nothing.
-use Prim.Native.Nat.{ℕ}
+use Prim.Native.Nat.{ℕ, _≤_}
 use mathlib.Core.Path.{_≡_}
 use mathlib.Core.List.{List}
-use Rattle.manager.specs.Region.{changed, placed, taken}
+use Rattle.manager.specs.Region.{addressOf, changed, placed, taken}
 use Rattle.manager.specs.Sound.{Sited}
 use Rattle.manager.specs.declared.Region.{Region}
 use Rattle.manager.specs.declared.Place.{Place}
+use Rattle.manager.specs.declared.Place.the-variants.{At}
 
 -- the held segment at an address has k pages from now on (0: it is returned), and the region stays a live one
 pub record Changes (r : Region) (address k : ℕ) (m out : List ℕ) : Type 0 where
   pub memory : out ≡ changed m r address k
   pub sited : Sited out r
 
--- k pages are taken, where there is room
+-- k pages are taken, where there is room, and start at an address below 65,536
 pub record Takes (r : Region) (k : ℕ) (m out : List ℕ) (p : Place) : Type 0 where
   pub place : p ≡ placed m r k
+  pub within : (i : ℕ) → p ≡ At i → addressOf r i ≤ 65536
   pub memory : out ≡ taken m r k
   pub sited : Sited out r

@@ -9,7 +9,7 @@ use Rattle.manager.specs.Record.{tasks, noWaiter, regionOf}
 use Rattle.manager.specs.Lists.{every, count}
 use Rattle.manager.specs.Region.{addressOf, pagesAsked, placed, taken}
 use Rattle.manager.specs.Queue.{firstOf}
-use Rattle.manager.specs.Paged.{onPlace}
+use Rattle.manager.specs.Kind.{onPlace}
 use Rattle.manager.specs.Serve.{granted, Served}
 use Rattle.manager.specs.Sound.{Sited}
 use Rattle.manager.specs.declared.Manager.{Manager}

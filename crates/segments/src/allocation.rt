@@ -12,11 +12,10 @@ use manager::Waiter;
 ghost use mathlib.Core.Path.{_≡_};
 ghost use mathlib.Core.Bool.{cond};
 ghost use Prim.Native.Nat.{_≤_};
-ghost use lib.Dec.{leb};
 ghost use Rattle.manager.specs.Record.{regionOf};
 ghost use Rattle.manager.specs.Result.{Performs, done, replied};
-ghost use Rattle.manager.specs.Region.{layoutOf, addressOf, heldAt, roomAt, changed, placed, taken};
-ghost use Rattle.manager.specs.Paged.{onPlace};
+ghost use Rattle.manager.specs.Region.{layoutOf, addressOf, heldAt, canHave, changed, placed, taken};
+ghost use Rattle.manager.specs.Kind.{onPlace};
 ghost use Rattle.manager.specs.Serve.{serve, fromServed};
 ghost use Rattle.manager.specs.Regions.{unplaced};
 ghost use Rattle.manager.specs.Sound.{Sited};
@@ -29,7 +28,7 @@ pub(crate) fn take_or_wait(
     d: Manager,
     r: Region,
     l: Layout,
-    k: u32,
+    k: u64,
     wait: Wait,
     w: Waiter,
 ) -> Answer
@@ -72,13 +71,13 @@ pub(crate) fn resize_and_serve(
     r: Region,
     l: Layout,
     address: u32,
-    k: u32,
+    k: u64,
     old: u32,
 ) -> Answer
     requires { ⌜ (Sited (now mem) r) × (r ≡ regionOf d id) × (l ≡ layoutOf r) × (Asking d) × (1 ≤ heldAt (now mem) r address) × (1 ≤ k) ⌝ }
-    ensures { λ a. ⌜ Performs (cond (leb k (roomAt (now (mem .entry)) r address)) (fromServed old (serve (changed (now (mem .entry)) r address k) d id)) (replied (now (mem .entry)) d Unsatisfied old)) (now (mem .exit)) a ⌝ }
+    ensures { λ a. ⌜ Performs (cond (canHave (now (mem .entry)) r address k) (fromServed old (serve (changed (now (mem .entry)) r address k) d id)) (replied (now (mem .entry)) d Unsatisfied old)) (now (mem .exit)) a ⌝ }
 {
-    if lending::reach_of(mem, r, l, address) < k {
+    if !lending::can_have(mem, r, l, address, k) {
         return reply::reply(d, Status::Unsatisfied, old);
     }
     lending::resize_pages(mem, r, l, address, k);

@@ -1,23 +1,25 @@
-// The part of the memory that is a region's map, lent to the stores of `map_words`. Pages are named by address here, and there by the
+// The part of the memory that is a region's map, lent to the stores of `kinds`. Pages are named by address here, and there by the
 // place of their word: these functions need a live region of sound records, and its layout.
-use crate::map_words;
+use crate::kinds;
 use arith::Layout;
 use manager::Place;
 use manager::Region;
 ghost use mathlib.Core.Path.{_≡_};
+ghost use mathlib.Core.Bool.{true};
 ghost use Prim.Native.Nat.{_≤_};
-ghost use Rattle.manager.specs.Region.{layoutOf, heldAt, roomAt};
+ghost use Rattle.manager.specs.Region.{layoutOf, heldAt, canHave};
 ghost use Rattle.manager.specs.Sound.{Sited};
 ghost use Rattle.segments.specs.Lending.{Changes, Takes};
 
 // Takes k pages of the region where there is room, and says where.
-pub(crate) fn take_pages(mem: &mut [u32], r: Region, l: Layout, k: u32) -> Place
+pub(crate) fn take_pages(mem: &mut [u32], r: Region, l: Layout, k: u64) -> Place
     requires { ⌜ (Sited (now mem) r) × (l ≡ layoutOf r) × (1 ≤ k) ⌝ }
     ensures { λ p. ⌜ Takes r k (now (mem .entry)) (now (mem .exit)) p ⌝ }
 {
     let at = l.map;
     let end = at + l.pages as usize;
-    match map_words::allocate(&mut mem[at..end], k) {
+    let order = r.order;
+    match kinds::allocate(&mut mem[at..end], order, k) {
         Place::Nowhere => Place::Nowhere,
         Place::At(i) => Place::At(l.first as usize + i),
     }
@@ -31,27 +33,30 @@ pub(crate) fn release_pages(mem: &mut [u32], r: Region, l: Layout, address: u32)
     let at = l.map;
     let end = at + l.pages as usize;
     let p = map::index_at(l, r.page, address);
-    map_words::release_at(&mut mem[at..end], p);
+    let order = r.order;
+    kinds::release_at(&mut mem[at..end], order, p);
 }
 
-// The most pages that the held segment at an address can have.
-pub(crate) fn reach_of(mem: &[u32], r: Region, l: Layout, address: u32) -> u32
+// Whether the held segment at an address can have k pages.
+pub(crate) fn can_have(mem: &[u32], r: Region, l: Layout, address: u32, k: u64) -> bool
     requires { ⌜ (Sited (now mem) r) × (l ≡ layoutOf r) × (1 ≤ heldAt (now mem) r address) ⌝ }
-    ensures { λ n. ⌜ n ≡ roomAt (now (mem .entry)) r address ⌝ }
+    ensures { λ b. ⌜ b ≡ canHave (now (mem .entry)) r address k ⌝ }
 {
     let words = map::map_words(mem, l);
     let p = map::index_at(l, r.page, address);
-    map_words::reach_at(words, p)
+    let order = r.order;
+    kinds::can_have(words, order, p, k)
 }
 
-// The held segment at an address has k pages from now on.
-pub(crate) fn resize_pages(mem: &mut [u32], r: Region, l: Layout, address: u32, k: u32)
+// The held segment at an address has k pages from now on, which it can have.
+pub(crate) fn resize_pages(mem: &mut [u32], r: Region, l: Layout, address: u32, k: u64)
     requires { ⌜ (Sited (now mem) r) × (l ≡ layoutOf r) × (1 ≤ heldAt (now mem) r address) ⌝ }
-    requires { ⌜ (1 ≤ k) × (k ≤ roomAt (now mem) r address) ⌝ }
+    requires { ⌜ (1 ≤ k) × (canHave (now mem) r address k ≡ true) ⌝ }
     ensures { λ _. ⌜ Changes r address k (now (mem .entry)) (now (mem .exit)) ⌝ }
 {
     let at = l.map;
     let end = at + l.pages as usize;
     let p = map::index_at(l, r.page, address);
-    map_words::resize_at(&mut mem[at..end], p, k);
+    let order = r.order;
+    kinds::resize_at(&mut mem[at..end], order, p, k as u32);
 }

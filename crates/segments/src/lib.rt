@@ -2,8 +2,10 @@
 // not sound, and then makes its checks in their order. Every function here is total: any record, memory and numbers have their answer.
 mod allocation;
 mod checks;
+mod halves;
+mod kinds;
 mod lending;
-mod map_words;
+mod pages;
 mod serving;
 
 use checks::Verdict;
@@ -40,7 +42,7 @@ pub fn get_segment(
     }
     let l = map::layout_of(r);
     let k = map::pages_asked(r, size);
-    if l.pages < k {
+    if (l.pages as u64) < k {
         return reply::reply(d, Status::InvalidSize, 0);
     }
     if let Verdict::Bad(s) = checks::may_wait(d, wait, task, priority) {

@@ -10,6 +10,7 @@ use borrow.Author.Tests.{eq-eqb, ne-eqb, eqb-true, eqb-false, leb-true, le-ltb, 
 use lib.Dec.{eqb, leb}
 use lib.ListN.{length, getD, set, drop, replicate, length-set, drop-of-length-le, List·getD-eq-default}
 use lib.Seq.{getD-set-same, getD-set-other}
+use Rattle.arith.specs.Layout.{anyNumber}
 use Rattle.arith.proofs.Laws.Layout.{count-zero}
 use Rattle.manager.specs.Lists.{every, pairwise, adjacent}
 use Rattle.manager.proofs.Laws.Lists.{and-first, and-second, getD-any, rest-cons}
@@ -218,7 +219,7 @@ module _ (m : List ℕ) (d : Manager) (w : Waiter) where
       (and-first its (anyHeld m found) (and-first (its && anyHeld m found) _ (and-second (leb (w .task) tasks) _ e))))
 
 no-facts : (m : List ℕ) → noFacts ≡ factsOf m 0 noRegion
-no-facts m = rw (count-zero 0 0 0 refl)
+no-facts m = rw (count-zero anyNumber 0 0 0 refl)
 
 -- the facts kept are of the same region, or they are worked out
 pub facts-kept : (m : List ℕ) (kept : Facts) (id : ℕ) (r : Region) → kept .id ≡ id → kept ≡ cond (eqb (kept .id) id) kept (factsOf m id r)

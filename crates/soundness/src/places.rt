@@ -83,7 +83,7 @@ fn sound_request(f: Facts, w: Waiter) -> bool
         return false;
     }
     let r = f.region;
-    if f.pages < map::pages_asked(r, w.size) {
+    if (f.pages as u64) < map::pages_asked(r, w.size) {
         return false;
     }
     if w.priority < 1 {

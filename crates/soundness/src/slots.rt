@@ -5,7 +5,7 @@ use manager::Partition;
 use manager::Region;
 ghost use mathlib.Core.Path.{_≡_};
 ghost use Rattle.manager.specs.Lists.{every};
-ghost use Rattle.manager.specs.Sound.{inside, soundPage, soundSize, soundGeneration, emptyRegion, emptyPartition, liveRegion, livePartition, soundRegion, soundPartition};
+ghost use Rattle.manager.specs.Sound.{inside, soundPage, soundSize, soundGeneration, isFifo, emptyRegion, emptyPartition, liveRegion, livePartition, soundRegion, soundPartition};
 ghost use lib.ListN.{length};
 
 // Whether an area is inside the memory and does not start at 0.
@@ -54,6 +54,18 @@ fn sound_generation(name: u32, generation: u32) -> bool
     generation < Manager::GENERATIONS
 }
 
+// Whether an order is the one of number 0.
+fn is_fifo(o: Order) -> bool
+    ensures { λ b. ⌜ b ≡ isFifo o ⌝ }
+{
+    match o {
+        Order::Fifo => true,
+        Order::Priority => false,
+        Order::HalvesFifo => false,
+        Order::HalvesPriority => false,
+    }
+}
+
 // Whether all but the name and the generation of an empty slot is 0.
 fn empty_region(r: Region) -> bool
     ensures { λ b. ⌜ b ≡ emptyRegion r ⌝ }
@@ -68,10 +80,7 @@ fn empty_region(r: Region) -> bool
         return false;
     }
     let order = r.order;
-    match order {
-        Order::Fifo => true,
-        Order::Priority => false,
-    }
+    is_fifo(order)
 }
 
 // Whether a region's area, page size and map are sound.
@@ -89,7 +98,8 @@ fn live_region(mem: &[u32], r: Region) -> bool
         return false;
     }
     let words = map::map_words(mem, l);
-    map::is_sound(words)
+    let order = r.order;
+    map::is_sound(words, order)
 }
 
 // Whether a region slot has a sound generation, and is empty or a sound region.

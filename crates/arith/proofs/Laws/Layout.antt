@@ -3,13 +3,18 @@
 use Prim.Native.Nat.{ℕ, zero, suc, _+_, _*_, _/_, _≤_, _<_}
 use mathlib.Core.Path.{_≡_, refl}
 use mathlib.Core.Logic.{⊎-elim}
-use mathlib.Core.Bool.{Bool, true, false, cond, true≢false}
-use native.Mathlib.Nat.{le-div-iff-mul-le, div-mul-le-self, mul-add, eq-or-lt-of-le, eq-zero-or-pos}
+use mathlib.Core.Bool.{Bool, true, false, cond, _&&_, true≢false}
+use native.Mathlib.Nat.{le-div-iff-mul-le, div-mul-le-self, mul-add, mul-le-mul-right, eq-or-lt-of-le, eq-zero-or-pos}
 use native.Mathlib.Omega.{arith}
 use borrow.Author.Tests.{leb-true, le-leb, eq-eqb, ne-eqb}
-use Rattle.arith.proofs.Laws.Round.{round-ge, round-lt}
+use Rattle.arith.proofs.Laws.Round.{round-ge, round-lt, round-least}
 use Rattle.arith.specs.Round.{pagesFor}
 use Rattle.arith.specs.Layout.{mapStart, firstPage, fits, largest, mostPages, pageCount, layoutWith}
+
+-- both of two tests hold
+pub both-true : (a b : Bool) → (a && b) ≡ true → (a ≡ true) × (b ≡ true)
+both-true true b e = (refl, e)
+both-true false b e = (e, cc)
 
 -- one step of the search
 pick-passes : (t : ℕ → Bool) (k r : ℕ) (b : Bool) → t k ≡ b → (0 < r → t r ≡ true) → 0 < cond b k r
@@ -84,23 +89,30 @@ most-room length page n e =
     (λ (h : 0 < page). rw (e, most-is length page h, ← mul-add (length / (page + 4)) page 4) (div-mul-le-self length (page + 4)))
     (eq-zero-or-pos page)
 
-module _ (start length page : ℕ) where
-  -- the count is a number that was searched, and fits where it is not 0
-  pub count-under : pageCount start length page ≤ mostPages length page
+-- of the numbers that a kind of region may have
+module _ (allowed : ℕ → Bool) (start length page : ℕ) where
+  -- the count is a number that was searched, and where it is not 0 it fits, and is one that the kind may have
+  pub count-under : pageCount allowed start length page ≤ mostPages length page
   unfolding pageCount
-  count-under = largest-under (mostPages length page) (fits start length page)
+  count-under = largest-under (mostPages length page) (λ n. allowed n && fits start length page n)
 
-  pub count-fits : 0 < pageCount start length page → fits start length page (pageCount start length page) ≡ true
+  count-passes : 0 < pageCount allowed start length page → (allowed (pageCount allowed start length page) && fits start length page (pageCount allowed start length page)) ≡ true
   unfolding pageCount
-  count-fits = largest-passes (mostPages length page) (fits start length page)
+  count-passes = largest-passes (mostPages length page) (λ n. allowed n && fits start length page n)
 
-  pub count-zero : page ≡ 0 → pageCount start length page ≡ 0
+  pub count-allowed : 0 < pageCount allowed start length page → allowed (pageCount allowed start length page) ≡ true
+  count-allowed h = both-true (allowed (pageCount allowed start length page)) _ (count-passes h) .0
+
+  pub count-fits : 0 < pageCount allowed start length page → fits start length page (pageCount allowed start length page) ≡ true
+  count-fits h = both-true (allowed (pageCount allowed start length page)) _ (count-passes h) .1
+
+  pub count-zero : page ≡ 0 → pageCount allowed start length page ≡ 0
   count-zero e = omega (arith, count-under, most-zero length page e)
 
-  -- none that was searched and fits is above it
-  pub count-over : (n : ℕ) → n ≤ mostPages length page → fits start length page n ≡ true → n ≤ pageCount start length page
+  -- none that was searched, is allowed and fits is above it
+  pub count-over : (n : ℕ) → n ≤ mostPages length page → allowed n ≡ true → fits start length page n ≡ true → n ≤ pageCount allowed start length page
   unfolding pageCount
-  count-over = largest-most (mostPages length page) (fits start length page)
+  count-over n l a f = largest-most (mostPages length page) (λ n. allowed n && fits start length page n) n l (rw (a, f))
 
 -- for a page size that is not 0
 module _ (start length page : ℕ) (hp : 0 < page) where
@@ -113,19 +125,25 @@ module _ (start length page : ℕ) (hp : 0 < page) where
       rw (most-is length page hp)
       (le-div-iff-mul-le {k = page + 4} {x = n} {y = length} (omega arith) .1 (omega (arith, fits-room n e, map-ge start)))
 
-  -- of all numbers none that fits is above the count
-  pub count-most : (n : ℕ) → fits start length page n ≡ true → n ≤ pageCount start length page
-  count-most n e = count-over start length page n (fits-most n e) e
+  -- of all allowed numbers none that fits is above the count
+  pub count-most : (allowed : ℕ → Bool) (n : ℕ) → allowed n ≡ true → fits start length page n ≡ true → n ≤ pageCount allowed start length page
+  count-most allowed n a e = count-over allowed start length page n (fits-most n e) a e
+
+  -- fewer pages than fit, fit
+  pub fits-less : (n k : ℕ) → k ≤ n → fits start length page n ≡ true → fits start length page k ≡ true
+  fits-less n k l e =
+      le-fits start length page k
+      (omega (arith, fits-le start length page n e, mul-le-mul-right page l, round-least (mapStart start + 4 * k) page (firstPage start page n) hp (omega (arith, first-ge start page hp n))))
 
 -- what the count's pages take: all within the area, the map before the pages, a word and a page each
-module _ (start length page : ℕ) where
+module _ (allowed : ℕ → Bool) (start length page : ℕ) where
   pub count-map : 0 < page
-      → pageCount start length page * 4 + mapStart start ≤ firstPage start page (pageCount start length page) * page
-  count-map hp = omega (arith, first-ge start page hp (pageCount start length page))
+      → pageCount allowed start length page * 4 + mapStart start ≤ firstPage start page (pageCount allowed start length page) * page
+  count-map hp = omega (arith, first-ge start page hp (pageCount allowed start length page))
 
-  pub count-end : 0 < page → 0 < pageCount start length page
-      → firstPage start page (pageCount start length page) * page + pageCount start length page * page ≤ start + length
-  count-end hp h = fits-le start length page (pageCount start length page) (count-fits start length page h)
+  pub count-end : 0 < page → 0 < pageCount allowed start length page
+      → firstPage start page (pageCount allowed start length page) * page + pageCount allowed start length page * page ≤ start + length
+  count-end hp h = fits-le start length page (pageCount allowed start length page) (count-fits allowed start length page h)
 
 -- a layout by its parts
 pub layout-is : (start page n map first : ℕ) → map ≡ mapStart start → first ≡ pagesFor (map + 4 * n) page

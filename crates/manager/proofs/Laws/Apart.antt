@@ -7,7 +7,8 @@ use mathlib.Core.List.{List, [], _∷_, _++_}
 use Rattle.manager.specs.Lists.{adjacent}
 use Rattle.manager.specs.Map.{Segment, isHeldSegment, sizeOf, draw, decode, soundMap}
 use Rattle.manager.specs.Paged.{apart, oneHeld}
-use Rattle.manager.proofs.Laws.Map.{Sized, both-true, sized-decoded, sound-tiled, sound-proper, sound-drawn}
+use Rattle.arith.proofs.Laws.Layout.{both-true}
+use Rattle.manager.proofs.Laws.Map.{Sized, sized-decoded, sound-tiled, sound-proper, sound-drawn}
 
 -- no two free segments adjoin, behind one that is held or not
 unfoldable pub apartFrom : Bool → List Segment → Bool
@@ -62,10 +63,12 @@ well-at before (f ∷ s) g t w = well-at (isHeldSegment f) s g t (w .2)
 pub well-proper : (s : List Segment) → Well true s → apart s ≡ true
 well-proper s w = apart-is s ∙ well-apart true s w
 
+pub well-made-of : (s : List Segment) → Sized s → apart s ≡ true → Well true s
+well-made-of s z e = well-made true s z (sym (apart-is s) ∙ e)
+
 -- a sound map's segments are well formed, and a drawing of such is sound
 pub well-decoded : (ws : List ℕ) → soundMap apart ws ≡ true → Well true (decode ws)
-well-decoded ws e =
-    well-made true (decode ws) (sized-decoded ws (sound-tiled apart ws e)) (sym (apart-is (decode ws)) ∙ sound-proper apart ws e)
+well-decoded ws e = well-made-of (decode ws) (sized-decoded ws (sound-tiled apart ws e)) (sound-proper apart ws e)
 
 pub well-drawn : (s : List Segment) → Well true s → soundMap apart (draw s) ≡ true
 well-drawn s w = sound-drawn apart s (well-sized true s w) (well-proper s w)

@@ -3,7 +3,7 @@
 -- All by one induction over the words, or over the segments. Assumes nothing.
 use Prim.Native.Nat.{ℕ, zero, suc, _+_, _-_, _*_, _/_, _%_, _≤_, _<_, zero-le}
 use mathlib.Core.Path.{_≡_, refl, sym, ap, _∙_}
-use mathlib.Core.Bool.{Bool, true, false, cond, _&&_}
+use mathlib.Core.Bool.{Bool, true, false, cond}
 use mathlib.Core.List.{List, [], _∷_, _++_, append-assoc}
 use native.Mathlib.Omega.{arith}
 use native.Mathlib.Numerals.{add-one, sub-one}
@@ -11,12 +11,8 @@ use lib.ListN.{length, replicate, getD, drop, length-append, length-replicate, l
 use lib.Seq.{drop-cons, drop-drop, drop-length}
 use lib.Dec.{eqb, leb}
 use borrow.Author.Tests.{leb-true, le-leb, eqb-true, ne-eqb}
+use Rattle.arith.proofs.Laws.Layout.{both-true}
 use Rattle.manager.specs.Map.{sizeOf, Segment, free, held, isHeldSegment, wordsOf, draw, isHeld, segmentOf, decode, tiledFrom, tiled, soundMap, total}
-
--- both of two tests hold
-pub both-true : (a b : Bool) → (a && b) ≡ true → (a ≡ true) × (b ≡ true)
-both-true true b e = (refl, e)
-both-true false b e = (e, cc)
 
 abbrev pub bit : Bool → ℕ
 bit true = 1

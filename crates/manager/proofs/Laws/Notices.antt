@@ -8,13 +8,13 @@ use mathlib.Core.List.{List, [], _∷_, _++_}
 use mathlib.Core.Logic.{inl, inr}
 use native.Mathlib.Omega.{arith}
 use lib.ListN.{length, getD, replicate}
-use lib.Dec.{eqb, leb}
+use lib.Dec.{eqb}
 use borrow.Author.Tests.{eqb-true, eqb-false, eq-eqb, ne-eqb, not-true}
 use Rattle.manager.specs.Lists.{every, count, pairwise, In, Distinct}
 use Rattle.manager.specs.Record.{tasks, noWaiter, regionOf}
 use Rattle.manager.specs.Result.{Result, Check, check, tasksTold, done, replied}
-use Rattle.manager.specs.Region.{dead, servable, heldAt, roomAt, changed, pagesAsked, placed, taken, addressOf}
-use Rattle.manager.specs.Paged.{onPlace}
+use Rattle.manager.specs.Region.{dead, servable, heldAt, canHave, changed, pagesAsked, placed, taken, addressOf}
+use Rattle.manager.specs.Kind.{onPlace}
 use Rattle.manager.specs.Queue.{firstOf, waitsFor, removeAt, dequeue, staying, leaving, aged, expired, afterTick}
 use Rattle.manager.specs.Serve.{Served, quiet, granted, telling, behind, serve, serveAfter, fromServed}
 use Rattle.manager.specs.Sound.{sound, soundQueue, soundWaiter, soundPlace, emptyWaiter, otherTask}
@@ -266,7 +266,7 @@ module _ (m : List ℕ) (d : Manager) (n : length (d .waiters) ≡ tasks) where
       let k = pagesAsked r size in
       let old = heldAt m r a * r .page in
       by-notices m d _ _ (λ ok.
-      by-case (leb k (roomAt m r a)) (λ b. Once (cond b (fromServed old (serve (changed m r a k) d id)) (replied m d Unsatisfied old)))
+      by-case (canHave m r a k) (λ b. Once (cond b (fromServed old (serve (changed m r a k) d id)) (replied m d Unsatisfied old)))
       (λ _. served-once ok (changed m r a k) id old) (λ _. no-notices _ refl))
 
   tick-once : Once (tick m d)

@@ -10,9 +10,11 @@ use lib.Dec.{eqb, leb}
 use borrow.Author.Tests.{leb-true, leb-false, le-leb, lt-leb, eqb-true, eq-eqb, ne-eqb}
 use Rattle.manager.specs.Map.{Segment, free, held, isHeldSegment, total}
 use Rattle.manager.specs.Map.{sizeOf}
-use Rattle.manager.proofs.Laws.Map.{Sized, both-true, total-cons}
+use Rattle.arith.proofs.Laws.Layout.{both-true}
+use Rattle.manager.proofs.Laws.Map.{Sized, total-cons}
 use Rattle.manager.proofs.Laws.Apart.{Well, well-after}
-use Rattle.manager.specs.Paged.{free+, held+, lead, rest, onPlace, placeFrom, occupyFrom, allocate, paged, heldFrom, reachFrom, changeFrom}
+use Rattle.manager.specs.Kind.{onPlace, allocate, heldFrom}
+use Rattle.manager.specs.Paged.{free+, held+, lead, rest, placeFrom, occupyFrom, paged, reachFrom, changeFrom}
 use Rattle.manager.specs.declared.Place.{Place}
 use Rattle.manager.specs.declared.Place.the-variants.{At, Nowhere}
 
@@ -366,4 +368,21 @@ held-within p at (held n ∷ s) = go (eqb at p) (held-within p (at + n) s)
   where
     go : (b : Bool) → heldFrom p (at + n) s ≤ total s → cond b n (heldFrom p (at + n) s) ≤ n + total s
     go true h = omega arith
+    go false h = omega arith
+
+-- and none can have more
+lead-within : (s : List Segment) → lead s ≤ total s
+unfolding lead total
+lead-within [] = omega arith
+lead-within (free n ∷ s) = omega arith
+lead-within (held n ∷ s) = omega arith
+
+pub reach-within : (p at : ℕ) (s : List Segment) → reachFrom p at s ≤ total s
+unfolding reachFrom total
+reach-within p at [] = omega arith
+reach-within p at (free n ∷ s) = omega (arith, reach-within p (at + n) s)
+reach-within p at (held n ∷ s) = go (eqb at p) (reach-within p (at + n) s)
+  where
+    go : (b : Bool) → reachFrom p (at + n) s ≤ total s → cond b (n + lead s) (reachFrom p (at + n) s) ≤ n + total s
+    go true h = omega (arith, lead-within s)
     go false h = omega arith

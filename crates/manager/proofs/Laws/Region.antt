@@ -12,9 +12,11 @@ use borrow.Author.Needs.{fits-under}
 use mir.Syntax.{w64}
 use mir.Val.{Fits}
 use Rattle.manager.specs.Map.{Segment, draw, total}
-use Rattle.manager.specs.Paged.{heldFrom}
+use Rattle.manager.specs.Kind.{heldFrom}
 use Rattle.manager.proofs.Laws.Paged.{held-within}
-use Rattle.manager.specs.Region.{layoutOf, pagesOf, firstPageOf, mapAt, mapWords, segments, withSegments, startsPage, pageAt, heldAt}
+use Rattle.manager.specs.Region.{layoutOf, pagesOf, firstPageOf, mapAt, mapWords, segments, withSegments, startsPage, pageAt, heldAt, pagesAsked}
+use Rattle.arith.proofs.Laws.Round.{pages-some}
+use Rattle.manager.proofs.Laws.Kinds.{keeps}
 use Rattle.manager.specs.Sound.{Laid, Sited}
 use Rattle.manager.proofs.Laws.Sound.{map-in, map-long, pages-few, with-is, total-segments}
 use Rattle.arith.specs.declared.Layout.{Layout}
@@ -53,6 +55,10 @@ module _ (r : Region) (l : Layout) (el : l ≡ layoutOf r) (m : List ℕ) where
   put-back h t e =
       let z : mapAt r + pagesOf r - mapAt r ≡ pagesOf r = omega arith in
       rw (el, z) (ap (λ (w : List ℕ). take (mapAt r) m ++ (draw t ++ w)) (drop-drop (pagesOf r) (mapAt r) m) ∙ sym (with-is m r h t e))
+
+-- who asks for something is given a page
+pub asked-some : (m : List ℕ) (r : Region) → Sited m r → (size : ℕ) → 1 ≤ size → 1 ≤ pagesAsked r size
+asked-some m r s size h = keeps (r .order) .rounded-some _ (pages-some size (r .page) (omega (arith, s .laid .page-low)) h)
 
 -- the pages that are held at an address
 pub held-few : (m : List ℕ) (r : Region) (address : ℕ) → Sited m r → heldAt m r address ≤ pagesOf r

@@ -9,7 +9,7 @@ use lib.Dec.{ltb}
 use borrow.Author.Tests.{ltb-true}
 use Rattle.manager.specs.Record.{slots, tasks, noRegion, noWaiter, regionOf, idOf, withQueue}
 use Rattle.manager.specs.Region.{dead, addressOf, pagesAsked, placed, taken}
-use Rattle.manager.specs.Paged.{onPlace}
+use Rattle.manager.specs.Kind.{onPlace}
 use Rattle.manager.specs.Queue.{firstOf, dequeue}
 use Rattle.manager.specs.Serve.{Served, quiet, granted, telling, behind, serveUpTo, serve, serveSlot, serveSlots, serveAll, serveAfter}
 use Rattle.manager.specs.declared.Manager.{Manager}

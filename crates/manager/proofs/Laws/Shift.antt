@@ -8,7 +8,8 @@ use native.Mathlib.Omega.{arith}
 use lib.Dec.{eqb, leb}
 use borrow.Author.Tests.{eqb-true, eqb-false, eq-eqb, ne-eqb}
 use Rattle.manager.specs.Map.{Segment, free, held}
-use Rattle.manager.specs.Paged.{placeFrom, heldFrom, reachFrom, changeFrom}
+use Rattle.manager.specs.Kind.{heldFrom}
+use Rattle.manager.specs.Paged.{placeFrom, reachFrom, changeFrom}
 use Rattle.manager.specs.declared.Place.{Place}
 use Rattle.manager.specs.declared.Place.the-variants.{At, Nowhere}
 
@@ -21,7 +22,7 @@ module _ (by : ℕ) where
   shift-test at p true e = eq-eqb (by + at) (by + p) (omega (arith, eqb-true at p e))
   shift-test at p false e = ne-eqb (by + at) (by + p) (λ q. eqb-false at p e (omega arith))
 
-  shift-at : (at p : ℕ) → eqb (by + at) (by + p) ≡ eqb at p
+  pub shift-at : (at p : ℕ) → eqb (by + at) (by + p) ≡ eqb at p
   shift-at at p = shift-test at p (eqb at p) refl
 
   pub place-shift : (k at : ℕ) (s : List Segment) → placeFrom k (by + at) s ≡ shifted by (placeFrom k at s)

@@ -19,8 +19,7 @@ use Rattle.manager.specs.Regions.{regionGeneration}
 use Rattle.manager.proofs.Laws.Distinct.{same-or-not}
 use Rattle.manager.proofs.Laws.Ids.{Live, live-object, live-within}
 use Rattle.manager.specs.Map.{Segment, draw, tiled, soundMap, total}
-use Rattle.manager.proofs.Laws.Map.{Sized, redraw, sound-drawn, sound-tiled, length-draw, total-decoded, sized-decoded}
-use Rattle.manager.proofs.Laws.Apart.{Well, well-decoded}
+use Rattle.manager.proofs.Laws.Map.{Sized, redraw, sound-drawn, sound-tiled, sound-proper, length-draw, total-decoded, sized-decoded}
 use Rattle.manager.specs.Region.{dead, kind, pagesOf, firstPageOf, mapAt, mapWords, segments, withSegments, addressOf}
 use Rattle.manager.specs.Sound.{Laid, Sited, sound, soundLength, inside, soundPage, soundGeneration, emptyRegion, liveRegion, soundRegion, soundPartition, soundAreas, soundQueue}
 use Rattle.manager.specs.declared.Manager.{Manager}
@@ -119,8 +118,8 @@ module _ (m : List ℕ) (r : Region) (s : Laid m r) where
   -- its map lies within the memory
   pub map-in : mapAt r + pagesOf r ≤ length m
   map-in =
-      let a = count-map (r .start) (r .length) (r .page) (omega (arith, s .page-low)) in
-      let b = count-end (r .start) (r .length) (r .page) (omega (arith, s .page-low)) (s .some) in
+      let a = count-map (kind r .allowed) (r .start) (r .length) (r .page) (omega (arith, s .page-low)) in
+      let b = count-end (kind r .allowed) (r .start) (r .length) (r .page) (omega (arith, s .page-low)) (s .some) in
       omega (arith, s .inside)
 
   pub map-long : length (mapWords m r) ≡ pagesOf r
@@ -132,7 +131,7 @@ module _ (m : List ℕ) (r : Region) (s : Laid m r) where
   -- and so do its pages
   pub pages-end : addressOf r (firstPageOf r) + pagesOf r * r .page ≤ 65536
   pages-end =
-      let b = count-end (r .start) (r .length) (r .page) (omega (arith, s .page-low)) (s .some) in
+      let b = count-end (kind r .allowed) (r .start) (r .length) (r .page) (omega (arith, s .page-low)) (s .some) in
       omega (arith, s .inside, s .words)
 
   pub address-in : (p k : ℕ) → p + k ≤ firstPageOf r + pagesOf r → addressOf r p + k * r .page ≤ 65536
@@ -181,8 +180,8 @@ module _ (m : List ℕ) (r : Region) (s : Sited m r) where
   pub sized-segments : Sized (segments m r)
   sized-segments = sized-decoded (mapWords m r) tiled-map
 
-  pub well-segments : Well true (segments m r)
-  well-segments = well-decoded (mapWords m r) (s .sound)
+  pub proper-segments : kind r .proper (segments m r) ≡ true
+  proper-segments = sound-proper (kind r .proper) (mapWords m r) (s .sound)
 
   pub total-segments : total (segments m r) ≡ pagesOf r
   total-segments = total-decoded (mapWords m r) tiled-map ∙ map-long m r (s .laid)

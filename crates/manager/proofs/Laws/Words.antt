@@ -14,11 +14,11 @@ use Rattle.arith.specs.Layout.{mapStart, pageCount}
 use Rattle.manager.specs.Record.{regionOf}
 use Rattle.manager.specs.Map.{Segment, isHeldSegment, sizeOf, wordsOf, draw, segmentOf, decode, total}
 use Rattle.manager.proofs.Laws.Map.{markOf, bit, draw-cons, total-cons, size-of, not-zero, length-draw}
-use Rattle.manager.specs.Paged.{allocate, paged}
-use Rattle.manager.proofs.Laws.Paged.{total-take}
+use Rattle.manager.specs.Kind.{allocate}
+use Rattle.manager.proofs.Laws.Kinds.{keeps}
 use Rattle.manager.specs.Queue.{dequeue}
 use Rattle.manager.proofs.Laws.Appended.{by-case}
-use Rattle.manager.specs.Region.{pagesOf, firstPageOf, mapAt, mapWords, segments, withSegments, pagesAsked}
+use Rattle.manager.specs.Region.{kind, pagesOf, firstPageOf, mapAt, mapWords, segments, withSegments, pagesAsked}
 use Rattle.manager.specs.Serve.{serve}
 use Rattle.manager.specs.Sound.{Laid, Sited}
 use Rattle.manager.specs.Words.{OneOf, MapWord, Only}
@@ -111,8 +111,8 @@ served-only m d id =
     (λ m d h a s next v.
     let r = regionOf d id in
     let k = pagesAsked r (firstWaiter d id .size) in
-    let g = allocate paged k (firstPageOf r) (segments m r) in
-    let t : total g ≡ pagesOf r = total-take k (firstPageOf r) (segments m r) ∙ v .pages in
+    let g = allocate (kind r) k (firstPageOf r) (segments m r) in
+    let t : total g ≡ pagesOf r = keeps (r .order) .total-take k (firstPageOf r) (segments m r) ∙ v .pages in
     only-then (drawn-only m r g t) (next (drawn-mapped m r v g t)))
     m d
 
@@ -133,11 +133,12 @@ pub map-same : (m m′ : List ℕ) (r : Region) → length m′ ≡ length m
 map-same m m′ r e h = part-same (pagesOf r) (mapAt r) m m′ e h
 
 -- a word of the map lies inside the area
-pub map-within : (start bytes page : ℕ) → 0 < page → 1 ≤ pageCount start bytes page → (w : ℕ) → mapStart start / 4 ≤ w → w < mapStart start / 4 + pageCount start bytes page
+pub map-within : (allowed : ℕ → Bool) (start bytes page : ℕ) → 0 < page → 1 ≤ pageCount allowed start bytes page → (w : ℕ) → mapStart start / 4 ≤ w
+    → w < mapStart start / 4 + pageCount allowed start bytes page
     → (start ≤ 4 * w) × (4 * w + 4 ≤ start + bytes)
-map-within start bytes page hp some w l h =
+map-within allowed start bytes page hp some w l h =
     let e : 4 * (mapStart start / 4) ≡ mapStart start = omega arith in
-    (omega (arith, e, map-ge start), omega (arith, e, count-map start bytes page hp, count-end start bytes page hp some))
+    (omega (arith, e, map-ge start), omega (arith, e, count-map allowed start bytes page hp, count-end allowed start bytes page hp some))
 
 -- so a change of another region's map leaves it as it was
 module _ (m : List ℕ) (r x : Region) (laid : Laid m x) (other : Laid m r) (clear : Clear (areaFor r) (areaFor x)) (m′ : List ℕ) (only : Only (MapWord r) m m′) where
@@ -145,7 +146,7 @@ module _ (m : List ℕ) (r x : Region) (laid : Laid m x) (other : Laid m r) (cle
   no-word j w v = apart clear (within x laid j w) (within r other j v)
     where
       within : (y : Region) → Laid m y → (j : ℕ) → MapWord y j → (y .start ≤ 4 * j) × (4 * j + 4 ≤ y .start + y .length)
-      within y s j w = map-within (y .start) (y .length) (y .page) (omega (arith, s .page-low)) (s .some) j (w .0) (w .1)
+      within y s j w = map-within (kind y .allowed) (y .start) (y .length) (y .page) (omega (arith, s .page-low)) (s .some) j (w .0) (w .1)
 
       apart : Clear (areaFor r) (areaFor x) → (x .start ≤ 4 * j) × (4 * j + 4 ≤ x .start + x .length)
           → (r .start ≤ 4 * j) × (4 * j + 4 ≤ r .start + r .length) → ⊥

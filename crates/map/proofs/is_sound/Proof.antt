@@ -1,37 +1,15 @@
--- `is_sound` meets its contract: one pass over the words says both that they are tiled and that no two free segments adjoin (`soundFrom`). Assumes nothing.
-use Prim.Native.Nat.{_-_}
-use lib.ListN.{length}
+-- `is_sound` meets its contract: the check of its own kind. Assumes nothing.
 use borrow.Author.Needs.{needs}
-use Rattle.manager.specs.Map.{soundMap}
-use Rattle.manager.specs.Paged.{apart}
-use Rattle.map.proofs.Check.{Checking, checking}
+use Rattle.map.proofs.Order.{kinds}
 use Rattle.map.proofs.is_sound.Statement.{statement}
 use Rattle.map.proofs.is_sound.Tie as tie
-
-abbrev Inv-loop : tie.InvT-loop
-Inv-loop map i₀ due₀ before₀ i due before = Checking map (soundMap apart map) i due before
-
-abbrev μ-loop : tie.MeasureT-loop
-μ-loop map i₀ due₀ before₀ i due before = length map - i
 
 pub is-sound-spec : {M : Type 1} → statement M
 is-sound-spec =
     tie.close
     (tie.spec
-    Inv-loop
-    μ-loop
-    (λ c. search (needs, checking))
-    (λ c. search (needs, checking))
-    (λ c. search (needs, checking))
-    (λ c. search (needs, checking))
-    (λ c. search (needs, checking))
-    (λ c. search (needs, checking))
-    (λ c. search (needs, checking))
-    (λ c. search (needs, checking))
-    (λ c. search (needs, checking))
-    (λ c. search (needs, checking))
-    (λ c. search (needs, checking))
-    (λ c. search (needs, checking))
-    (λ c. search (needs, checking))
-    (λ c. search (needs, checking))
-    (λ c. search (needs, checking)))
+    (λ c κs. search needs)
+    (λ c κs. search needs)
+    (λ c. search (needs, kinds))
+    (λ c κs. search needs)
+    (λ c. search (needs, kinds)))

@@ -46,6 +46,9 @@ layout-of-requires c κs = search needs
 pages-asked-requires : tie.Need-pages-asked-requires
 pages-asked-requires c κs = search needs
 
+cast-if4 : tie.Need-cast-if4
+cast-if4 c = search needs
+
 reply-requires-4 : tie.Need-reply-requires-4
 reply-requires-4 c κs = search needs
 
@@ -138,6 +141,7 @@ get-segment-spec =
     returns-3
     layout-of-requires
     pages-asked-requires
+    cast-if4
     reply-requires-4
     same-length-4
     returns-4

@@ -15,6 +15,7 @@ resize-pages-spec =
     (λ c. search needs)
     (λ c. search needs)
     (λ c. search (needs, drawing))
+    (λ c. search (needs, drawing))
     (λ c κs. search (needs, drawing))
     (λ c. search needs)
     (λ c. search (needs, drawing)))

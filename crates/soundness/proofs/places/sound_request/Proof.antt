@@ -9,6 +9,7 @@ sound-request-spec =
     tie.close
     (tie.spec
     (λ c. search (needs, tests, numbers))
+    (λ c. search needs)
     (λ c κs. search (needs, tests, numbers))
     (λ c. search (needs, tests, numbers))
     (λ c. search (needs, tests, numbers))
