@@ -14,6 +14,7 @@ use Rattle.trace.proofs.Invariant.{Inv, RegionIs, PartitionIs}
 use Rattle.trace.proofs.Frame.{buffers-apart}
 use Rattle.trace.proofs.Areas.{areaIn, sound-clear, same-object}
 use Rattle.trace.proofs.Clients.{SegmentLoan, BufferLoan, segment-loan, buffer-loan, region-at, partition-at, loan-in}
+use Rattle.trace.proofs.Loans.Lawful.{no-overlap}
 use Rattle.trace.proofs.Segments.{law}
 use Rattle.trace.proofs.Disjoint.{clear-parts}
 
@@ -23,7 +24,7 @@ Alike a n b k = ((a ≡ b) × (n ≡ k)) ⊎ ((a + n ≤ b) ⊎ (b + k ≤ a))
 
 -- two loans of one region
 pub segments-apart : (m : List ℕ) (e : RegionEntry) → RegionIs m e → (a n b k : ℕ) → SegmentLoan e a n → SegmentLoan e b k → Alike a n b k
-segments-apart m e is a n b k x y = go (law e .no-overlap (is .fits) (x .p) (x .k) (y .p) (y .k) (x .lent) (y .lent))
+segments-apart m e is a n b k x y = go (no-overlap (law e) (is .fits) (x .p) (x .k) (y .p) (y .k) (x .lent) (y .lent))
   where
     go : ((x .p ≡ y .p) × (x .k ≡ y .k)) ⊎ ((x .p + x .k ≤ y .p) ⊎ (y .p + y .k ≤ x .p)) → Alike a n b k
     go (inl f) = inl (x .at ∙ ap (addressIn e) (f .0) ∙ sym (y .at), x .bytes ∙ ap (λ (j : ℕ). j * unit e) (f .1) ∙ sym (y .bytes))

@@ -2,7 +2,7 @@
 -- the claims say of answers follows from the replies, and the rest is the invariant's. Assumes nothing.
 use mathlib.Core.Path.{_≡_, refl, sym, ap, _∙_, subst}
 use mathlib.Core.Bool.{true}
-use mathlib.Core.List.{List, []}
+use mathlib.Core.List.{List, [], _∷_}
 use mathlib.Core.Logic.{_↔_, ⊎-elim}
 use mathlib.Core.Option.{some}
 use Prim.Native.Nat.{ℕ, zero, suc, _+_, _*_, _/_, _≤_, _<_}
@@ -11,8 +11,10 @@ use native.Mathlib.Omega.{arith}
 use lib.ListN.{length, take, drop, length-take, length-drop}
 use Rattle.manager.specs.Record.{tasks, regionOf, partitionOf}
 use Rattle.manager.specs.Result.{tasksTold}
+use Rattle.manager.specs.Map.{free, draw}
 use Rattle.manager.specs.Region.{segments}
 use Rattle.manager.specs.Partition.{isBuffer, follow, linked, nextOf}
+use Rattle.manager.proofs.Laws.Paged.{free-front}
 use Rattle.manager.proofs.Laws.Notices.{Once, told-once}
 use Rattle.manager.proofs.Laws.Partition.Chain.{linked-buffer, linked-rest, linked-last}
 use Rattle.manager.proofs.Laws.Partition.Live.{live-chain}
@@ -23,16 +25,17 @@ use Rattle.manager.specs.declared.Wait.the-variants.{No}
 use Rattle.manager.specs.declared.Partition.{Partition}
 use Rattle.manager.specs.declared.Status.the-variants.{InternalError}
 use Rattle.manager.specs.Lists.{In, Distinct}
-use Rattle.trace.specs.Loans.{Lent, loanPages, sum}
-use Rattle.trace.specs.Receipts.{RegionEntry, PartitionEntry, Wait, Reply, replyOf, unit, pageIn, pageLoans, buffersIn, buffersFrom}
+use Rattle.trace.specs.Loans.{Loan, Lent, inPages, loanPages, sum}
+use Rattle.trace.specs.Receipts.{RegionEntry, PartitionEntry, Wait, Reply, replyOf, reading, unit, pagesIn, spanIn, pageIn, byPage, pageLoans, buffersIn, buffersFrom}
 use Rattle.trace.specs.Queue.{queueOf}
 use Rattle.trace.specs.Replies.{byReceipts, readByReceipts}
 use Rattle.trace.specs.Trace.{State, answer}
-use Rattle.trace.specs.Claims.{freePages, Chained, null, link, RegionClaims, PartitionClaims, Ticked}
+use Rattle.trace.specs.Claims.{mapIn, freePages, Chained, null, link, RegionClaims, PartitionClaims, Ticked}
 use Rattle.trace.proofs.Invariant.{regionFor, PartitionIs, Inv}
-use Rattle.trace.proofs.Frame.{unit-least, inside-parts, partition-shaped, buffer-lies, chained-buffer}
+use Rattle.trace.proofs.Frame.{unit-least, pages-allowed, inside-parts, partition-shaped, buffer-lies, chained-buffer}
 use Rattle.trace.proofs.Buffers.{buffer-within, within-buffer}
 use Rattle.trace.proofs.Clients.{RegionAt, region-at, partition-at, SegmentLoan, segment-in, segment-some}
+use Rattle.trace.proofs.Loans.Lawful as lawful
 use Rattle.trace.proofs.Segments.{law, Regular, regular, loan-holds, pages-lent}
 use Rattle.trace.proofs.Map.{drawing}
 use Rattle.trace.proofs.Loans.Addresses.{address-pages}
@@ -117,6 +120,14 @@ module _ (i : Implementation) (s : State) (v : Inv (s .memory) (s .manager) (s .
         let f = inside-parts m (e .start) (e .bytes) (at .is .inside) .upto in
         omega (arith, w .upto, w .whole, length-take (k * unit e / 4) (drop (a / 4) m), length-drop (a / 4) m)
 
+    -- with nothing lent the map is as a create draws it
+    whole-map : e .loans ≡ [] → mapIn (s .memory) e ≡ draw (free (pagesIn e) ∷ [])
+    unfolding inPages
+    whole-map n =
+        let d = law e .new (spanIn e) (pages-allowed e (at .is .some-page)) in
+        at .is .map ∙ ap (λ (l : List Loan). draw (reading e .drawn (spanIn e) (byPage e l))) n
+        ∙ ap draw (sym (d .is) ∙ free-front (pagesIn e) [] tt (at .is .some-page))
+
     pub region-claims : RegionClaims i s id e
     region-claims =
         let n = length (s .memory) in
@@ -125,9 +136,10 @@ module _ (i : Implementation) (s : State) (v : Inv (s .memory) (s .manager) (s .
           placed = λ a k x. loan-holds e loans a k x .at;
           ordered = loans .fits;
           map = at .is .map;
+          whole = whole-map;
           counted =
               ap (λ (l : List ℕ). sum l + freePages (segments (s .memory) (regionFor e))) (ap loanPages (loans .placed) ∙ address-pages (unit e) (pageLoans e))
-              ∙ law e .counted (drawing (s .memory) e (at .is));
+              ∙ lawful.counted (law e) (drawing (s .memory) e (at .is));
           unsatisfied = λ size task priority ticks z h. rw (status-by (GetSegment id size No task priority ticks))
               (unsatisfied-by n t id e q loans size task priority ticks z h);
           lowest = λ size task priority ticks z h. rw (status-by (GetSegment id size No task priority ticks), value-by (GetSegment id size No task priority ticks))

@@ -24,6 +24,7 @@ use Rattle.trace.specs.Receipts.{Receipts, RegionEntry, PartitionEntry, 
 use Rattle.trace.specs.Trace.{Object, region, partition, Loaned, segment, buffer, Owned, ClientsWrite}
 use Rattle.trace.proofs.Invariant.{Inside, regionAs, regionFor, RegionIs, RegionSlot, PartitionIs, PartitionSlot, Inv, empty, live, OnlyMap}
 use Rattle.trace.proofs.Frame.{map-at, unit-whole, whole-times, pages-from, pages-upto, region-inside, region-same, partition-shaped, buffer-lies, buffers-apart, chained-buffer, link-next, link-before, buffer-inside, partition-same}
+use Rattle.trace.proofs.Loans.Lawful.{lent-some, lent-from, lent-within}
 use Rattle.trace.proofs.Segments.{law, regular, loan-holds}
 use Rattle.trace.proofs.Areas.{areaIn, sound-clear, same-object}
 use Rattle.trace.proofs.Disjoint.{clear-words}
@@ -82,15 +83,15 @@ pub record LoanIn (a : Area) (address bytes : ℕ) : Type 0 where
 -- where a loan of a region lies: in its pages, and so behind its map
 module _ (m : List ℕ) (e : RegionEntry) (is : RegionIs m e) (a n : ℕ) (l : SegmentLoan e a n) where
   pub segment-behind : mapStart (e .start) + 4 * pagesIn e ≤ a
-  segment-behind = omega (arith, l .at, pages-from m e is (l .p) (law e .lent-from (is .fits) (l .p) (l .k) (l .lent)))
+  segment-behind = omega (arith, l .at, pages-from m e is (l .p) (lent-from (law e) (is .fits) (l .p) (l .k) (l .lent)))
 
   pub segment-some : 0 < l .k
-  segment-some = law e .lent-some (is .fits) (l .p) (l .k) (l .lent)
+  segment-some = lent-some (law e) (is .fits) (l .p) (l .k) (l .lent)
 
   pub segment-in : LoanIn (areaFor (regionFor e)) a n
   segment-in =
       let w : unit e % 4 ≡ 0 = omega (arith, unit-whole e) in
-      let u = pages-upto m e is (l .p + l .k) (law e .lent-within (is .fits) (l .p) (l .k) (l .lent)) in
+      let u = pages-upto m e is (l .p + l .k) (lent-within (law e) (is .fits) (l .p) (l .k) (l .lent)) in
       record {
         from = omega (arith, segment-behind, map-ge (e .start));
         upto = omega (arith, l .at, l .bytes, u, add-mul (l .p) (l .k) (unit e));

@@ -1,7 +1,7 @@
 -- Which words a part of the picture rests on: a region's map words, and the link words of a partition's chained buffers. Where these
 -- stay as they are, so does the picture, whatever happens elsewhere. The words lie inside the object's area. Assumes nothing.
 use mathlib.Core.Path.{_≡_, refl, sym, ap, _∙_, subst}
-use mathlib.Core.Bool.{true, not}
+use mathlib.Core.Bool.{Bool, true, not}
 use mathlib.Core.List.{List, [], _∷_, _++_, append-assoc}
 use mathlib.Core.Logic.{_⊎_, inl, inr, ⊎-elim}
 use Prim.Native.Nat.{ℕ, suc, _+_, _*_, _/_, _%_, _≤_, _<_}
@@ -13,10 +13,10 @@ use lib.Dec.{eqb, leb}
 use borrow.Author.Tests.{eqb-false, leb-true, ne-eqb, le-leb, not-true}
 use Rattle.arith.proofs.Laws.Round.{round-multiple}
 use Rattle.arith.specs.Layout.{mapStart, pageCount}
-use Rattle.arith.proofs.Laws.Layout.{count-map, count-end}
+use Rattle.arith.proofs.Laws.Layout.{count-allowed, count-map, count-end}
 use Rattle.manager.proofs.Laws.Lists.{and-first, and-second}
 use Rattle.manager.proofs.Laws.Words.{map-same, map-within}
-use Rattle.manager.specs.Region.{pagesOf, mapAt, mapWords}
+use Rattle.manager.specs.Region.{kindOf, pagesOf, mapAt, mapWords}
 use Rattle.manager.specs.Partition.{isBuffer, chain}
 use Rattle.manager.proofs.Laws.Distinct.{On, same-or-not, on-in}
 use Rattle.manager.proofs.Laws.Partition.Buffers.{Buffer, buffer-of, Placed, placed, apart}
@@ -72,13 +72,14 @@ pub map-at : (start : ℕ) → 4 * (mapStart start / 4) ≡ mapStart start
 map-at start = omega arith
 
 -- a word of the map lies inside the area
-module _ (start bytes page : ℕ) (hp : 0 < page) (some : 1 ≤ pageCount start bytes page) (w : ℕ) where
-  pub map-inside : mapStart start / 4 ≤ w → w < mapStart start / 4 + pageCount start bytes page → Inside start bytes w
-  map-inside l h = let x = map-within start bytes page hp some w l h in record { low = x .0; high = x .1 }
+module _ (allowed : ℕ → Bool) (start bytes page : ℕ) (hp : 0 < page) (some : 1 ≤ pageCount allowed start bytes page) (w : ℕ) where
+  pub map-inside : mapStart start / 4 ≤ w → w < mapStart start / 4 + pageCount allowed start bytes page → Inside start bytes w
+  map-inside l h = let x = map-within allowed start bytes page hp some w l h in record { low = x .0; high = x .1 }
 
 -- the map lies in a memory in which the area does
-pub map-fits : (start bytes page n : ℕ) → 0 < page → 1 ≤ pageCount start bytes page → start + bytes ≤ 4 * n → mapStart start / 4 + pageCount start bytes page ≤ n
-map-fits start bytes page n hp some h = omega (arith, map-at start, count-map start bytes page hp, count-end start bytes page hp some)
+pub map-fits : (allowed : ℕ → Bool) (start bytes page n : ℕ) → 0 < page → 1 ≤ pageCount allowed start bytes page → start + bytes ≤ 4 * n
+    → mapStart start / 4 + pageCount allowed start bytes page ≤ n
+map-fits allowed start bytes page n hp some h = omega (arith, map-at start, count-map allowed start bytes page hp, count-end allowed start bytes page hp some)
 
 -- the page size of an entry: whole, and in bounds
 pub unit-least : (e : RegionEntry) → 1 ≤ e .page → 8 ≤ unit e
@@ -121,21 +122,25 @@ map-length m r h = omega (arith, length-take (pagesOf r) (drop (mapAt r) m), len
 pub map-words-only : (m : List ℕ) (r : Region) (ws : List ℕ) → length ws ≡ pagesOf r → Only (4 * mapAt r) (4 * pagesOf r) m (sets m (mapAt r) ws)
 map-words-only m r ws e = only-sets (4 * mapAt r) (4 * pagesOf r) m (mapAt r) ws (omega arith) (omega arith)
 
+-- the pages of an entry are as many as its kind allows
+pub pages-allowed : (e : RegionEntry) → 1 ≤ pagesIn e → kindOf (e .order) .allowed (pagesIn e) ≡ true
+pages-allowed e h = count-allowed (kindOf (e .order) .allowed) (e .start) (e .bytes) (unit e) h
+
 -- what a live region's entry says of its numbers
 module _ (m : List ℕ) (e : RegionEntry) (is : RegionIs m e) where
   pub region-unit : 0 < unit e
   region-unit = omega (arith, unit-least e (is .page-some))
 
   pub region-inside : (w : ℕ) → mapAt (regionFor e) ≤ w → w < mapAt (regionFor e) + pagesIn e → Inside (e .start) (e .bytes) w
-  region-inside w l h = map-inside (e .start) (e .bytes) (unit e) region-unit (is .some-page) w l h
+  region-inside w l h = map-inside (kindOf (e .order) .allowed) (e .start) (e .bytes) (unit e) region-unit (is .some-page) w l h
 
   -- its pages lie in its area, behind the words of its map
   pub pages-from : (p : ℕ) → spanIn e .first ≤ p → mapStart (e .start) + 4 * pagesIn e ≤ addressIn e p
-  pages-from p h = omega (arith, count-map (e .start) (e .bytes) (unit e) region-unit, mul-le-mul-right (unit e) h)
+  pages-from p h = omega (arith, count-map (kindOf (e .order) .allowed) (e .start) (e .bytes) (unit e) region-unit, mul-le-mul-right (unit e) h)
 
   pub pages-upto : (p : ℕ) → p ≤ behind (spanIn e) → addressIn e p ≤ e .start + e .bytes
   pages-upto p h =
-      omega (arith, count-end (e .start) (e .bytes) (unit e) region-unit (is .some-page), mul-le-mul-right (unit e) h, add-mul (spanIn e .first) (pagesIn e) (unit e))
+      omega (arith, count-end (kindOf (e .order) .allowed) (e .start) (e .bytes) (unit e) region-unit (is .some-page), mul-le-mul-right (unit e) h, add-mul (spanIn e .first) (pagesIn e) (unit e))
 
   -- a change of its map is one of its area
   pub map-area : (m₁ m′ : List ℕ) → OnlyMap e m₁ m′ → Only (e .start) (e .bytes) m₁ m′
@@ -148,7 +153,7 @@ module _ (m : List ℕ) (e : RegionEntry) (is : RegionIs m e) where
 
   -- the map lies in the memory
   pub region-fits : mapAt (regionFor e) + pagesIn e ≤ length m
-  region-fits = map-fits (e .start) (e .bytes) (unit e) (length m) region-unit (is .some-page) (inside-parts m (e .start) (e .bytes) (is .inside) .upto)
+  region-fits = map-fits (kindOf (e .order) .allowed) (e .start) (e .bytes) (unit e) (length m) region-unit (is .some-page) (inside-parts m (e .start) (e .bytes) (is .inside) .upto)
 
   -- A LIVE REGION RESTS ON ITS MAP WORDS
   pub region-same : (m′ : List ℕ) → length m′ ≡ length m

@@ -3,7 +3,7 @@ use mathlib.Core.Path.{refl}
 use mathlib.Core.List.{List, [], _∷_}
 use mathlib.Core.Logic.{inl, inr}
 use Prim.Native.Nat.{_<_}
-use Rattle.manager.specs.Paged.{onPlace}
+use Rattle.manager.specs.Kind.{onPlace}
 use Rattle.manager.specs.declared.Place.{Place}
 use Rattle.manager.specs.Lists.{In}
 use Rattle.trace.specs.Loans.{Loan, enter}

@@ -4,32 +4,33 @@
 use mathlib.Core.Path.{_≡_, refl, sym, ap, _∙_}
 use mathlib.Core.Bool.{Bool, true, false}
 use mathlib.Core.List.{List, [], _∷_}
-use Prim.Native.Nat.{ℕ, zero, suc, _+_, _*_, _%_, _≤_, _<_}
-use native.Mathlib.Nat.{div-add-mod', mul-mod-left}
+use Prim.Native.Nat.{ℕ, _+_, _*_, _%_, _≤_, _<_}
+use native.Mathlib.Nat.{div-add-mod'}
 use native.Mathlib.Omega.{arith}
 use lib.ListN.{length}
 use lib.Seq.{length-sets}
 use lib.Dec.{eqb}
-use borrow.Author.Tests.{eqb-true, eqb-false, eq-eqb}
+use borrow.Author.Tests.{eqb-true, eqb-false}
 use Rattle.arith.specs.Round.{pagesFor}
 use Rattle.arith.proofs.Laws.Round.{pages-some}
 use Rattle.manager.specs.Map.{Segment, draw}
 use Rattle.manager.specs.Paged.{free+}
-use Rattle.manager.specs.Region.{firstPageOf, startsPage, mapAt, mapWords, segments, withSegments, kind}
+use Rattle.manager.specs.Region.{startsPage, mapAt, mapWords, segments, withSegments, kind}
 use Rattle.manager.specs.Region as region
 use Rattle.manager.specs.declared.Region.{Region}
 use Rattle.manager.specs.declared.Place.{Place}
 use Rattle.manager.specs.declared.Place.the-variants.{At, Nowhere}
-use Rattle.trace.specs.Loans.{Loan, loan, Lent, enter, amend, inPages, loanPages}
+use Rattle.trace.specs.Loans.{Loan, loan, Lent, enter, amend, inPages, pagesAt, loanPages}
 use Rattle.trace.specs.Receipts.{RegionEntry, unit, reading, pagesOver, pagesIn, spanIn, addressIn, pageIn, byPage, pageLoans, withLoans}
-use Rattle.trace.specs.Replies.{lendsAny, pagesAt, placeIn, mostIn}
+use Rattle.trace.specs.Replies.{lendsAny, placeIn, canHaveIn}
 use Rattle.trace.specs.Claims.{Full, Takes}
 use Rattle.trace.proofs.Invariant.{OnlyMap, regionFor, atAddresses, RegionIs}
-use Rattle.trace.proofs.Frame.{unit-least, inside-same, parts-inside, map-fits, map-stored, map-words-only, region-fits}
-use Rattle.trace.proofs.Loans.Addresses.{atPages, address-pages}
+use Rattle.trace.proofs.Frame.{unit-least, pages-allowed, inside-same, parts-inside, map-fits, map-stored, map-words-only, region-fits}
+use Rattle.trace.proofs.Loans.Addresses.{atPages, pages-address, no-address, address-pages}
+use Rattle.trace.proofs.Loans.Says.{found-lent}
 use Rattle.trace.proofs.Loans.Lawful as lawful
 use Rattle.trace.proofs.Loans.Lawful.{Drawing, Gets, given, nothing}
-use Rattle.trace.proofs.Segments.{law, found-lent, Regular, regular, loan-holds, holds-loan, entered-at, amended-at, back-to-pages, regular-with, pages-lent}
+use Rattle.trace.proofs.Segments.{law, Regular, regular, loan-holds, entered-at, amended-at, back-to-pages, regular-with}
 
 -- a step: the memory m′ is the picture of the entry with the loans l, and only words of the map differ from m
 pub record Steps (m : List ℕ) (e : RegionEntry) (m′ : List ℕ) (l : List Loan) : Type 0 where
@@ -46,12 +47,12 @@ pub record Shows (m : List ℕ) (e : RegionEntry) : Type 0 where
   pub asked : (size : ℕ) → region.pagesAsked (regionFor e) size ≡ pagesOver e size
   pub placed : (size : ℕ) → 0 < size → region.placed m (regionFor e) (pagesOver e size) ≡ placeIn e (e .loans) size
   pub got : (size : ℕ) → 0 < size → Gives m e size (region.placed m (regionFor e) (pagesOver e size)) (region.taken m (regionFor e) (pagesOver e size))
-  -- the segment at an address, and the most that it can have
+  -- the segment at an address, and what it can have
   pub held : (a : ℕ) → region.heldAt m (regionFor e) a ≡ pagesAt a (e .loans)
-  pub room : (a : ℕ) → region.roomAt m (regionFor e) a ≡ mostIn e a
+  pub can-have : (a size : ℕ) → region.canHave m (regionFor e) a (pagesOver e size) ≡ canHaveIn e a size
   -- return and resize
   pub returned : (a k : ℕ) → Lent (e .loans) a k → Steps m e (region.changed m (regionFor e) a 0) (amend a 0 (e .loans))
-  pub resized : (a k size : ℕ) → Lent (e .loans) a k → pagesOver e size ≤ mostIn e a
+  pub resized : (a k size : ℕ) → Lent (e .loans) a k → canHaveIn e a size ≡ true
       → Steps m e (region.changed m (regionFor e) a (pagesOver e size)) (amend a (pagesOver e size) (e .loans))
   -- counts
   pub any : region.anyHeld m (regionFor e) ≡ lendsAny (e .loans)
@@ -66,7 +67,7 @@ module _ (m : List ℕ) (e : RegionEntry) (is : RegionIs m e) where
   loans = regular m e is
 
   pub drawing : Drawing (reading e) (spanIn e) (pageLoans e) (segments m r)
-  drawing = lawful.drawing _ _ (law e) (spanIn e) (pageLoans e) (mapWords m r) (is .fits) (is .map)
+  drawing = lawful.drawing (law e) (spanIn e) (pageLoans e) (mapWords m r) (is .fits) (is .map)
 
   -- another map, drawn from other loans
   step : (k l : List Loan) (s : List Segment) → k ≡ atAddresses e l → Drawing (reading e) (spanIn e) l s → Steps m e (withSegments m r s) k
@@ -81,52 +82,38 @@ module _ (m : List ℕ) (e : RegionEntry) (is : RegionIs m e) where
           some-page = is .some-page;
           placed = g .placed;
           fits = g .fits;
-          map = map-stored m r (draw s) (law e .size d) (region-fits m e is)
+          map = map-stored m r (draw s) (lawful.size (law e) d) (region-fits m e is)
               ∙ ap draw (d .is) ∙ ap (λ (j : List Loan). draw (reading e .drawn (spanIn e) j)) (sym (back-to-pages e loans k l at));
         };
-        only = map-words-only m r (draw s) (law e .size d);
+        only = map-words-only m r (draw s) (lawful.size (law e) d);
       }
 
   -- ---- the segment at an address
 
-  starts-page : (p : ℕ) → startsPage r (addressIn e p) ≡ true
-  starts-page p = eq-eqb (p * unit e % unit e) 0 (mul-mod-left p (unit e))
-
   page-start : (a : ℕ) → startsPage r a ≡ true → a ≡ addressIn e (pageIn e a)
   page-start a h = omega (arith, eqb-true (a % unit e) 0 h, div-add-mod' a (unit e))
 
-  -- a loan is a held segment at its address, and a held segment is a loan
-  loan-held : (a k : ℕ) → Lent (e .loans) a k → region.heldAt m r a ≡ k
-  loan-held a k x =
-      let h = loan-holds e loans a k x in
-      let s : startsPage r a ≡ true = ap (startsPage r) (h .at) ∙ starts-page (pageIn e a) in
-      rw s (law e .held drawing (pageIn e a) k (h .lent))
-
-  held-loan : (a : ℕ) → 0 < region.heldAt m r a → Lent (e .loans) a (region.heldAt m r a)
-  held-loan a h = go (startsPage r a) refl
-    where
-      go : (b : Bool) → startsPage r a ≡ b → Lent (e .loans) a (region.heldAt m r a)
-      go false f = absurd (omega (arith, let z : region.heldAt m r a ≡ 0 = rw f in z))
-      go true f =
-          let g : region.heldAt m r a ≡ kind r .held (pageIn e a) (firstPageOf r) (segments m r) = rw f in
-          holds-loan e loans a (region.heldAt m r a) (record { at = page-start a f; lent = rw g (law e .lent drawing (pageIn e a) (rw g at h)) })
-
+  -- its pages are those of the loan there
   held-at : (a : ℕ) → region.heldAt m r a ≡ pagesAt a (e .loans)
-  held-at a = go (region.heldAt m r a) refl (pagesAt a (e .loans)) refl
+  held-at a = go (startsPage r a) refl ∙ sym (ap (pagesAt a) (is .placed))
     where
-      go : (k : ℕ) → region.heldAt m r a ≡ k → (n : ℕ) → pagesAt a (e .loans) ≡ n → region.heldAt m r a ≡ pagesAt a (e .loans)
-      go (suc k) f n q = sym (pages-lent e loans a _ (held-loan a (omega arith)))
-      go zero f zero q = f ∙ sym q
-      go zero f (suc n) q = loan-held a (pagesAt a (e .loans)) (found-lent a (e .loans) (λ z. omega arith))
+      l : List Loan
+      l = pageLoans e
+
+      go : (b : Bool) → startsPage r a ≡ b → region.heldAt m r a ≡ pagesAt a (atAddresses e l)
+      go true f =
+          rw f (lawful.held-found (law e) drawing (pageIn e a))
+          ∙ sym (ap (λ (x : ℕ). pagesAt x (atAddresses e l)) (page-start a f) ∙ pages-address (unit e) (loans .some-unit) (pageIn e a) l)
+      go false f = rw f (sym (no-address (unit e) a l (eqb-false (a % unit e) 0 f)))
 
   -- something is held where something is lent
   any-held : region.anyHeld m r ≡ lendsAny (e .loans)
   unfolding inPages
-  any-held = go (e .loans) drawing
+  any-held = lawful.any-lent (law e) drawing ∙ by-pages (e .loans)
     where
-      go : (l : List Loan) → Drawing (reading e) (spanIn e) (byPage e l) (segments m r) → region.anyHeld m r ≡ lendsAny l
-      go [] d = law e .any-none d
-      go (loan a k ∷ l) d = law e .any-some d
+      by-pages : (l : List Loan) → lendsAny (byPage e l) ≡ lendsAny l
+      by-pages [] = refl
+      by-pages (loan a k ∷ l) = refl
 
   -- ---- get
 
@@ -145,14 +132,14 @@ module _ (m : List ℕ) (e : RegionEntry) (is : RegionIs m e) where
         placed = λ size z. law e .placed drawing (pagesFor size (unit e)) (pages-some size (unit e) (loans .some-unit) z);
         got = gets;
         held = held-at;
-        room = λ a. law e .reach drawing (pageIn e a);
+        can-have = λ a size. law e .can-have drawing (pageIn e a) (pagesOver e size);
         returned = λ a k x. let h = loan-holds e loans a k x in
             step _ _ _ (amended-at e loans a 0 (h .at)) (law e .returned drawing (pageIn e a) k (h .lent));
         resized = λ a k size x l. let h = loan-holds e loans a k x in
             step _ _ _ (amended-at e loans a (pagesOver e size) (h .at)) (law e .changed drawing (pageIn e a) k (pagesFor size (unit e)) (h .lent) l);
         any = any-held;
         frees = law e .free-runs drawing;
-        helds = law e .held-pages drawing ∙ sym (ap loanPages (is .placed) ∙ address-pages (unit e) (pageLoans e));
+        helds = lawful.held-pages (law e) drawing ∙ sym (ap loanPages (is .placed) ∙ address-pages (unit e) (pageLoans e));
       }
 
   -- the check for 9, by the loans; an address that it lets pass is that of a loan
@@ -160,7 +147,7 @@ module _ (m : List ℕ) (e : RegionEntry) (is : RegionIs m e) where
   none-at a = ap (λ (n : ℕ). eqb n 0) (held-at a)
 
   pub lent-held : (a : ℕ) → eqb (region.heldAt m r a) 0 ≡ false → Lent (e .loans) a (region.heldAt m r a)
-  lent-held a h = held-loan a (let z = eqb-false (region.heldAt m r a) 0 h in omega arith)
+  lent-held a h = rw (held-at a) (found-lent a (e .loans) (λ z. eqb-false (region.heldAt m r a) 0 h (held-at a ∙ z)))
 
 -- A NEW REGION: its map shows no loans
 pub opens : (m : List ℕ) (e : RegionEntry) → e .loans ≡ [] → ¬ (e .name ≡ 0) → ¬ (e .start ≡ 0) → e .start + e .bytes ≤ 4 * length m
@@ -169,7 +156,7 @@ unfolding inPages atPages
 opens m e fresh named started upto page-some page-most some-page =
     let r = regionFor e in
     let ws = draw (free+ (pagesIn e) []) in
-    let d = law e .new (spanIn e) in
+    let d = law e .new (spanIn e) (pages-allowed e some-page) in
     let some-unit : 0 < unit e = omega (arith, unit-least e page-some) in
     record {
       is = record {
@@ -181,7 +168,7 @@ opens m e fresh named started upto page-some page-most some-page =
         some-page = some-page;
         placed = rw fresh;
         fits = rw fresh (d .fits);
-        map = rw fresh (map-stored m r ws (law e .size d) (map-fits (e .start) (e .bytes) (unit e) (length m) some-unit some-page upto) ∙ ap draw (d .is));
+        map = rw fresh (map-stored m r ws (lawful.size (law e) d) (map-fits (kind r .allowed) (e .start) (e .bytes) (unit e) (length m) some-unit some-page upto) ∙ ap draw (d .is));
       };
-      only = map-words-only m r ws (law e .size d);
+      only = map-words-only m r ws (lawful.size (law e) d);
     }

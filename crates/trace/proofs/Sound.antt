@@ -19,7 +19,7 @@ use Rattle.trace.specs.Replies.{regionNow, partitionNow}
 use Rattle.trace.proofs.Invariant.{regionAs, RegionIs, RegionSlot, PartitionSlot, Inv, empty, live}
 use Rattle.trace.proofs.Slots.{region-in, partition-in}
 use Rattle.trace.proofs.Frame.{unit-least, unit-most, unit-whole}
-use Rattle.trace.proofs.Loans.Lawful.{drawn-is}
+use Rattle.trace.proofs.Loans.Lawful as lawful
 use Rattle.trace.proofs.Segments.{law}
 
 -- a page size as create leaves it
@@ -32,7 +32,7 @@ pub region-live : (m : List ℕ) (g : ℕ) (e : RegionEntry) → RegionIs m e �
 unfolding liveRegion
 region-live m g e is =
     rw (is .inside, unit-sound e (is .page-some) (is .page-most), le-leb 1 (pagesIn e) (is .some-page), is .map)
-    (law e .sound (drawn-is _ _ (law e) (is .fits)))
+    (lawful.sound (law e) (lawful.drawn-is (law e) (is .fits)))
 
 pub region-sound : (m : List ℕ) (r : Region) (o : Option RegionEntry) → RegionSlot m r o → soundGeneration (r .name) (r .generation) ≡ true → soundRegion m r ≡ true
 unfolding soundRegion

@@ -96,18 +96,22 @@ freePages (held n ∷ s) = freePages s
 pub record RegionClaims (i : Implementation) (s : State) (id : ℕ) (e : RegionEntry) : Type 0 where
   -- "Where an object's pages or buffers lie follows from what create asked for": each loan is at the address of a page
   pub placed : (a k : ℕ) → Lent (e .loans) a k → a ≡ addressIn e (pageIn e a)
-  -- its loans lie in its pages, and no two share one
+  -- its loans lie in its pages, and no two share one; by halves, each also starts at a multiple of its own length
   pub ordered : reading e .Fits (spanIn e) (pageLoans e)
-  -- "The drawn map has a held segment for each loan and a free one for each unbroken run of unheld pages, taken whole": the region's map
-  -- is the drawn one
+  -- the region's map is the drawn one. Of pages: "The drawn map has a held segment for each loan and a free one for each unbroken run of
+  -- unheld pages, taken whole"; by halves it is "the map drawn from receipts by halves"
   pub map : mapIn (s .memory) e ≡ draw (reading e .drawn (spanIn e) (pageLoans e))
+  -- with nothing lent it is one free segment of all its pages: a region by halves is one free block again
+  pub whole : e .loans ≡ [] → mapIn (s .memory) e ≡ draw (free (pagesIn e) ∷ [])
   -- pages held by the receipts and pages free in the map make up the region
   pub counted : sum (loanPages (e .loans)) + freePages (decode (mapIn (s .memory) e)) ≡ pagesIn e
   -- "A get is valid if its checks ahead of 13, the one for 25 aside, refuse nothing": one that won't wait is answered 13 exactly when no
-  -- place would serve it: no run of adjoining unheld pages is long enough
+  -- place would serve it: no run of adjoining unheld pages is long enough; by halves, no "run of the rounded size that starts at a multiple of
+  -- its own length, counted from the first page"
   pub unsatisfied : (size task priority ticks : ℕ) → 0 < size → Servable e size
       → (answer i s (GetSegment id size No task priority ticks) .status ≡ Unsatisfied) ↔ Full e (e .loans) size
-  -- else the address is that of the place that its region's kind chooses: of pages, the lowest that fits
+  -- else the address is that of the place that its region's kind chooses: of pages, the lowest that fits; by halves, the lowest of the smallest free
+  -- blocks of the drawn map that are large enough
   pub lowest : (size task priority ticks : ℕ) → 0 < size → Servable e size
       → (answer i s (GetSegment id size No task priority ticks) .status ≡ Unsatisfied)
       ⊎ ((p : ℕ) × Takes e (e .loans) size p
@@ -115,10 +119,11 @@ pub record RegionClaims (i : Implementation) (s : State) (id : ℕ) (e : RegionE
       × (answer i s (GetSegment id size No task priority ticks) .value ≡ addressIn e p))
   -- "a read is empty only where the receipts have no loan at that address in that region"
   pub read : (a k : ℕ) → Lent (e .loans) a k → ¬ (i .read (s .memory) (s .manager) id a ≡ [])
-  -- information answers the count, largest and total bytes over the runs of unheld pages and over the loans ("sums over held and unheld
-  -- pages")
+  -- information answers the count, largest and total bytes over the free segments of the drawn map and over the loans ("sums over held and
+  -- unheld pages"): of pages these are the runs of unheld pages, by halves the free blocks
   pub information : answer i s (RegionInformation id) .information ≡ informationIn e
-  -- size and resize answer the loan's length, and resize is 13 exactly when the pages that it lacks aren't unheld
+  -- size and resize answer the loan's length, and resize is 13 exactly when the pages that it lacks aren't unheld; by halves,
+  -- when the rounded size doesn't stay
   pub size : (a k : ℕ) → Lent (e .loans) a k → answer i s (SegmentSize id a) .value ≡ k * unit e
   pub resize : (a k size : ℕ) → Lent (e .loans) a k → 0 < size
       → (answer i s (ResizeSegment id a size) .value ≡ k * unit e)

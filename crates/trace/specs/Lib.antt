@@ -1,6 +1,8 @@
 pub mod Loans
 pub mod Reading
 pub mod Pages
+pub mod Halves
+pub mod Kinds
 pub mod Receipts
 pub mod Queue
 pub mod Replies

@@ -32,6 +32,11 @@ unfoldable pub Lent : List Loan → ℕ → ℕ → Type 0
 Lent [] p k = ⊥
 Lent (loan a n ∷ l) p k = ((a ≡ p) × (n ≡ k)) ⊎ Lent l p k
 
+-- the pages of the loan at p; 0 where there is none
+unfoldable pub pagesAt : ℕ → List Loan → ℕ
+pagesAt p [] = 0
+pagesAt p (loan a k ∷ l) = cond (eqb a p) k (pagesAt p l)
+
 -- loans at addresses, each with the number of its page for its address: pages of `page` bytes are counted from address 0 on
 unfoldable pub inPages : ℕ → List Loan → List Loan
 inPages page [] = []
@@ -43,6 +48,11 @@ inPages page (loan a k ∷ l) = loan (a / page) k ∷ inPages page l
 unfoldable pub Held : List Loan → ℕ → Type 0
 Held [] q = ⊥
 Held (loan a n ∷ l) q = ((a ≤ q) × (q < a + n)) ⊎ Held l q
+
+-- the loans lie in order between page `at` and page n, each of a page or more, and none starts before the one before it has ended
+unfoldable pub Ordered : ℕ → ℕ → List Loan → Type 0
+Ordered n at [] = at ≤ n
+Ordered n at (loan a k ∷ l) = (at ≤ a) × (0 < k) × Ordered n (a + k) l
 
 -- the pages of each loan
 unfoldable pub loanPages : List Loan → List ℕ

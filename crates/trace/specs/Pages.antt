@@ -5,10 +5,9 @@ use mathlib.Core.List.{List, [], _∷_}
 use Prim.Native.Nat.{ℕ, zero, suc, _+_, _-_, _≤_, _<_}
 use lib.Dec.{leb, eqb}
 use Rattle.manager.specs.Map.{Segment, free, held}
-use Rattle.manager.specs.declared.Order.{Order}
 use Rattle.manager.specs.declared.Place.{Place}
 use Rattle.manager.specs.declared.Place.the-variants.{At, Nowhere}
-use Rattle.trace.specs.Loans.{Loan, loan, Held, Span, behind, Run}
+use Rattle.trace.specs.Loans.{Loan, loan, Held, Ordered, Span, behind, Run}
 use Rattle.trace.specs.Reading.{Reading}
 
 -- the pages of each unbroken run of unheld pages, from page `at` to page n, taken whole; a gap of no page is no run
@@ -30,11 +29,6 @@ run+ (suc g) s = free (suc g) ∷ s
 unfoldable pub drawn : ℕ → ℕ → List Loan → List Segment
 drawn n at [] = run+ (n - at) []
 drawn n at (loan a k ∷ l) = run+ (a - at) (held k ∷ drawn n (a + k) l)
-
--- the loans lie in order between page `at` and page n, each of a page or more, and none starts before the one before it has ended
-unfoldable pub Ordered : ℕ → ℕ → List Loan → Type 0
-Ordered n at [] = at ≤ n
-Ordered n at (loan a k ∷ l) = (at ≤ a) × (0 < k) × Ordered n (a + k) l
 
 -- the lowest run of k pages
 pub record Lowest (a : Span) (l : List Loan) (k p : ℕ) : Type 0 where
@@ -67,7 +61,7 @@ pages =
     record {
       rounded = λ k. k;
       place = λ a l k. lowestRun (behind a) k (a .first) l;
-      most = λ a l p. mostPagesAt (behind a) p l;
+      canHave = λ a l p k. leb k (mostPagesAt (behind a) p l);
       drawn = λ a l. drawn (behind a) (a .first) l;
       runs = λ a l. runs (behind a) (a .first) l;
       Fits = λ a l. Ordered (behind a) (a .first) l;
@@ -75,7 +69,3 @@ pages =
       Chosen = Lowest;
       Room = Room;
     }
-
--- the kind of a region, by its order: every region is of pages
-unfoldable pub readingOf : Order → Reading
-readingOf o = pages

@@ -1,18 +1,25 @@
 -- What the receipts say of a kind of region. A kind has its own rule for where a get is placed, how large a loan can become and how the map
 -- is drawn; the answers, the grants and the claims are stated over these, once for every kind. Assumes nothing.
-use mathlib.Core.List.{List}
-use Prim.Native.Nat.{ℕ}
-use Rattle.manager.specs.Map.{Segment}
+use mathlib.Core.Bool.{Bool}
+use mathlib.Core.List.{List, [], _∷_}
+use Prim.Native.Nat.{ℕ, _+_}
+use Rattle.manager.specs.Map.{Segment, free, held}
 use Rattle.manager.specs.declared.Place.{Place}
-use Rattle.trace.specs.Loans.{Loan, Span, Run}
+use Rattle.trace.specs.Loans.{Loan, loan, Span, Run}
+
+-- the loans that the held segments of a map are, where the map starts at page `at`
+unfoldable pub loansOf : ℕ → List Segment → List Loan
+loansOf at [] = []
+loansOf at (free n ∷ s) = loansOf (at + n) s
+loansOf at (held n ∷ s) = loan at n ∷ loansOf (at + n) s
 
 -- of a region of the pages a with the loans l, by their pages
 pub record Reading : Type 1 where
   -- COMPUTED: the pages that are given for so many asked for
   pub rounded : ℕ → ℕ
-  -- where a get of k pages is placed (a, l, k), and the most pages that the loan at page p can have (a, l, p)
+  -- where a get of k pages is placed (a, l, k), and whether the loan at page p can have k pages (a, l, p, k)
   pub place : Span → List Loan → ℕ → Place
-  pub most : Span → List Loan → ℕ → ℕ
+  pub canHave : Span → List Loan → ℕ → ℕ → Bool
   -- the drawn map, and the pages of each free segment of it
   pub drawn : Span → List Loan → List Segment
   pub runs : Span → List Loan → List ℕ

@@ -10,6 +10,7 @@ use Rattle.arith.specs.Layout.{layoutOf}
 use Rattle.arith.specs.declared.Layout.{Layout}
 use Rattle.manager.specs.Status.{numberOf}
 use Rattle.manager.specs.Record.{slotOf}
+use Rattle.manager.specs.Region.{kindOf}
 use Rattle.manager.specs.Result.{Result}
 use Rattle.manager.specs.declared.Notice.{Notice}
 use Rattle.manager.specs.declared.Information.{Information}
@@ -17,7 +18,7 @@ use Rattle.manager.specs.declared.Order.{Order}
 use Rattle.manager.specs.declared.Status.{Status}
 use Rattle.trace.specs.Loans.{Loan, Span, enter, amend, inPages}
 use Rattle.trace.specs.Reading.{Reading}
-use Rattle.trace.specs.Pages.{readingOf}
+use Rattle.trace.specs.Kinds.{readingOf}
 
 -- an object under its id: what was asked for, and its loans, each at the address that was answered, in the order of the addresses
 pub record RegionEntry : Type 0 where
@@ -65,7 +66,7 @@ abbrev pub unit : RegionEntry → ℕ
 unit e = roundUp (e .page) 8
 
 abbrev pub layoutIn : RegionEntry → Layout
-layoutIn e = layoutOf (e .start) (e .bytes) (unit e)
+layoutIn e = layoutOf (kindOf (e .order) .allowed) (e .start) (e .bytes) (unit e)
 
 abbrev pub pagesIn : RegionEntry → ℕ
 pagesIn e = layoutIn e .pages

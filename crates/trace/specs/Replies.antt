@@ -11,7 +11,8 @@ use Rattle.arith.specs.Layout.{pageCount}
 use Rattle.manager.specs.Record.{slots, tasks, generations, idOf, noInformation}
 use Rattle.manager.specs.Lists as lists
 use Rattle.manager.specs.Result.{Check, check}
-use Rattle.manager.specs.Paged.{onPlace}
+use Rattle.manager.specs.Kind.{onPlace}
+use Rattle.manager.specs.Region.{kindOf}
 use Rattle.manager.specs.declared.Notice.{Notice}
 use Rattle.manager.specs.declared.Information.{Information}
 use Rattle.manager.specs.declared.Call.{Call}
@@ -21,12 +22,12 @@ use Rattle.manager.specs.declared.Wait as asking
 use Rattle.manager.specs.declared.Wait.the-variants.{No, Yes}
 use Rattle.manager.specs.declared.Status.{Status}
 use Rattle.manager.specs.declared.Status.the-variants.{Successful, InvalidName, InvalidId, TooMany, InvalidSize, InvalidAddress, InvalidNumber, ResourceInUse, Unsatisfied, IncorrectState, InvalidPriority, Waiting}
-use Rattle.trace.specs.Loans.{Loan, loan, loanPages, most, sum, enter, amend}
+use Rattle.trace.specs.Loans.{Loan, pagesAt, loanPages, most, sum, enter, amend}
 use Rattle.trace.specs.Receipts.{Receipts, RegionEntry, Wait, Reply, unit, reading, pagesOver, servableIn, spanIn, addressIn, pageIn, byPage, pageLoans}
 use Rattle.trace.specs.Receipts.{onRegion, onPartition, lend, giveBack, refit, update, deleted, withRegions, withPartitions, withRegionDeletes, withPartitionDeletes, withBuffers, strike, buffersFrom, withWaits, allLater, allNoticed, isSuccess, isWaiting}
 use Rattle.trace.specs.Queue.{queueOf, inLine, dueIn}
 
--- INFORMATION BY THE RECEIPTS: count, largest and total bytes over the runs of unheld pages, then over the loans
+-- INFORMATION BY THE RECEIPTS: count, largest and total bytes over the free segments of the drawn map, then over the loans
 abbrev pub informationIn : RegionEntry → Information
 informationIn e =
     let frees = reading e .runs (spanIn e) (pageLoans e) in
@@ -134,17 +135,12 @@ abbrev pub lendsAny : List Loan → Bool
 lendsAny [] = false
 lendsAny (x ∷ l) = true
 
--- the pages of the loan at an address; 0 where there is none
-unfoldable pub pagesAt : ℕ → List Loan → ℕ
-pagesAt a [] = 0
-pagesAt a (loan b k ∷ l) = cond (eqb b a) k (pagesAt a l)
-
--- where a get of so many bytes is placed, with the loans l at addresses; and the most pages that the loan at an address can have
+-- where a get of so many bytes is placed, with the loans l at addresses; and whether the loan at an address can have so many
 abbrev pub placeIn : RegionEntry → List Loan → ℕ → Place
 placeIn e l size = reading e .place (spanIn e) (byPage e l) (pagesOver e size)
 
-abbrev pub mostIn : RegionEntry → ℕ → ℕ
-mostIn e a = reading e .most (spanIn e) (pageLoans e) (pageIn e a)
+abbrev pub canHaveIn : RegionEntry → ℕ → ℕ → Bool
+canHaveIn e a size = reading e .canHave (spanIn e) (pageLoans e) (pageIn e a) (pagesOver e size)
 
 -- GRANTS: to the first waits in order, each where a get of its size is placed at that moment, up to the first wait that has no place
 abbrev pub grantTo : Wait → ℕ → Notice
@@ -230,7 +226,7 @@ byReceipts n t (CreateRegion name start bytes page order) =
     ∷ check (ltb (4 * n) (start + bytes)) InvalidAddress
     ∷ check (eqb page 0) InvalidSize
     ∷ check (ltb 4096 page) InvalidSize
-    ∷ check (eqb (pageCount start bytes (roundUp page 8)) 0) InvalidSize
+    ∷ check (eqb (pageCount (kindOf order .allowed) start bytes (roundUp page 8)) 0) InvalidSize
     ∷ check (asked t start bytes) InvalidAddress
     ∷ check (leb slots (newRegionSlot t)) TooMany
     ∷ [])
@@ -262,7 +258,7 @@ byReceipts n t (ResizeSegment id a size) =
     decided (check (eqb size 0) InvalidSize ∷ [])
     (living (t .regions id) (λ e.
     decided (check (eqb (pagesAt a (e .loans)) 0) InvalidAddress ∷ [])
-    (resizes (leb (pagesOver e size) (mostIn e a)) (pagesAt a (e .loans) * unit e)
+    (resizes (canHaveIn e a size) (pagesAt a (e .loans) * unit e)
     (grantsIn e (amend a (pagesOver e size) (e .loans)) (queueOf id e t)))))
 -- information: 4
 byReceipts n t (RegionInformation id) = living (t .regions id) (λ e. informs (informationIn e))

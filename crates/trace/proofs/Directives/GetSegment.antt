@@ -14,7 +14,7 @@ use Rattle.manager.specs.Result.{Result, done, replied, check}
 use Rattle.manager.specs.Lists.{every, In}
 use Rattle.manager.specs.Region.{pagesOf, addressOf, pagesAsked, placed, taken, servable}
 use Rattle.manager.specs.Queue.{enqueue, waiting}
-use Rattle.manager.specs.Paged.{onPlace}
+use Rattle.manager.specs.Kind.{onPlace}
 use Rattle.manager.specs.Regions.{waitChecks, unplaced, getSegment}
 use Rattle.manager.specs.declared.Manager.{Manager}
 use Rattle.manager.specs.declared.Region.{Region}

@@ -1,16 +1,16 @@
--- A resize: the loan has the new size where the pages that it lacks are unheld, and then the region's queue is served; else 13. The value
+-- A resize: the loan has the new size where it can have it, and then the region's queue is served; else 13. The value
 -- is the old length. Assumes nothing.
 use mathlib.Core.Path.{_≡_, refl, sym, subst, ap, _∙_}
 use mathlib.Core.Bool.{Bool, false, cond}
 use mathlib.Core.List.{List, [], _∷_}
 use mathlib.Core.Option.{some}
 use Prim.Native.Nat.{ℕ, _*_}
-use lib.Dec.{eqb, leb}
+use lib.Dec.{eqb}
 use lib.ListN.{length}
 use Rattle.manager.specs.Record.{regionOf}
 use Rattle.manager.specs.Result.{Result, replied, check}
 use Rattle.manager.specs.Lists.{every}
-use Rattle.manager.specs.Region.{heldAt, roomAt, changed, pagesAsked}
+use Rattle.manager.specs.Region.{heldAt, canHave, changed, pagesAsked}
 use Rattle.manager.specs.Serve.{serve, fromServed}
 use Rattle.manager.specs.Regions.{resizeSegment}
 use Rattle.manager.specs.declared.Manager.{Manager}
@@ -19,14 +19,14 @@ use Rattle.manager.specs.declared.Notice.{Notice}
 use Rattle.manager.specs.declared.Call.{Call}
 use Rattle.manager.specs.declared.Call.the-variants.{ResizeSegment}
 use Rattle.manager.specs.declared.Status.the-variants.{Unsatisfied, InvalidAddress}
+use Rattle.manager.proofs.Laws.Appended.{by-case}
 use Rattle.manager.proofs.Laws.Result.{Passed}
-use Rattle.trace.specs.Loans.{Lent, amend}
+use Rattle.trace.specs.Loans.{Lent, amend, pagesAt}
 use Rattle.trace.specs.Receipts.{Receipts, RegionEntry, refit, pagesOver, replyOf, unit}
 use Rattle.trace.specs.Queue.{queueOf}
-use Rattle.trace.specs.Replies.{grantsIn, mostIn, pagesAt, tells, resizes, byReceipts}
+use Rattle.trace.specs.Replies.{grantsIn, canHaveIn, tells, resizes, byReceipts}
 use Rattle.trace.proofs.Invariant.{regionFor, RegionIs, Inv}
 use Rattle.trace.proofs.Map.{shows, lent-held, none-at}
-use Rattle.trace.proofs.Loans.Tests.{by-leb}
 use Rattle.trace.proofs.Regions.Checks.{Kept, kept-refused, kept-checked, Right}
 use Rattle.trace.proofs.Regions.Live.{slot-entry}
 use Rattle.trace.proofs.Regions.Picture.{on-region}
@@ -40,7 +40,7 @@ resized m d id a r k b =
     cond b (fromServed (heldAt m r a * r .page) (serve (changed m r a k) d id)) (replied m d Unsatisfied (heldAt m r a * r .page))
 
 abbrev resizing : List ℕ → Manager → ℕ → ℕ → Region → ℕ → Result
-resizing m d id a r k = resized m d id a r k (leb k (roomAt m r a))
+resizing m d id a r k = resized m d id a r k (canHave m r a k)
 
 module _ (m : List ℕ) (d : Manager) (t : Receipts) (v : Inv m d t) (id a size : ℕ) where
   abbrev asks : Call
@@ -50,17 +50,17 @@ module _ (m : List ℕ) (d : Manager) (t : Receipts) (v : Inv m d t) (id a size 
     -- what it keeps
     act-kept : Kept asks m t (resizing m d id a (regionFor e) (pagesOver e size))
     act-kept =
-        rw (shows m e is .room a)
-        (by-leb (pagesOver e size) (mostIn e a) (λ (b : Bool). Kept asks m t (resized m d id a (regionFor e) (pagesOver e size) b))
+        rw (shows m e is .can-have a size)
+        (by-case (canHaveIn e a size) (λ (b : Bool). Kept asks m t (resized m d id a (regionFor e) (pagesOver e size) b))
         (λ h. kept-served m d t v id e q _ _ (shows m e is .resized a j size x h) asks _ (on-region id e t (refit a size) q))
         (λ h. kept-refused asks m d t v Unsatisfied _ refl))
 
     -- what it is answered
     act-replies : replyOf (resizing m d id a (regionFor e) (pagesOver e size))
-        ≡ resizes (leb (pagesOver e size) (mostIn e a)) (pagesAt a (e .loans) * unit e) (grantsIn e (amend a (pagesOver e size) (e .loans)) (queueOf id e t))
+        ≡ resizes (canHaveIn e a size) (pagesAt a (e .loans) * unit e) (grantsIn e (amend a (pagesOver e size) (e .loans)) (queueOf id e t))
     act-replies =
-        rw (shows m e is .room a, ← (shows m e is .held a))
-        (by-leb (pagesOver e size) (mostIn e a)
+        rw (shows m e is .can-have a size, ← (shows m e is .held a))
+        (by-case (canHaveIn e a size)
         (λ (b : Bool). replyOf (resized m d id a (regionFor e) (pagesOver e size) b)
         ≡ resizes b (heldAt m (regionFor e) a * unit e) (grantsIn e (amend a (pagesOver e size) (e .loans)) (queueOf id e t)))
         (λ h. ap (λ (ns : List Notice). tells (heldAt m (regionFor e) a * unit e) ns) (step-served m d t v id e q _ _ (shows m e is .resized a j size x h) .grants))

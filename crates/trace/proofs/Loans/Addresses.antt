@@ -1,16 +1,16 @@
 -- Loans at addresses and loans by their pages: where each loan is at the address of a page, the two lists say the same. Entering and
 -- amending a loan at the address of page p is entering and amending it at page p, since addresses of pages are in the order of the pages.
 -- Assumes nothing.
-use mathlib.Core.Path.{_≡_, refl, sym, ap}
+use mathlib.Core.Path.{_≡_, refl, sym, ap, _∙_}
 use mathlib.Core.Bool.{cond}
 use mathlib.Core.List.{List, [], _∷_}
 use mathlib.Core.Logic.{inl, inr}
-use Prim.Native.Nat.{ℕ, zero, suc, _*_, _<_}
-use native.Mathlib.Nat.{mul-div-left, mul-le-mul-right, mul-lt-mul-of-pos-right, eq-of-mul-eq-mul-right}
+use Prim.Native.Nat.{ℕ, zero, suc, _*_, _%_, _<_}
+use native.Mathlib.Nat.{mul-div-left, mul-mod-left, mul-le-mul-right, mul-lt-mul-of-pos-right, eq-of-mul-eq-mul-right}
 use native.Mathlib.Omega.{arith}
 use lib.Dec.{eqb, leb}
 use borrow.Author.Tests.{eq-eqb, ne-eqb, le-leb, lt-leb}
-use Rattle.trace.specs.Loans.{Loan, loan, loan+, enter, amend, Lent, inPages, loanPages}
+use Rattle.trace.specs.Loans.{Loan, loan, loan+, enter, amend, Lent, inPages, pagesAt, loanPages}
 use Rattle.trace.proofs.Loans.Tests.{by-leb, by-eqb}
 
 -- loans by their pages, each at its page's address
@@ -19,13 +19,7 @@ atPages page [] = []
 atPages page (loan p k ∷ l) = loan (p * page) k ∷ atPages page l
 
 module _ (page : ℕ) where
-  -- a loan by its page is one at that page's address, and back
-  pub lent-address : (l : List Loan) (p k : ℕ) → Lent l p k → Lent (atPages page l) (p * page) k
-  unfolding Lent atPages
-  lent-address [] p k x = x
-  lent-address (loan q j ∷ l) p k (inl x) = inl (ap (λ (i : ℕ). i * page) (x .0), x .1)
-  lent-address (loan q j ∷ l) p k (inr x) = inr (lent-address l p k x)
-
+  -- a loan at an address is one at the page whose address that is
   pub address-lent : (l : List Loan) (a k : ℕ) → Lent (atPages page l) a k → (p : ℕ) × (a ≡ p * page) × Lent l p k
   unfolding Lent atPages
   address-lent [] a k x = absurd x
@@ -42,6 +36,13 @@ module _ (page : ℕ) where
   unfolding atPages
   address-none [] e = refl
   address-none (loan q j ∷ l) e = let z : _≡_ {A = ℕ} 0 1 = cc in absurd (omega arith)
+
+  -- at an address that is none of a page there is no loan
+  pub no-address : (a : ℕ) (l : List Loan) → ¬ (a % page ≡ 0) → pagesAt a (atPages page l) ≡ 0
+  unfolding pagesAt atPages
+  no-address a [] h = refl
+  no-address a (loan q k ∷ l) h =
+      rw (ne-eqb (q * page) a (λ e. h (ap (λ (x : ℕ). x % page) (sym e) ∙ mul-mod-left q page))) (no-address a l h)
 
   -- where there is a page size
   module _ (h : 0 < page) where
@@ -63,6 +64,12 @@ module _ (page : ℕ) where
         by-eqb p q (λ b. eqb (p * page) (q * page) ≡ b)
         (λ e. eq-eqb (p * page) (q * page) (ap (λ (i : ℕ). i * page) e))
         (λ n. ne-eqb (p * page) (q * page) (λ e. n (eq-of-mul-eq-mul-right page h p q e)))
+
+    -- the pages of the loan at an address
+    pub pages-address : (p : ℕ) (l : List Loan) → pagesAt (p * page) (atPages page l) ≡ pagesAt p l
+    unfolding pagesAt atPages
+    pages-address p [] = refl
+    pages-address p (loan q k ∷ l) = rw (address-eq q p, pages-address p l)
 
     -- A LOAN ENTERED
     pub enter-address : (p k : ℕ) (l : List Loan) → enter (p * page) k (atPages page l) ≡ atPages page (enter p k l)

@@ -1,29 +1,23 @@
--- What is found at a page of a drawn map, and what a return or a resize leaves, are read off the loans. Each function is first taken
+-- What a loan of a drawn map can have, and what a return or a resize leaves, are read off the loans. Each function is first taken
 -- past the free pages in front of a loan, and then by induction over the loans. Assumes nothing.
 use mathlib.Core.Path.{_≡_, refl, ap, _∙_}
 use mathlib.Core.Bool.{Bool, cond}
 use mathlib.Core.List.{List, [], _∷_}
 use mathlib.Core.Logic.{inl, inr, _↔_}
-use Prim.Native.Nat.{ℕ, zero, suc, _+_, _-_, _≤_, _<_}
+use Prim.Native.Nat.{ℕ, zero, suc, _+_, _-_, _≤_}
 use native.Mathlib.Omega.{arith}
 use native.Mathlib.Nat.{add-zero}
 use lib.Dec.{eqb}
 use borrow.Author.Tests.{eq-eqb, ne-eqb}
 use Rattle.manager.specs.Map.{held}
-use Rattle.manager.specs.Paged.{free+, held+, lead, rest, heldFrom, reachFrom, changeFrom}
+use Rattle.manager.specs.Paged.{free+, held+, lead, rest, reachFrom, changeFrom}
 use Rattle.manager.proofs.Laws.Paged.{free-join}
-use Rattle.trace.specs.Loans.{Loan, loan, loan+, amend, Lent, Held, Span, behind}
-use Rattle.trace.specs.Pages.{drawn, Ordered, Room, upTo, mostPagesAt}
-use Rattle.trace.proofs.Loans.Tests.{by-leb, by-eqb}
+use Rattle.trace.specs.Loans.{Loan, loan, loan+, amend, Lent, Held, Ordered, Span, behind}
+use Rattle.trace.specs.Pages.{drawn, Room, upTo, mostPagesAt}
+use Rattle.trace.proofs.Loans.Tests.{by-leb}
 use Rattle.trace.proofs.Loans.Drawn.{onward, drawn-next, lead-onward, rest-onward, ordered-next, ordered-end, ordered-from, held-after, next-held, lent-after}
 
 -- ---- past the free pages in front
-
-held-gap : (n p at g : ℕ) (l : List Loan) → heldFrom p at (free+ g (onward n l)) ≡ heldFrom p (at + g) (onward n l)
-unfolding free+ heldFrom
-held-gap n p at zero l = rw add-zero
-held-gap n p at (suc g) [] = refl
-held-gap n p at (suc g) (loan a m ∷ l) = refl
 
 pub reach-gap : (n p at g : ℕ) (l : List Loan) → reachFrom p at (free+ g (onward n l)) ≡ reachFrom p (at + g) (onward n l)
 unfolding free+ reachFrom
@@ -48,10 +42,6 @@ module _ (n p at a m : ℕ) (l : List Loan) (o : Ordered n at (loan a m ∷ l)) 
   unfolding Ordered
   there = omega arith
 
-  held-first : heldFrom p at (drawn n at (loan a m ∷ l)) ≡ cond (eqb a p) m (heldFrom p (a + m) (drawn n (a + m) l))
-  unfolding heldFrom
-  held-first = rw (drawn-next n at (loan a m ∷ l), held-gap n p at (a - at) (loan a m ∷ l), there)
-
   pub reach-first : reachFrom p at (drawn n at (loan a m ∷ l)) ≡ cond (eqb a p) (mostAt n a m l) (reachFrom p (a + m) (drawn n (a + m) l))
   unfolding reachFrom
   reach-first =
@@ -70,27 +60,6 @@ module _ (n p at a m : ℕ) (l : List Loan) (o : Ordered n at (loan a m ∷ l)) 
   lent-behind : (k : ℕ) → Lent l p k → ¬ (a ≡ p)
   unfolding Ordered
   lent-behind k x e = omega (arith, o .1, ordered-next n (a + m) l (o .2), lent-after n (a + m) l p k (o .2) x)
-
--- ---- the pages found at a page
-
--- THOSE OF THE LOAN THERE
-pub held-lent : (n at : ℕ) (l : List Loan) (p k : ℕ) → Ordered n at l → Lent l p k → heldFrom p at (drawn n at l) ≡ k
-unfolding Ordered Lent
-held-lent n at [] p k o x = absurd x
-held-lent n at (loan a m ∷ l) p k o (inl x) = held-first n p at a m l o ∙ rw (eq-eqb a p (x .0)) (x .1)
-held-lent n at (loan a m ∷ l) p k o (inr x) =
-    held-first n p at a m l o ∙ rw (ne-eqb a p (lent-behind n p at a m l o k x)) (held-lent n (a + m) l p k (o .2) x)
-
--- pages found are a loan's
-pub held-some : (n at : ℕ) (l : List Loan) (p : ℕ) → Ordered n at l → 0 < heldFrom p at (drawn n at l) → Lent l p (heldFrom p at (drawn n at l))
-unfolding Ordered Lent heldFrom
-held-some n at [] p o x = let e : heldFrom p at (drawn n at []) ≡ 0 = ap (heldFrom p at) (drawn-next n at []) ∙ held-gap n p at (n - at) [] in absurd (omega arith)
-held-some n at (loan a m ∷ l) p o x =
-    rw (held-first n p at a m l o)
-    (by-eqb a p (λ (t : Bool). 0 < cond t m (heldFrom p (a + m) (drawn n (a + m) l)) → Lent (loan a m ∷ l) p (cond t m (heldFrom p (a + m) (drawn n (a + m) l))))
-    (λ e y. inl (e, refl))
-    (λ e y. inr (held-some n (a + m) l p (o .2) y))
-    (rw (held-first n p at a m l o) at x))
 
 -- ---- the most that a loan can have
 
@@ -186,8 +155,3 @@ changed n at (loan a j ∷ l) p m k o (inr x) h =
       change-first n p at a j l o k ∙ rw (ne-eqb a p ne, is, ih .0, drawn-next n at (loan a j ∷ amend p k l)),
       rw is (o .0, o .1, ih .1),
     )
-
--- a return needs no room
-pub returned : (n at : ℕ) (l : List Loan) (p m : ℕ) → Ordered n at l → Lent l p m
-    → (changeFrom p 0 at (drawn n at l) ≡ drawn n at (amend p 0 l)) × Ordered n at (amend p 0 l)
-returned n at l p m o x = changed n at l p m 0 o x (omega arith)

@@ -7,8 +7,8 @@ use Prim.Native.Nat.{ℕ, zero, suc, _+_, _-_, _≤_, _<_}
 use native.Mathlib.Omega.{arith}
 use Rattle.manager.specs.Map.{Segment, held}
 use Rattle.manager.specs.Paged.{free+, lead, rest}
-use Rattle.trace.specs.Loans.{Loan, loan, Lent, Held}
-use Rattle.trace.specs.Pages.{run+, drawn, Ordered, upTo}
+use Rattle.trace.specs.Loans.{Loan, loan, Lent, Held, Ordered}
+use Rattle.trace.specs.Pages.{run+, drawn, upTo}
 
 -- the map from where the first loan starts on
 abbrev pub onward : ℕ → List Loan → List Segment
@@ -106,3 +106,11 @@ no-overlap n at (loan c j ∷ l) o a k b m (inl x) (inr y) =
 no-overlap n at (loan c j ∷ l) o a k b m (inr x) (inl y) =
     inr (inr (omega (arith, ordered-next n (c + j) l (o .2), lent-after n (c + j) l a k (o .2) x)))
 no-overlap n at (loan c j ∷ l) o a k b m (inr x) (inr y) = no-overlap n (c + j) l (o .2) a k b m x y
+
+-- there is one loan at a page at most
+pub lent-one : (n at : ℕ) (l : List Loan) → Ordered n at l → (p k m : ℕ) → Lent l p k → Lent l p m → k ≡ m
+lent-one n at l o p k m x y =
+    elim (no-overlap n at l o p k p m x y) [
+      | inl e ↦ e .1
+      | inr e ↦ elim e [ inl h ↦ absurd (omega (arith, lent-some n at l p k o x)) | inr h ↦ absurd (omega (arith, lent-some n at l p m o y)) ]
+    ]

@@ -14,8 +14,8 @@ use Rattle.manager.specs.Paged.{free+, placeFrom}
 use Rattle.manager.proofs.Laws.Paged.{firstFit}
 use Rattle.manager.specs.declared.Place.{Place}
 use Rattle.manager.specs.declared.Place.the-variants.{At, Nowhere}
-use Rattle.trace.specs.Loans.{Loan, loan, enter, Held, Span, behind, Run}
-use Rattle.trace.specs.Pages.{drawn, Ordered, lowestRun, upTo}
+use Rattle.trace.specs.Loans.{Loan, loan, enter, Held, Ordered, Span, behind, Run}
+use Rattle.trace.specs.Pages.{drawn, lowestRun, upTo}
 use Rattle.trace.proofs.Loans.Tests.{by-leb}
 use Rattle.trace.proofs.Loans.Drawn.{onward, drawn-next, ordered-end, ordered-from, held-after}
 

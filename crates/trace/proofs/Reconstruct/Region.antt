@@ -1,7 +1,7 @@
 -- The entry of a region, read off a sound record: its numbers are the record's, and its loans are the held segments of its map, at their
 -- addresses. Assumes nothing.
 use mathlib.Core.Path.{_≡_, refl, sym, ap, _∙_, subst}
-use mathlib.Core.Bool.{Bool, true, false, cond, _&&_}
+use mathlib.Core.Bool.{Bool, true, false, cond, _&&_, true≢false}
 use mathlib.Core.List.{List}
 use mathlib.Core.Option.{Option, none, some}
 use Prim.Native.Nat.{ℕ, _%_, _≤_}
@@ -14,17 +14,18 @@ use Rattle.manager.specs.Map.{soundMap, draw}
 use Rattle.manager.proofs.Laws.Map.{redraw, sound-tiled}
 use Rattle.manager.proofs.Laws.Sound.{live-of, empty-of}
 use Rattle.manager.specs.Record.{emptiedRegion}
-use Rattle.manager.specs.Region.{dead, kind, pagesOf, firstPageOf, mapWords, segments}
+use Rattle.manager.specs.Region.{dead, kindOf, kind, pagesOf, firstPageOf, mapWords, segments}
 use Rattle.manager.specs.Sound.{inside, soundPage, isFifo, emptyRegion, liveRegion, soundRegion}
 use Rattle.manager.specs.declared.Region.{Region}
 use Rattle.manager.specs.declared.Order.{Order}
-use Rattle.manager.specs.declared.Order.the-variants.{Fifo, Priority}
+use Rattle.manager.specs.declared.Order.the-variants.{Fifo, Priority, HalvesFifo, HalvesPriority}
 use Rattle.trace.specs.Loans.{Loan}
+use Rattle.trace.specs.Reading.{loansOf}
 use Rattle.trace.specs.Receipts.{RegionEntry, unit, spanIn, byPage, pageLoans, reading}
 use Rattle.trace.proofs.Invariant.{regionAs, regionFor, atAddresses, RegionIs, RegionSlot, empty, live}
-use Rattle.trace.proofs.Frame.{map-fits, map-length, inside-parts}
+use Rattle.trace.proofs.Frame.{map-fits, pages-allowed, map-length, inside-parts}
 use Rattle.trace.proofs.Loans.Addresses.{atPages, pages-back}
-use Rattle.trace.proofs.Loans.Words.{loansOf}
+use Rattle.trace.proofs.Loans.Lawful.{sound-loans}
 use Rattle.trace.proofs.Segments.{law}
 
 -- the clauses of a live region
@@ -78,7 +79,9 @@ no-region r n e =
   where
     fifo : (o : Order) → isFifo o ≡ true → o ≡ Fifo
     fifo Fifo e = refl
-    fifo Priority e = absurd (let z : _≡_ {A = ℕ} 0 1 = cc in omega arith)
+    fifo Priority e = absurd (true≢false (sym e))
+    fifo HalvesFifo e = absurd (true≢false (sym e))
+    fifo HalvesPriority e = absurd (true≢false (sym e))
 
 -- a page size that is a multiple of 8 stays as it is
 pub unit-same : (m : List ℕ) (r : Region) → r .page % 8 ≡ 0 → unit (entryOf m r) ≡ r .page
@@ -94,8 +97,8 @@ pub is-region : (m : List ℕ) (g : ℕ) (e : RegionEntry) → ¬ (e .name ≡ 0
     → e .loans ≡ atAddresses e (loansOf (firstPageOf (regionFor e)) (segments m (regionFor e))) → RegionIs m e
 is-region m g e n q l h s =
     let ws = mapWords m (regionFor e) in
-    let f = map-fits (e .start) (e .bytes) (unit e) (length m) (omega (arith, q .least)) (q .some-page) (inside-parts m (e .start) (e .bytes) (q .inside) .upto) in
-    let x = law e .loans (spanIn e) ws (q .map) (map-length m (regionFor e) f) in
+    let f = map-fits (kindOf (e .order) .allowed) (e .start) (e .bytes) (unit e) (length m) (omega (arith, q .least)) (q .some-page) (inside-parts m (e .start) (e .bytes) (q .inside) .upto) in
+    let x = sound-loans (law e) (spanIn e) ws (pages-allowed e (q .some-page)) (q .map) (map-length m (regionFor e) f) in
     let l′ = loansOf (firstPageOf (regionFor e)) (segments m (regionFor e)) in
     let s′ : pageLoans e ≡ l′ = ap (byPage e) s ∙ pages-back (unit e) (omega (arith, q .least)) l′ in
     record {

@@ -3,7 +3,7 @@ use mathlib.Core.Path.{_≡_, refl, sym, ap, _∙_, subst}
 use mathlib.Core.Bool.{Bool, true, false, cond, not, _&&_, true≢false}
 use mathlib.Core.List.{List, [], _∷_, _++_}
 use mathlib.Core.Logic.{_⊎_, inl, inr, ⊎-elim}
-use Prim.Native.Nat.{ℕ, suc, _+_, _-_, _≤_}
+use Prim.Native.Nat.{ℕ, suc, _-_, _≤_}
 use native.Mathlib.Nat.{eq-zero-or-pos, sub-zero}
 use native.Mathlib.Omega.{arith}
 use lib.ListN.{length, replicate}
@@ -13,10 +13,9 @@ use Rattle.arith.specs.Round.{pagesFor}
 use Rattle.arith.specs.Layout.{pageCount}
 use Rattle.manager.specs.Lists.{every, any as someOf, pairwise, adjacent, In, Distinct}
 use Rattle.manager.proofs.Laws.Lists.{and-first, and-second}
-use Rattle.manager.specs.Map.{Segment, free, held, isHeldSegment}
+use Rattle.manager.specs.Map.{Segment, isHeldSegment}
 use Rattle.manager.specs.Record.{tasks, noWaiter, slotOf, regionOf}
-use Rattle.manager.specs.Paged.{kindOf}
-use Rattle.manager.specs.Region.{firstPageOf, dead, pagesOf, pagesAsked, servable, anyHeld, segments}
+use Rattle.manager.specs.Region.{kindOf, kind, firstPageOf, dead, pagesOf, pagesAsked, servable, anyHeld, segments}
 use Rattle.manager.specs.Queue.{goesBefore}
 use Rattle.manager.specs.Sound.{unused, soundWaiter, soundPlace, otherTask, inOrder, soundRegion}
 use Rattle.manager.proofs.Laws.Sound.{live-of}
@@ -25,12 +24,13 @@ use Rattle.manager.proofs.Laws.Distinct.{either}
 use Rattle.manager.specs.declared.Manager.{Manager}
 use Rattle.manager.specs.declared.Region.{Region}
 use Rattle.manager.specs.declared.Waiter.{Waiter}
+use Rattle.trace.specs.Reading.{loansOf}
 use Rattle.trace.specs.Receipts.{Receipts, Wait, unit, pagesIn}
-use Rattle.trace.specs.Replies.{regionNow}
+use Rattle.trace.specs.Replies.{lendsAny, regionNow}
 use Rattle.trace.specs.Claims.{waiterOf, waitersOf}
 use Rattle.trace.proofs.Invariant.{WaitIs, tasksOf}
 use Rattle.trace.proofs.Loans.Addresses.{address-none}
-use Rattle.trace.proofs.Loans.Words.{loansOf}
+use Rattle.trace.proofs.Loans.Says.{any-says}
 use Rattle.trace.proofs.Loans.Lawful.{found}
 use Rattle.trace.proofs.Reconstruct.Region.{entryOf, slotEntry, unit-same, region-parts}
 use Rattle.trace.proofs.Segments.{law}
@@ -116,10 +116,7 @@ module _ (m : List ℕ) (d : Manager) where
 
 -- a map with something held has a loan
 pub some-loan : (at : ℕ) (s : List Segment) → someOf isHeldSegment s ≡ true → ¬ (loansOf at s ≡ [])
-unfolding someOf loansOf
-some-loan at [] e f = true≢false (sym e)
-some-loan at (free n ∷ s) e f = some-loan (at + n) s e f
-some-loan at (held n ∷ s) e f = let z : _≡_ {A = ℕ} 0 1 = cc in omega arith
+some-loan at s e n = true≢false (sym e ∙ any-says at s ∙ ap lendsAny n)
 
 -- the clauses of a used place
 pub record WaiterParts (m : List ℕ) (r : Region) (w : Waiter) : Type 0 where
@@ -175,7 +172,7 @@ module _ (m : List ℕ) (d : Manager) (t : Receipts) (entries : (id : ℕ) → t
         task-most = p .task-most;
         size-some = p .size-some;
         size-most = subst (λ (x : ℕ). x ≤ pagesIn (entryOf m r)) (law (entryOf m r) .rounded (pagesFor (w .size) (unit (entryOf m r))))
-            (subst (λ (x : ℕ). kindOf (r .order) .rounded (pagesFor (w .size) x) ≤ pageCount (r .start) (r .length) x) (sym u) (p .size-most));
+            (subst (λ (x : ℕ). kindOf (r .order) .rounded (pagesFor (w .size) x) ≤ pageCount (kind r .allowed) (r .start) (r .length) x) (sym u) (p .size-most));
         priority-some = p .priority-some;
         priority-most = p .priority-most;
         time = eq-zero-or-pos (w .ticks);

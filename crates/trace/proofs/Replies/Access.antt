@@ -18,7 +18,8 @@ use Rattle.manager.specs.declared.Manager.{Manager}
 use Rattle.manager.specs.declared.Region.{Region}
 use Rattle.manager.specs.declared.Status.the-variants.{InvalidSize, InvalidAddress}
 use Rattle.trace.specs.Receipts.{Receipts, RegionEntry, replyOf, unit}
-use Rattle.trace.specs.Replies.{pagesAt, lentWords, writeByReceipts, readByReceipts}
+use Rattle.trace.specs.Loans.{pagesAt}
+use Rattle.trace.specs.Replies.{lentWords, writeByReceipts, readByReceipts}
 use Rattle.trace.proofs.Invariant.{RegionSlot, empty, live, Inv}
 use Rattle.trace.proofs.Regions.Live.{not-dead}
 use Rattle.trace.proofs.Regions.Queue.{sound-inv}

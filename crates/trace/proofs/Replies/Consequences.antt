@@ -1,17 +1,18 @@
 -- What the replies by the receipts come to, in the words of demand 3. Laws over the receipts alone: a live region's loans are regular, and
 -- nothing is known of a memory or of a record. So of any implementation that answers as the receipts say, each field of the claims about
 -- an answer follows. Assumes nothing.
-use mathlib.Core.Path.{_≡_, refl}
-use mathlib.Core.Bool.{Bool}
+use mathlib.Core.Path.{_≡_, refl, sym, _∙_}
+use mathlib.Core.Bool.{Bool, true≢false}
 use mathlib.Core.List.{List, [], _∷_}
 use mathlib.Core.Logic.{_⊎_, inl, inr, _↔_}
 use mathlib.Core.Option.{some}
 use Prim.Native.Nat.{ℕ, _+_, _*_, _<_}
 use native.Mathlib.Omega.{arith}
 use lib.ListN.{length}
-use lib.Dec.{leb}
 use borrow.Author.Tests.{ne-eqb, le-leb}
-use Rattle.manager.specs.Paged.{onPlace}
+use Rattle.arith.specs.Round.{pagesFor}
+use Rattle.manager.proofs.Laws.Appended.{by-case}
+use Rattle.manager.specs.Kind.{onPlace}
 use Rattle.manager.specs.declared.Call.the-variants.{GetSegment, ReturnSegment, SegmentSize, ResizeSegment, RegionInformation, GetBuffer}
 use Rattle.manager.specs.declared.Place.{Place}
 use Rattle.manager.specs.declared.Wait.the-variants.{No}
@@ -20,11 +21,10 @@ use Rattle.manager.specs.Lists.{In}
 use Rattle.trace.specs.Loans.{Loan, Lent, amend}
 use Rattle.trace.specs.Receipts.{Receipts, RegionEntry, PartitionEntry, Wait, Reply, unit, pagesIn, spanIn, addressIn, pageIn, pageLoans, buffersIn, pagesOver, Servable, reading}
 use Rattle.trace.specs.Queue.{queueOf}
-use Rattle.trace.specs.Replies.{no, yes, tells, informs, resizes, decided, grantsIn, informationIn, front, byReceipts, placeIn, mostIn}
+use Rattle.trace.specs.Replies.{no, yes, tells, informs, resizes, decided, grantsIn, informationIn, front, byReceipts, placeIn, canHaveIn}
 use Rattle.trace.specs.Claims.{Grants, Full, Takes}
 use Rattle.trace.proofs.Segments.{law, Regular, Places, takes, full, places, lent-some, pages-lent, room-lent, regular-returned, regular-resized}
 use Rattle.trace.proofs.Grants.{grants-are}
-use Rattle.trace.proofs.Loans.Tests.{by-leb}
 
 -- ---- the answers about a region
 
@@ -48,7 +48,7 @@ module _ (n : ℕ) (t : Receipts) (id : ℕ) (e : RegionEntry) (q : t .regions i
         go : {p : Place} → Places e size p → (by-place p .status ≡ Unsatisfied) ↔ Full e (e .loans) size
         go (takes i c o) = (
           λ (x : Successful ≡ Unsatisfied). let y : _≡_ {A = ℕ} 0 1 = cc in absurd (omega arith),
-          λ f. absurd (f i (law e .chosen-serves c)),
+          λ f. absurd (f i (law e .chosen-serves (g .fits) (pagesFor size (unit e)) i c)),
         )
         go (full f) = (λ x. f, λ x. refl)
 
@@ -93,7 +93,7 @@ module _ (n : ℕ) (t : Receipts) (id : ℕ) (e : RegionEntry) (q : t .regions i
       abbrev by-room : Bool → Reply
       by-room b = resizes b (k * unit e) (grantsIn e refitted (queueOf id e t))
 
-      resize-is : byReceipts n t (ResizeSegment id a size) ≡ by-room (leb (pagesOver e size) (mostIn e a))
+      resize-is : byReceipts n t (ResizeSegment id a size) ≡ by-room (canHaveIn e a size)
       unfolding byReceipts decided
       resize-is = rw (ne-eqb size 0 (λ (y : size ≡ 0). omega arith), q, pages-lent e g a k x, ne-eqb k 0 some-pages)
 
@@ -101,7 +101,7 @@ module _ (n : ℕ) (t : Receipts) (id : ℕ) (e : RegionEntry) (q : t .regions i
           × ((byReceipts n t (ResizeSegment id a size) .status ≡ Unsatisfied) ↔ (¬ reading e .Room (spanIn e) (pageLoans e) (pageIn e a) k (pagesOver e size)))
       resize-by =
           rw resize-is
-          (by-leb (pagesOver e size) (mostIn e a)
+          (by-case (canHaveIn e a size)
           (λ (b : Bool). (by-room b .value ≡ k * unit e)
           × ((by-room b .status ≡ Unsatisfied) ↔ (¬ reading e .Room (spanIn e) (pageLoans e) (pageIn e a) k (pagesOver e size))))
           (λ h. (
@@ -111,14 +111,14 @@ module _ (n : ℕ) (t : Receipts) (id : ℕ) (e : RegionEntry) (q : t .regions i
               λ f. absurd (f (room-lent e g a k size x .0 h)),
             ),
           ))
-          (λ h. (refl, (λ y r. omega (arith, room-lent e g a k size x .1 r), λ f. refl))))
+          (λ h. (refl, (λ y r. true≢false (sym (room-lent e g a k size x .1 r) ∙ h), λ f. refl))))
 
       pub resize-serves-by : ((w : Wait) → In w (queueOf id e t) → 0 < w .size)
           → ((byReceipts n t (ResizeSegment id a size) .status ≡ Unsatisfied) × (byReceipts n t (ResizeSegment id a size) .notices ≡ []))
           ⊎ ((byReceipts n t (ResizeSegment id a size) .status ≡ Successful) × Grants e refitted (queueOf id e t) (byReceipts n t (ResizeSegment id a size) .notices))
       resize-serves-by asks =
           rw resize-is
-          (by-leb (pagesOver e size) (mostIn e a)
+          (by-case (canHaveIn e a size)
           (λ (b : Bool). ((by-room b .status ≡ Unsatisfied) × (by-room b .notices ≡ []))
           ⊎ ((by-room b .status ≡ Successful) × Grants e refitted (queueOf id e t) (by-room b .notices)))
           (λ h. inr (refl, grants-are e refitted (queueOf id e t) (regular-resized e g a k size x h) asks))
