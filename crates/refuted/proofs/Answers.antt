@@ -12,10 +12,11 @@ use Rattle.arith.specs.Layout.{mostPages}
 use Rattle.manager.specs.Record.{noWaiter, slotOf, regionOf, partitionOf, withRegion, withPartition}
 use Rattle.manager.specs.Result.{refused, done}
 use Rattle.manager.specs.Map.{Segment, freeSizes, sumOf, total}
-use Rattle.manager.specs.Paged.{placeFrom, allocate, paged}
+use Rattle.manager.specs.Kind.{allocate}
+use Rattle.manager.specs.Paged.{placeFrom, paged}
 use Rattle.manager.specs.Region.{firstPageOf, addressOf, pageAt, mapAt, segments, withSegments, heldAt, pagesOf, pagesAsked, placed, taken}
 use Rattle.manager.specs.Queue.{enqueue, dequeue}
-use Rattle.manager.specs.Paged.{onPlace}
+use Rattle.manager.specs.Kind.{onPlace}
 use Rattle.manager.specs.Partition.{setBefore, link}
 use Rattle.manager.specs.Regions.{informed}
 use Rattle.manager.specs.Access.{readSegment, writeSegment}

@@ -6,3 +6,4 @@ pub mod Effects
 pub mod Contents
 pub mod Ids
 pub mod Serving
+pub mod Halves
