@@ -1,6 +1,6 @@
 /* What a firmware does with the library: a region with tasks that wait, whom a resize, a tick and a
- * return serve or whose time runs out, a partition, taking both down again, and an old id that
- * opens nothing. */
+ * return serve or whose time runs out, a partition, a region by halves, taking them down again, and
+ * an old id that opens nothing. */
 #include <stdio.h>
 
 #include "steepleclay.h"
@@ -83,6 +83,37 @@ static void buffers(uint32_t partition)
     say("delete the partition", scm_partition_delete(&manager, partition));
 }
 
+static void get_by_halves(const char *what, uint32_t region, uint32_t size)
+{
+    say(what, scm_region_get_segment(&manager, region, size, SC_NO_WAIT, 0, 0, 0));
+}
+
+/* A region by halves, of 16 pages from 4224 on. Its blocks join when they have come back, and only
+ * the last of them makes room for task 3. */
+static void halves(void)
+{
+    uint32_t region;
+
+    say("create region by halves",
+        scm_region_create(&manager, 3, 4100, 1148, 64, SC_FIFO_HALVES));
+    region = answer(SC_ANSWER_VALUE);
+    get_by_halves("get 1 page", region, 64);
+    get_by_halves("get 3 pages", region, 192);
+    get_by_halves("get 2 pages", region, 128);
+    say("the size of the second", scm_region_get_segment_size(&manager, region, 4480));
+    say_information(region);
+    say("resize it to 200 bytes", scm_region_resize_segment(&manager, region, 4480, 200));
+    say("resize it to 128 bytes", scm_region_resize_segment(&manager, region, 4480, 128));
+    say("task 3 waits for 1024 bytes",
+        scm_region_get_segment(&manager, region, 1024, SC_WAIT, 3, 1, 0));
+    say("return the first", scm_region_return_segment(&manager, region, 4224));
+    say("return the second", scm_region_return_segment(&manager, region, 4480));
+    say_information(region);
+    say("return the third", scm_region_return_segment(&manager, region, 4352));
+    say("return task 3's", scm_region_return_segment(&manager, region, 4224));
+    say("delete the region by halves", scm_region_delete(&manager, region));
+}
+
 int main(void)
 {
     uint32_t region;
@@ -95,8 +126,10 @@ int main(void)
     segments(region);
     say("ident partition 7", scm_partition_ident(&manager, 7));
     buffers(answer(SC_ANSWER_VALUE));
+    halves();
 
     say("get with no choice", scm_region_get_segment(&manager, region, 64, 2, 0, 0, 0));
+    say("create with no choice", scm_region_create(&manager, 3, 4100, 1148, 64, 4));
     memory[1] = 0xffffffffu; /* the region's map, damaged */
     say("get with a damaged map", scm_region_get_segment(&manager, region, 64, SC_NO_WAIT, 0, 0, 0));
     memory[1] = 30;

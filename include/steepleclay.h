@@ -31,7 +31,7 @@
  * SC_WAITING no word of record and memory is changed, and the answer is all zeros (but see
  * scm_region_resize_segment). Any function that returns a status may return SC_INTERNAL_ERROR: the
  * record and memory are damaged or have the wrong lengths, the answer is too short, or an argument
- * is no choice. With words that can be no record (another length, or a queue's order above 1), a
+ * is no choice. With words that can be no record (another length, or a region's order above 3), a
  * short answer or no choice, the answer too is left as it was.
  */
 #ifndef STEEPLECLAY_H
@@ -57,12 +57,14 @@ extern "C" {
  * count), then SC_TASKS waiters (task, region's id, size, priority, ticks left), all zeros where
  * unused, but for the generation that an emptied slot keeps. (1 had no generations.) The number
  * goes up when a word changes its place or its meaning. Whoever keeps a record longer than a run of
- * the program keeps this number beside it, and hands the record to no library with another.
+ * the program keeps this number beside it, and hands the record to no library with another. (The
+ * orders 2 and 3 came later: a library that lacks them refuses a record that has them, with
+ * SC_INTERNAL_ERROR.)
  */
 #define STEEPLECLAY_RECORD_VERSION 2
 
 /*
- * The stack that a call needs: 12 KB were measured, rounded up here. tests/stack/run measures it:
+ * The stack that a call needs: 13 KB were measured, rounded up here. tests/stack/run measures it:
  * each function is called on a stack filled with a pattern, with fresh, full and damaged records,
  * and the deepest word that was written counts.
  */
@@ -99,10 +101,12 @@ extern "C" {
 #define SC_INTERNAL_ERROR 25u   /* RTEMS_INTERNAL_ERROR: see above */
 #define SC_WAITING 255u         /* no refusal: the task waits, and hears by a later notice */
 
-/* Choices: the order of a region's queue, and whether a get may wait. Any other number is answered
- * SC_INTERNAL_ERROR. */
-#define SC_FIFO 0u
-#define SC_PRIORITY 1u
+/* Choices: how a region is cut and the order of its queue, and whether a get may wait. Any other
+ * number is answered SC_INTERNAL_ERROR. */
+#define SC_FIFO 0u            /* by pages; the queue by arrival .. */
+#define SC_PRIORITY 1u        /* .. or by priority, 1 first, equal ones by arrival */
+#define SC_FIFO_HALVES 2u     /* by halves; the queue by arrival .. */
+#define SC_PRIORITY_HALVES 3u /* .. or by priority */
 #define SC_NO_WAIT 0u
 #define SC_WAIT 1u
 
@@ -150,11 +154,18 @@ typedef struct sc_manager {
     (m)->record, SC_RECORD_WORDS, (m)->memory, (m)->memory_words, (m)->answer, SC_ANSWER_WORDS
 
 /*
- * Regions: segments of whole pages, of any size, lowest fitting address first.
+ * Regions: segments of whole pages. By pages (SC_FIFO, SC_PRIORITY) a segment has any number of
+ * them, at the lowest fitting address. By halves (SC_FIFO_HALVES, SC_PRIORITY_HALVES) the region
+ * has as many pages as the largest power of two that fits, and its segments are blocks: each the
+ * half of a block, or all of the region. A size is rounded up to a power of two pages. The smallest
+ * free block that is large enough serves, the lowest of equal ones, and is halved until it has that
+ * size, the low half going on. A block that is returned joins its other half for as long as that is
+ * free.
  */
 
 /* Makes a region of `length` bytes from `start` on, with pages of `page` bytes (1 to 4096, rounded
- * up to a multiple of 8) and a wait queue in `order`. A part of the area is its map. Value: the id.
+ * up to a multiple of 8), cut and with a wait queue as `order` says. A part of the area is its map.
+ * Value: the id.
  * Statuses: SC_SUCCESSFUL, SC_INVALID_NAME, SC_TOO_MANY, SC_INVALID_SIZE, SC_INVALID_ADDRESS. */
 static inline uint32_t scm_region_create(sc_manager *m, uint32_t name, uint32_t start,
                                          uint32_t length, uint32_t page, uint32_t order)
@@ -203,8 +214,8 @@ static inline uint32_t scm_region_get_segment_size(sc_manager *m, uint32_t id, u
 }
 
 /* Shrinks or grows a held segment in place and then serves the queue, also where the segment keeps
- * its pages: notices say who holds what now. With SC_UNSATISFIED nobody is served. Value: the old
- * length, with SC_UNSATISFIED too.
+ * its pages: notices say who holds what now. By halves a segment must keep its pages, the new size
+ * rounded up. With SC_UNSATISFIED nobody is served. Value: the old length, with SC_UNSATISFIED too.
  * Statuses: SC_SUCCESSFUL, SC_INVALID_ID, SC_INVALID_SIZE, SC_INVALID_ADDRESS, SC_UNSATISFIED. */
 static inline uint32_t scm_region_resize_segment(sc_manager *m, uint32_t id, uint32_t address,
                                                  uint32_t size)

@@ -2,9 +2,10 @@
  * filled with a pattern; what lies from the stack's top down to the deepest word that lost the
  * pattern was used, by the call and by the few words of this program that make it. The records are
  * fresh, full with 16 waiters whom one return or resize serves, full with 16 of whom one tick sends
- * some away and serves the others, nearly full, and damaged. The functions come from the header
- * (calls.h, which `run` makes of it): a parameter is given the variable of its name. Prints the
- * most that each function used; fails where one needs more than SC_STACK_BYTES. */
+ * some away and serves the others, nearly full, and damaged; the region that the calls name is by
+ * pages and by halves. The functions come from the header (calls.h, which `run` makes of it): a
+ * parameter is given the variable of its name. Prints the most that each function used; fails where
+ * one needs more than SC_STACK_BYTES. */
 #define _XOPEN_SOURCE 600
 #include <stdio.h>
 #include <string.h>
@@ -24,13 +25,15 @@ static uint32_t held, buffer; /* the held segment of region 1, the held buffer o
 
 /* The arguments, each under the name that the header gives it. */
 static uint32_t name, id, address, size, wait;
-static const uint32_t start = 60004, length = 1020, page = 8, order = SC_PRIORITY;
+static uint32_t order;
+static const uint32_t start = 60004, length = 1020, page = 8;
 static const uint32_t task = 16, priority = 9, ticks = 9, first = 0;
 static uint32_t words[4];
 static const size_t words_count = 4;
 
-#define KINDS 6     /* of records */
+#define KINDS 7     /* of records */
 #define ARGUMENTS 3 /* and of arguments */
+#define ORDERS 4    /* and of region 1 */
 
 /* 0: a new object, and an object of which nothing is held; 1: a name that is there, a get that may
  * wait, what is held of region 1; 2: what is held of partition 1. */
@@ -58,34 +61,72 @@ static const struct {
 #undef CALL
 };
 
-/* Full tables, but for `room` slots of each kind: region 1 all held by one segment, a held buffer of
- * partition 1, and `waiters` tasks that wait for a page of region 1. */
-static void fill(uint32_t waiters, uint32_t room)
+/* A segment of region 1 of so many bytes: its address. */
+static uint32_t get(uint32_t bytes)
+{
+    scm_region_get_segment(&desk, 1, bytes, SC_NO_WAIT, 0, 0, 0);
+    return desk.answer[SC_ANSWER_VALUE];
+}
+
+/* Full tables, but for `room` slots of each kind, nothing of region 1 held, and a held buffer of
+ * partition 1. Gives the bytes of region 1. */
+static uint32_t tables(uint32_t room)
 {
     memset(memory, 0, sizeof memory);
     memset(desk.record, 0, sizeof desk.record);
     for (uint32_t i = 0; i < SC_SLOTS - room; i++) {
-        scm_region_create(&desk, i + 1, 4096 * i + 4, 2044, 8, i % 2);
+        scm_region_create(&desk, i + 1, 4096 * i + 4, 2044, 8, (i + order) % ORDERS);
         scm_partition_create(&desk, i + 1, 4096 * i + 2048, 2048, 8);
     }
-    scm_region_get_information(&desk, 1);
-    scm_region_get_segment(&desk, 1, desk.answer[SC_ANSWER_FREE_TOTAL], SC_NO_WAIT, 0, 0, 0);
-    held = desk.answer[SC_ANSWER_VALUE];
     scm_partition_get_buffer(&desk, 1);
     buffer = desk.answer[SC_ANSWER_VALUE];
+    scm_region_get_information(&desk, 1);
+    return desk.answer[SC_ANSWER_FREE_TOTAL];
+}
+
+/* The tasks from 1 on wait for a page of region 1. */
+static void queue(uint32_t waiters)
+{
     for (uint32_t i = 1; i <= waiters; i++)
         scm_region_get_segment(&desk, 1, 8, SC_WAIT, i, i, 1);
 }
 
+/* Region 1 all held by one segment, and `waiters` tasks that wait for a page of it. */
+static void fill(uint32_t waiters, uint32_t room)
+{
+    held = get(tables(room));
+    queue(waiters);
+}
+
 /* The same with 16 waiters of whom one tick sends 4 away and serves 12: those 4 are the first, wait
- * one tick and want a page more than the 12 that are free then; the others want a page each. */
+ * one tick and want all of the region, of which a half is free then; the others want a page
+ * each. */
 static void fill_for_tick(void)
 {
-    fill(0, 0);
+    const uint32_t bytes = tables(0);
+    uint32_t other;
+
+    held = get(bytes / 2);
+    other = get(bytes / 2);
     for (uint32_t i = 1; i <= SC_TASKS; i++)
-        scm_region_get_segment(&desk, 1, i <= 4 ? 13 * 8 : 8, SC_WAIT, i, i, i <= 4 ? 1 : 9);
-    scm_region_get_segment_size(&desk, 1, held);
-    scm_region_resize_segment(&desk, 1, held, desk.answer[SC_ANSWER_VALUE] - 12 * 8);
+        scm_region_get_segment(&desk, 1, i <= 4 ? bytes : 8, SC_WAIT, i, i, i <= 4 ? 1 : 9);
+    scm_region_return_segment(&desk, 1, other);
+}
+
+/* Two held pages of region 1 and 16 waiters beside room, as no call leaves them: a resize that
+ * keeps the pages serves them all, and by halves a return joins as often as it can. The other pages
+ * are held at first, by one segment or by blocks, each as long as all that is in front of it. */
+static void fill_beside_room(void)
+{
+    const uint32_t pages = tables(0) / 8;
+    const uint32_t by_halves = order >= SC_FIFO_HALVES;
+
+    held = get(2 * 8);
+    for (uint32_t p = 2; p < pages; p = by_halves ? 2 * p : pages)
+        get(8 * (by_halves ? p : pages - p));
+    queue(SC_TASKS);
+    for (uint32_t p = 2; p < pages; p = by_halves ? 2 * p : pages)
+        memory[1 + p] -= 1; /* region 1's map: no more held */
 }
 
 /* The bytes of stack that a call uses, this program's own part included. */
@@ -111,9 +152,10 @@ static uint32_t most_of(void (*make)(void))
 {
     uint32_t most = 0;
 
-    for (uint32_t turn = 0; turn < KINDS * ARGUMENTS; turn++) {
+    for (uint32_t turn = 0; turn < KINDS * ARGUMENTS * ORDERS; turn++) {
         const uint32_t kind = turn % KINDS;
         uint32_t used;
+        order = turn / KINDS / ARGUMENTS;
         fill(kind == 1 ? 15 : 16, kind == 2); /* 1: a place for one waiter more; 2: empty slots */
         if (kind == 3)
             memory[1] = 0xffffffffu; /* region 1's map */
@@ -121,7 +163,9 @@ static uint32_t most_of(void (*make)(void))
             memset(desk.record, 0, sizeof desk.record);
         if (kind == 5)
             fill_for_tick();
-        choose(turn / KINDS);
+        if (kind == 6)
+            fill_beside_room();
+        choose(turn / KINDS % ARGUMENTS);
         used = used_by(make);
         most = used > most ? used : most;
     }

@@ -1,10 +1,11 @@
-//! Cases that a comparison has to reach, of ids, generations, page counts and
-//! serving, and how to tell that a call is one.
+//! Cases that a comparison has to reach, of ids, generations, page counts,
+//! serving and regions by halves, and how to tell that a call is one.
 
+use crate::halves::{rounded, Blocks, Halves};
 use directives::words::*;
 use directives::Directive::*;
 use directives::{Answer, Call, Directive, SCRIPT};
-use model::Model;
+use model::{Kind, Model};
 use std::cmp::Ordering;
 use std::fmt;
 use Case::*;
@@ -20,7 +21,16 @@ pub enum Pages {
 impl Pages {
     pub const ALL: [Pages; 3] = [Pages::Fewer, Pages::Same, Pages::More];
 
-    fn title(self) -> &'static str {
+    /// By the pages that are asked for, and those that there are.
+    pub fn of(asked: u32, held: u32) -> Pages {
+        match asked.cmp(&held) {
+            Ordering::Less => Pages::Fewer,
+            Ordering::Equal => Pages::Same,
+            Ordering::Greater => Pages::More,
+        }
+    }
+
+    pub fn title(self) -> &'static str {
         match self {
             Pages::Fewer => "fewer pages",
             Pages::Same => "as many pages",
@@ -76,6 +86,10 @@ pub enum Case {
     TickQuiet,
     /// .. and there is room for the first of a region.
     TickQuietBesideRoom,
+    /// A call names a region of a kind, or would make one, and has a status.
+    Answered(Kind, Directive, u32),
+    /// Of regions by halves.
+    ByHalves(Halves),
 }
 
 impl Case {
@@ -97,7 +111,9 @@ impl Case {
             ResizeRefusedBesideRoom,
             TickServesOther,
             TickQuietBesideRoom,
+            ByHalves(Halves::ResizeServes),
         ]);
+        cases.extend([Kind::Pages, Kind::Halves].map(|kind| Answered(kind, Read, 0)));
         cases
     }
 
@@ -117,8 +133,25 @@ impl Case {
             TickBlocked,
             TickQuiet,
         ]);
+        cases.extend(Halves::OF_SCRIPTS.map(ByHalves));
+        for kind in [Kind::Pages, Kind::Halves] {
+            cases.extend(answered(kind, directives));
+        }
         cases
     }
+}
+
+/// Every status of the calls that name a region of a kind or would make one. An
+/// id that is refused names none.
+fn answered(kind: Kind, directives: &[Directive]) -> Vec<Case> {
+    let mut directives = directives.to_vec();
+    directives.retain(|of| (*of == CreateRegion || of.has_id()) && !of.is_of_partitions());
+    let of_region = |directive: Directive| {
+        let statuses = directive.statuses().iter().copied();
+        let of_region = statuses.filter(|status| *status != status::INVALID_ID);
+        of_region.map(move |status| Answered(kind, directive, status))
+    };
+    directives.into_iter().flat_map(of_region).collect()
 }
 
 impl fmt::Display for Case {
@@ -147,11 +180,22 @@ impl fmt::Display for Case {
             TickBlocked => write!(out, "tick: time-outs, and nobody of the others fits"),
             TickQuiet => write!(out, "tick: no time-out, and tasks wait"),
             TickQuietBesideRoom => write!(out, "tick: no time-out, and a first one fits"),
+            Answered(kind, of, status) => {
+                write!(out, "{}, {}: status {status}", by(*kind), of.name())
+            }
+            ByHalves(case) => write!(out, "{}, {case}", by(Kind::Halves)),
         }
     }
 }
 
-/// The ids and the queues before a call.
+fn by(kind: Kind) -> &'static str {
+    match kind {
+        Kind::Pages => "by pages",
+        Kind::Halves => "by halves",
+    }
+}
+
+/// The ids, the queues and the region that a call names, before it.
 pub struct Before {
     regions: Vec<(u32, bool)>,
     partitions: Vec<(u32, bool)>,
@@ -159,22 +203,35 @@ pub struct Before {
     waiting: Vec<(u32, u32)>,
     /// The regions with room for the first in their queue.
     to_serve: Vec<u32>,
+    /// The kind of the region that the call names or would make ..
+    kind: Option<Kind>,
+    /// .. and its blocks, if it names one by halves.
+    blocks: Option<Blocks>,
 }
 
 impl Before {
-    pub fn new(model: &Model) -> Before {
+    pub fn new(model: &Model, call: &Call) -> Before {
+        let directive = call.directive();
+        let of_region = directive.has_id() && !directive.is_of_partitions();
+        let id = of_region.then(|| call.arguments()[0]);
+        let kind = match call {
+            Call::CreateRegion { order, .. } if !call.has_wrong_choice() => Some(Kind::of(*order)),
+            _ => id.and_then(|id| model.kind(id)),
+        };
         Before {
             regions: model.region_slots(),
             partitions: model.partition_slots(),
             waiting: model.waiting(),
             to_serve: model.regions_to_serve(),
+            kind,
+            blocks: id.and_then(|id| Blocks::new(model, id)),
         }
     }
 
     /// The cases that a call is, by its answer and the state after it.
     pub fn cases(&self, call: &Call, answer: &Answer, after: &Model) -> Vec<Case> {
         let directive = call.directive();
-        let cases = match directive {
+        let mut cases = match directive {
             CreateRegion => {
                 let mut cases = self.of_create(directive, answer);
                 cases.extend(of_pages(call, answer, after));
@@ -191,6 +248,11 @@ impl Before {
             _ if directive.has_id() => self.of_id(directive, call.arguments()[0], answer),
             _ => vec![],
         };
+        cases.extend(self.of_kind(directive, answer));
+        if let Some(blocks) = &self.blocks {
+            let halves = blocks.cases(call, answer, after).into_iter();
+            cases.extend(halves.map(|(is, case)| (is, ByHalves(case))));
+        }
         let is = cases.into_iter().filter(|(is, _)| *is);
         is.map(|(_, case)| case).collect()
     }
@@ -201,6 +263,14 @@ impl Before {
         } else {
             &self.regions
         }
+    }
+
+    fn of_kind(&self, directive: Directive, answer: &Answer) -> Option<(bool, Case)> {
+        // A refused read has no words. Status 25 says nothing of the region.
+        let is_read = directive != Read || !answer.words.is_empty();
+        let is_answered = is_read && !answer.is_internal_error();
+        let kind = self.kind?;
+        Some((is_answered, Answered(kind, directive, answer.status)))
     }
 
     fn of_create(&self, create: Directive, answer: &Answer) -> Vec<(bool, Case)> {
@@ -242,12 +312,12 @@ impl Before {
         let Some((page, _)) = after.pages(id).filter(|_| waiting.any(|(_, of)| *of == id)) else {
             return vec![];
         };
-        // The value is the old length.
-        let pages = match size.div_ceil(page).cmp(&(answer.value / page)) {
-            Ordering::Less => Pages::Fewer,
-            Ordering::Equal => Pages::Same,
-            Ordering::Greater => Pages::More,
+        let pages = match self.kind {
+            Some(Kind::Halves) => rounded(size.div_ceil(page)),
+            _ => size.div_ceil(page),
         };
+        // The value is the old length.
+        let pages = Pages::of(pages, answer.value / page);
         let is_done = answer.status == status::SUCCESSFUL;
         let is_refused = answer.status == status::UNSATISFIED;
         let served = answer.notices.len();
@@ -269,7 +339,12 @@ impl Before {
         let others_wait = !after.waiting().is_empty();
         let is_quiet = away.is_empty();
         let is_served = !served.is_empty();
+        let is_by_halves = |id: &u32| after.kind(*id) == Some(Kind::Halves);
         vec![
+            (
+                served.iter().any(is_by_halves),
+                ByHalves(Halves::TickServes),
+            ),
             (is_by_slots(&away), SlotsBeforeIds),
             (is_by_slots(&served), GrantsBySlots),
             (!is_quiet && is_served, TickServes),
@@ -301,29 +376,44 @@ fn is_by_slots(ids: &[u32]) -> bool {
         .any(|two| slot_of(two[0]) < slot_of(two[1]) && two[0] > two[1])
 }
 
-/// How a new region's page count stands to the division.
+/// How a new region's page count stands to the division, or by halves to that
+/// by pages.
 fn of_pages(create: &Call, answer: &Answer, after: &Model) -> Vec<(bool, Case)> {
-    let length = create.arguments()[2];
-    let region = after.pages(answer.value);
+    let (id, length) = (answer.value, create.arguments()[2]);
+    let region = after.pages(id);
     let Some((page, pages)) = region.filter(|_| answer.status == status::SUCCESSFUL) else {
         return vec![];
     };
-    let most = length / (page + 4);
-    vec![(pages == most, AllPages), (pages + 1 == most, OneLess)]
+    if after.kind(id) == Some(Kind::Pages) {
+        let most = length / (page + 4);
+        return vec![(pages == most, AllPages), (pages + 1 == most, OneLess)];
+    }
+    let halves = Blocks::new(after, id).map(|blocks| blocks.of_create());
+    let halves = halves.into_iter().flatten();
+    halves.map(|(is, case)| (is, ByHalves(case))).collect()
 }
 
 #[cfg(test)]
-mod tests {
+pub mod tests {
     use super::*;
 
     /// The cases of some calls in turn.
-    fn cases(model: &mut Model, calls: &[(Directive, &[u32])]) -> Vec<Vec<Case>> {
+    pub fn all_cases(model: &mut Model, calls: &[(Directive, &[u32])]) -> Vec<Vec<Case>> {
         let mut all = Vec::new();
         for (directive, arguments) in calls {
             let call = directive.call(arguments);
-            let before = Before::new(model);
+            let before = Before::new(model, &call);
             let answer = model.call(&call);
             all.push(before.cases(&call, &answer, model));
+        }
+        all
+    }
+
+    /// The same without those of a status.
+    fn cases(model: &mut Model, calls: &[(Directive, &[u32])]) -> Vec<Vec<Case>> {
+        let mut all = all_cases(model, calls);
+        for cases in &mut all {
+            cases.retain(|case| !matches!(case, Answered(..)));
         }
         all
     }
@@ -487,5 +577,41 @@ mod tests {
         ];
         let expected = [vec![], vec![], vec![TickServes, TickServesOther]];
         assert_eq!(cases(&mut model, &calls), expected);
+    }
+
+    #[test]
+    fn cases_of_a_kind() {
+        let calls: [(_, &[u32]); 9] = [
+            (CreateRegion, &[1, 4, 1_020, 64, 3]),
+            (CreateRegion, &[1, 4, 1_020, 64, 2]),
+            (CreateRegion, &[1, 4, 1_020, 64, 1]),
+            (CreateRegion, &[1, 4, 1_020, 64, 4]),
+            (Get, &[1, 512, 0, 0, 0, 0]),
+            (Get, &[2, 512, 0, 0, 0, 0]),
+            (Read, &[1, 64]),
+            (Read, &[1, 65]),
+            (Tick, &[]),
+        ];
+        let mut found = all_cases(&mut Model::fresh(), &calls);
+        for cases in &mut found {
+            cases.retain(|case| matches!(case, Answered(..)));
+        }
+        let expected = [
+            vec![Answered(Kind::Halves, CreateRegion, 0)],
+            vec![Answered(Kind::Halves, CreateRegion, 9)],
+            vec![Answered(Kind::Pages, CreateRegion, 9)],
+            vec![],
+            vec![Answered(Kind::Halves, Get, 0)],
+            vec![],
+            vec![Answered(Kind::Halves, Read, 0)],
+            vec![],
+            vec![],
+        ];
+        assert_eq!(found, expected);
+        let asked = Case::of_library();
+        assert!(asked.contains(&Answered(Kind::Halves, Get, 255)));
+        assert!(asked.contains(&Answered(Kind::Pages, Write, 8)));
+        assert!(!asked.contains(&Answered(Kind::Halves, Get, 4)));
+        assert!(!asked.contains(&Answered(Kind::Halves, GetBuffer, 0)));
     }
 }

@@ -5,6 +5,7 @@
 //! is never read from the model here.
 
 pub mod cases;
+pub mod halves;
 mod random;
 
 use directives::words::{generation_of, GENERATIONS, ID_STEP, SLOTS, TASKS};
@@ -27,6 +28,8 @@ pub struct Style {
     pub odd: u32,
     /// How many of a hundred choices are none.
     pub odd_choices: u32,
+    /// How many of a hundred new regions are by halves.
+    pub halves: u32,
     /// How many of a hundred gets may wait.
     pub waits: u32,
     /// How many of a hundred gets ask for few pages.
@@ -42,6 +45,7 @@ impl Default for Style {
         Style {
             odd: 5,
             odd_choices: 0,
+            halves: 50,
             waits: 40,
             small_gets: 40,
             longest: 6_000,
@@ -98,7 +102,7 @@ impl Author<'_> {
             ["name", "start", "length", "page", "order"] => {
                 let (start, length) = self.area(1);
                 let page = self.unit(1, length);
-                vec![self.name(), start, length, page, self.choice(50)]
+                vec![self.name(), start, length, page, self.order()]
             }
             ["name", "start", "length", "size"] => {
                 let (start, length) = self.area(4);
@@ -141,13 +145,21 @@ impl Author<'_> {
         }
     }
 
-    /// 1 in so many of a hundred cases, 0 in the others; a wrong choice where
-    /// the style allows one.
-    pub fn choice(&mut self, percent: u32) -> u32 {
+    /// An order; a wrong one where the style allows it.
+    pub fn order(&mut self) -> u32 {
+        if self.random.chance(self.style.odd_choices) {
+            return self.random.pick(&[4, 5, 256, 1 << 31, u32::MAX]);
+        }
+        let halves = u32::from(self.random.chance(self.style.halves));
+        2 * halves + self.random.between(0, 1)
+    }
+
+    /// Whether a get may wait; a wrong choice where the style allows one.
+    fn wait(&mut self) -> u32 {
         if self.random.chance(self.style.odd_choices) {
             return self.random.pick(&[2, 3, 256, 1 << 31, u32::MAX]);
         }
-        u32::from(self.random.chance(percent))
+        u32::from(self.random.chance(self.style.waits))
     }
 
     /// One of some ids, if there is any, or an odd one, of the kind with these
@@ -351,16 +363,17 @@ impl Author<'_> {
             return wanted * page - self.random.pick(&[0, 0, 1, page - 1]);
         }
         let free = self.model.segments_held(id, false);
-        match (self.random.below(4), self.random.pick_any(&free)) {
+        match (self.random.below(5), self.random.pick_any(&free)) {
             (0, Some(segment)) => (segment.length + self.random.between(0, 2) - 1).min(all),
-            (1, _) => (all - self.random.between(0, 2)).max(1),
-            (2, _) => self.random.between(1, (all / 2).max(1)),
+            (1, Some(segment)) => (2 * segment.length).min(all),
+            (2, _) => (all - self.random.between(0, 2)).max(1),
+            (3, _) => self.random.between(1, (all / 2).max(1)),
             _ => self.random.between(1, all),
         }
     }
 
     /// A size to ask for a held segment: any, or a little around what it has,
-    /// alone or together with the free segment behind it.
+    /// a half of that, or all together with the free segment behind it.
     fn new_size(&mut self, id: u32, address: u32) -> u32 {
         let segments = self.model.segments(id);
         let place = segments.iter().position(|s| s.address == address && s.held);
@@ -370,9 +383,10 @@ impl Author<'_> {
         let (page, _) = self.pages(id);
         let length = segments[place].length;
         let room = segments.get(place + 1).filter(|next| !next.held);
-        let around = match self.random.below(3) {
+        let around = match self.random.below(4) {
             0 => length,
             1 => length + room.map_or(0, |next| next.length),
+            2 => length / 2,
             _ => length + page * self.random.between(0, 3),
         };
         let more = around + self.random.pick(&[0, 1, 2, page, page + 1]);
@@ -383,7 +397,7 @@ impl Author<'_> {
     /// The arguments of a get.
     fn get(&mut self) -> Vec<u32> {
         let id = self.region_id();
-        let (size, wait) = (self.size(id), self.choice(self.style.waits));
+        let (size, wait) = (self.size(id), self.wait());
         vec![id, size, wait, self.task(), self.priority(), self.ticks()]
     }
 

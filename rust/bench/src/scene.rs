@@ -1,7 +1,7 @@
 //! What is timed: a record, a memory and a call for each row and load.
 
 use libtest::call::Call;
-use libtest::sound::{self, layout};
+use libtest::sound::{self, layout, Layout};
 use libtest::words::*;
 
 /// How full the record and the maps are.
@@ -93,8 +93,8 @@ enum Fill {
     /// Nothing is held.
     Free,
     /// A region: held and free segments of one page each take turns, and the
-    /// last two pages are free. A partition: only the buffer in the middle is
-    /// held.
+    /// last two pages are free, by halves the last four. A partition: only the
+    /// buffer in the middle is held.
     Mixed,
 }
 
@@ -115,23 +115,33 @@ impl Builder {
         }
     }
 
-    fn region(&mut self, index: u32, fill: Fill) {
+    fn region(&mut self, index: u32, fill: Fill, order: u32) {
         let (start, length, page) = self.load.region_shape(index);
-        let slot = [name_of(index), 0, start, length, page, 0];
+        let slot = [name_of(index), 0, start, length, page, order];
         self.record[region_at(index as usize)..][..REGION_WORDS].copy_from_slice(&slot);
-        let layout = layout(start, length, page);
+        let layout = self.layout(index);
         let map = &mut self.memory[layout.map..][..layout.pages as usize];
         match fill {
             Fill::Free => map[0] = 2 * layout.pages,
             Fill::Mixed => {
-                let singles = map.len() - 2;
-                assert!(singles % 2 == 1, "the last single page is held");
+                let last = last_pages(order);
+                let singles = map.len() - last as usize;
                 for (page, word) in map[..singles].iter_mut().enumerate() {
                     *word = if page % 2 == 0 { 3 } else { 2 };
                 }
-                map[singles] = 4;
+                map[singles] = 2 * last;
             }
         }
+    }
+
+    /// The layout of a region; of one that is not there, by pages.
+    fn layout(&self, index: u32) -> Layout {
+        let (start, length, page) = self.load.region_shape(index);
+        layout(start, length, page, self.order(index))
+    }
+
+    fn order(&self, index: u32) -> u32 {
+        self.record[region_at(index as usize) + ORDER]
     }
 
     fn partition(&mut self, index: u32, fill: Fill) {
@@ -171,21 +181,30 @@ impl Builder {
     }
 
     fn pages(&self, index: u32) -> u32 {
-        let (start, length, page) = self.load.region_shape(index);
-        layout(start, length, page).pages
+        self.layout(index).pages
     }
 
     /// The address of the last held segment of a mixed region.
     fn last_held(&self, index: u32) -> u32 {
-        let (start, length, page) = self.load.region_shape(index);
-        let layout = layout(start, length, page);
-        layout.first_page + (layout.pages - 3) * page
+        let (_, _, page) = self.load.region_shape(index);
+        let layout = self.layout(index);
+        let singles = layout.pages - last_pages(self.order(index));
+        layout.first_page + (singles - 1) / 2 * 2 * page
     }
 
     /// The address of the held buffer of a mixed partition.
     fn held_buffer(&self, index: u32) -> u32 {
         let (start, length, size) = self.load.partition_shape(index);
         start + length / size / 2 * size
+    }
+}
+
+/// The pages of the last free segment of a mixed region.
+fn last_pages(order: u32) -> u32 {
+    if is_by_halves(order) {
+        4
+    } else {
+        2
     }
 }
 
@@ -207,13 +226,15 @@ enum Target {
 }
 
 /// The rows, in the order of the table.
-pub const ROWS: [&str; 20] = [
+pub const ROWS: [&str; 22] = [
     "region create",
     "region ident",
     "region delete",
     "get segment",
+    "get segment, by halves",
     "get segment, waits",
     "return segment",
+    "return segment, by halves",
     "return segment, serves one",
     "segment size",
     "resize segment",
@@ -247,9 +268,11 @@ pub fn scene(row: &'static str, load: Load) -> Scene {
         _ => Fill::Mixed,
     };
 
-    // The objects before the last one, all of them mixed.
+    let order = if row.ends_with("by halves") { 2 } else { 0 };
+
+    // The objects before the last one, all of them mixed, and by pages.
     for index in 0..last {
-        builder.region(index, Fill::Mixed);
+        builder.region(index, Fill::Mixed, 0);
         builder.partition(index, Fill::Mixed);
     }
     // The last ones.
@@ -257,7 +280,7 @@ pub fn scene(row: &'static str, load: Load) -> Scene {
     match target {
         Target::Region => {
             if makes_target {
-                builder.region(last, fill);
+                builder.region(last, fill, order);
             }
             if others {
                 builder.partition(last, Fill::Mixed);
@@ -268,7 +291,7 @@ pub fn scene(row: &'static str, load: Load) -> Scene {
                 builder.partition(last, fill);
             }
             if others {
-                builder.region(last, Fill::Mixed);
+                builder.region(last, Fill::Mixed, order);
             }
         }
     }
@@ -324,9 +347,11 @@ pub fn scene(row: &'static str, load: Load) -> Scene {
             0,
         ),
         "region delete" => (Call::DeleteRegion { id }, 0),
-        "get segment" => (get(2, 0), 0),
+        "get segment" | "get segment, by halves" => (get(2, 0), 0),
         "get segment, waits" => (get(builder.pages(last), 1), 255),
-        "return segment" | "return segment, serves one" => (Call::Return { id, address }, 0),
+        "return segment" | "return segment, by halves" | "return segment, serves one" => {
+            (Call::Return { id, address }, 0)
+        }
         "segment size" => (Call::Size { id, address }, 0),
         "resize segment" | "resize segment, serves one" => (
             Call::Resize {
@@ -436,7 +461,13 @@ mod tests {
             let (_, length, size) = load.partition_shape(0);
             length / size
         };
+        let by_halves = |load: Load| {
+            let mut builder = Builder::new(load);
+            builder.region(0, Fill::Mixed, 2);
+            builder.pages(0)
+        };
         assert_eq!(Load::ALL.map(pages), [15, 5_461, 15, 341]);
+        assert_eq!(Load::ALL.map(by_halves), [8, 4_096, 8, 256]);
         assert_eq!(Load::ALL.map(buffers), [8, 8_191, 8, 511]);
     }
 }

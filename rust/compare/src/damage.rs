@@ -1,7 +1,7 @@
 //! Ways to spoil a script.
 
 use author::Random;
-use directives::{is_choice, MAX_SCRIPT, SCRIPT};
+use directives::{choices, MAX_SCRIPT, SCRIPT};
 
 /// Bytes that are likely to matter to a reader of lines and numbers.
 const BYTES: [u8; 16] = *b"\n\r\t =-+019a\0_.\x7f\xff";
@@ -40,12 +40,14 @@ const NUMBERS: [&str; 30] = [
     "\u{661}",
 ];
 
-/// Texts where a 0 or a 1 is expected. Most of them are good numbers.
-const CHOICES: [&str; 14] = [
+/// Texts where a choice is expected. Most of them are good numbers.
+const CHOICES: [&str; 16] = [
     "0",
     "1",
     "2",
     "3",
+    "4",
+    "5",
     "10",
     "00",
     "01",
@@ -161,11 +163,17 @@ pub fn number(text: &mut Vec<u8>, random: &mut Random) {
     );
 }
 
-/// Puts another number where only 0 and 1 are allowed.
+/// Puts another number where only a few are allowed, often the first that is
+/// not.
 pub fn choice(text: &mut Vec<u8>, random: &mut Random) {
-    let of_choice = |key: &[u8]| std::str::from_utf8(key).is_ok_and(is_choice);
+    let choice = random.pick(&["order", "wait"]);
+    let first_wrong = choices(choice).unwrap_or_default();
+    let of_choice = |key: &[u8]| key == choice.as_bytes();
     replace_value(text, random, of_choice, |_, random| {
-        random.pick(&CHOICES).to_string()
+        match random.chance(40) {
+            true => first_wrong.to_string(),
+            false => random.pick(&CHOICES).to_string(),
+        }
     });
 }
 

@@ -15,6 +15,7 @@ pub enum Kind {
     Serving,
     Partitions,
     Resizing,
+    Halves,
     ManySegments,
     Layouts,
     Slots,
@@ -42,6 +43,7 @@ impl Kind {
             Kind::Serving => "serving",
             Kind::Partitions => "partitions",
             Kind::Resizing => "resizing",
+            Kind::Halves => "halving and joining",
             Kind::ManySegments => "many segments",
             Kind::Layouts => "layouts",
             Kind::Slots => "all slots in use",
@@ -63,13 +65,14 @@ impl Kind {
 }
 
 /// The kinds in turn. Those with more to find come more often.
-pub const ROUND: [Kind; 49] = [
+pub const ROUND: [Kind; 52] = [
     Kind::Mixed,
     Kind::Waiting,
     Kind::Serving,
     Kind::Refused,
     Kind::Partitions,
     Kind::Resizing,
+    Kind::Halves,
     Kind::Layouts,
     Kind::Slots,
     Kind::Generations,
@@ -81,6 +84,7 @@ pub const ROUND: [Kind; 49] = [
     Kind::Refused,
     Kind::Partitions,
     Kind::Resizing,
+    Kind::Halves,
     Kind::Layouts,
     Kind::Generations,
     Kind::DamagedLines,
@@ -103,6 +107,7 @@ pub const ROUND: [Kind; 49] = [
     Kind::Mixed,
     Kind::Waiting,
     Kind::Serving,
+    Kind::Halves,
     Kind::Refused,
     Kind::Partitions,
     Kind::Generations,
@@ -133,7 +138,7 @@ fn script_of(kind: Kind, random: &mut Random) -> Vec<u8> {
     }
     let mut text = short_script(random);
     match kind {
-        Kind::BadNumber if random.chance(30) => damage::choice(&mut text, random),
+        Kind::BadNumber if random.chance(50) => damage::choice(&mut text, random),
         Kind::BadNumber => damage::number(&mut text, random),
         Kind::DamagedBytes => damage::bytes(&mut text, random),
         Kind::BadName => damage::name(&mut text, random),
@@ -164,6 +169,7 @@ fn good_script(kind: Kind, random: &mut Random) -> Option<Vec<u8>> {
         Kind::Serving => serving(&mut script),
         Kind::Partitions => partitions(&mut script),
         Kind::Resizing => resizing(&mut script),
+        Kind::Halves => halves(&mut script),
         Kind::ManySegments => many_segments(&mut script),
         Kind::Layouts => layouts(&mut script),
         Kind::Slots => slots(&mut script),
@@ -319,6 +325,28 @@ fn resizing(script: &mut Script) {
         (6, One(Size)),
         (6, One(Information)),
         (1, One(Tick)),
+    ]);
+}
+
+/// Small blocks in regions by halves come and go, so that many are halved and
+/// joined, now and then for a task that waits.
+fn halves(script: &mut Script) {
+    script.style.odd = script.random.pick(&[0, 3]);
+    script.style.halves = 100;
+    script.style.longest = script.random.pick(&[300, 1_000, 6_000]);
+    script.style.waits = script.random.pick(&[0, 50, 90]);
+    script.repeat(1, 3, One(CreateRegion));
+    script.repeat(4, 30, LittleGet);
+    script.fill(&[
+        (16, LittleGet),
+        (8, One(Get)),
+        (20, One(Return)),
+        (4, One(Resize)),
+        (3, One(Information)),
+        (2, One(Size)),
+        (2, One(Tick)),
+        (2, Neighbours),
+        (1, RenewRegion),
     ]);
 }
 

@@ -5,9 +5,9 @@
 //! that are compared run on their own.
 
 use author::{Author, Random, Style, EDGES};
-use directives::words::TASKS;
-use directives::{is_choice, Answer, Call, Directive, MAX_SCRIPT, SCRIPT};
-use model::Model;
+use directives::words::{is_by_halves, TASKS};
+use directives::{choices, Answer, Call, Directive, MAX_SCRIPT, SCRIPT};
+use model::{Model, Segment};
 
 /// No call has more bytes than this.
 const LONGEST_CALL: usize = 128;
@@ -32,6 +32,10 @@ pub enum Step {
     /// Tasks that wait in a region of which all was held, and a part of it
     /// given back: too little for the first of them, who waits a few ticks.
     BlockedQueue,
+    /// All of a region is held, and two of its segments of one length come
+    /// back that adjoin, but are no halves of one block; then both together
+    /// are asked for.
+    Neighbours,
     /// Returning all that a region holds, and deleting it.
     ClearRegion,
     /// Returning all that a partition holds, and deleting it.
@@ -120,6 +124,7 @@ impl Script {
             Step::LittleGet => drop(self.little_get()),
             Step::TrimmedGet => self.trimmed_get(),
             Step::BlockedQueue => drop(self.blocked_queue()),
+            Step::Neighbours => drop(self.neighbours()),
             Step::ClearRegion => {
                 let id = self.author().busy_region();
                 self.clear_region(id);
@@ -156,9 +161,9 @@ impl Script {
         };
         let live = self.random.chance(60);
         let keys = directive.keys().iter();
-        let argument = |key: &&str| match *key {
-            "id" if live => id,
-            key if is_choice(key) => self.random.between(0, 1),
+        let argument = |key: &&str| match (*key, choices(key)) {
+            ("id", _) if live => id,
+            (_, Some(choices)) => self.random.between(0, choices - 1),
             _ => self.random.pick(&EDGES),
         };
         let arguments: Vec<u32> = keys.map(argument).collect();
@@ -187,10 +192,7 @@ impl Script {
         let (page, pages) = self.author().pages(id);
         // First one page, so that the rest can be given back.
         self.add(get(id, page));
-        for free in self.model.segments_held(id, false) {
-            self.add(get(id, free.length));
-        }
-        let held = self.model.segments_held(id, true);
+        let held = self.hold_all(id);
         let given = self.random.pick_any(&held)?;
         let back = given.length / page;
         let ticks = self.random.between(1, 2);
@@ -206,6 +208,37 @@ impl Script {
             self.add(Call::Resize { id, address, size })?;
         } else {
             self.add(Call::Return { id, address })?;
+        }
+        Some(())
+    }
+
+    /// Asks for all that is free of a region, and gives what is held then.
+    fn hold_all(&mut self, id: u32) -> Vec<Segment> {
+        for free in self.model.segments_held(id, false) {
+            self.add(get(id, free.length));
+        }
+        self.model.segments_held(id, true)
+    }
+
+    fn neighbours(&mut self) -> Option<()> {
+        let id = self.author().region_id();
+        let held = self.hold_all(id);
+        let start = held.first()?.address;
+        let are_no_halves = |two: &&[Segment]| {
+            let places = (two[0].address - start) / two[0].length;
+            two[0].length == two[1].length && places % 2 == 1
+        };
+        let pairs: Vec<&[Segment]> = held.windows(2).filter(are_no_halves).collect();
+        let two = self.random.pick_any(&pairs)?;
+        for Segment { address, .. } in two {
+            let address = *address;
+            self.add(Call::Return { id, address })?;
+        }
+        let both = 2 * two[0].length;
+        if self.random.chance(self.style.waits) {
+            self.wait(id, both, 1, 1)?;
+        } else {
+            self.add(get(id, both))?;
         }
         Some(())
     }
@@ -250,14 +283,15 @@ impl Script {
             start: self.random.between(1, 5_000),
             length: self.random.between(40_000, 60_000),
             page: self.random.between(1, 16),
-            order: self.random.between(0, 1),
+            order: self.author().order(),
         };
         self.add(call);
     }
 
     fn layout(&mut self) {
         let page = self.random.pick(&PAGES);
-        let (start, length) = self.exact_area(page.next_multiple_of(8));
+        let order = self.author().order();
+        let (start, length) = self.exact_area(page.next_multiple_of(8), order);
         let call = Call::CreateRegion {
             name: self.author().name(),
             start,
@@ -266,7 +300,7 @@ impl Script {
                 true => self.random.pick(&[0, 4_097, u32::MAX]),
                 false => page,
             },
-            order: 0,
+            order,
         };
         let answer = self.add(call);
         let id = answer.filter(|answer| answer.status == 0);
@@ -276,13 +310,16 @@ impl Script {
     }
 
     /// The start and the length of an area for some pages, to the byte.
-    fn exact_area(&mut self, page: u32) -> (u32, u32) {
+    fn exact_area(&mut self, page: u32, order: u32) -> (u32, u32) {
         let memory = self.model.memory_bytes();
         let most = (memory / (page + 4)).max(1);
         let few = self.random.chance(75);
-        let pages = self
+        let mut pages = self
             .random
             .between(1, if few { most.min(40) } else { most });
+        if is_by_halves(order) && self.random.chance(75) {
+            pages = pages.next_power_of_two();
+        }
         let start = match self.random.below(3) {
             0 => self.random.between(1, 64),
             1 => self.random.between(1, 16) * page + self.random.between(0, 8) - 4,

@@ -10,6 +10,9 @@ use std::fmt;
 /// Every status that a notice can have.
 const NOTICES: [u32; 2] = [0, 6];
 
+/// The keys that take only a few numbers.
+const CHOICES: [&str; 2] = ["order", "wait"];
+
 /// Counts over all scripts that were compared.
 #[derive(Default)]
 pub struct Tally {
@@ -20,6 +23,8 @@ pub struct Tally {
     cases: BTreeMap<Case, u64>,
     too_long: u64,
     bad_lines: u64,
+    /// Bad lines in which a number is no choice of this key.
+    bad_choices: BTreeMap<&'static str, u64>,
 }
 
 impl Tally {
@@ -29,7 +34,12 @@ impl Tally {
         let (answers, bad) = answers_of(output);
         match bad {
             Some(0) => self.too_long += 1,
-            Some(_) => self.bad_lines += 1,
+            Some(line) => {
+                self.bad_lines += 1;
+                if let Some(key) = wrong_choice(script, line) {
+                    *self.bad_choices.entry(key).or_default() += 1;
+                }
+            }
             None => {}
         }
         // Calls are answered in turn. The model tells which ids were live and who waited.
@@ -41,7 +51,7 @@ impl Tally {
             for notice in &answer.notices {
                 *self.notices.entry(notice.status).or_default() += 1;
             }
-            let before = Before::new(&model);
+            let before = Before::new(&model, call);
             model.call(call);
             for case in before.cases(call, answer, &model) {
                 *self.cases.entry(case).or_default() += 1;
@@ -79,8 +89,29 @@ impl Tally {
         if self.bad_lines == 0 {
             missing.push("bad= with a line number".to_string());
         }
+        for key in CHOICES {
+            if !self.bad_choices.contains_key(key) {
+                missing.push(format!("bad= for a number that is no {key}"));
+            }
+        }
         missing
     }
+}
+
+/// The key of a script's bad line, if all that is wrong there is that its
+/// number is no choice.
+fn wrong_choice(script: &[u8], line: u32) -> Option<&'static str> {
+    let lines = script.split_inclusive(|&byte| byte == b'\n');
+    let lines: Vec<&[u8]> = lines.take(line as usize).collect();
+    let (bad, before) = lines.split_last()?;
+    let bad = std::str::from_utf8(bad).ok()?.strip_suffix('\n')?;
+    let (key, text) = bad.split_once('=')?;
+    let key = CHOICES.into_iter().find(|choice| *choice == key)?;
+    let number: u32 = text.parse().ok()?;
+    // With a choice the line would be right.
+    let mended = [&before.concat(), format!("{key}=0\n").as_bytes()].concat();
+    let (_, still_bad) = answers_of(&second::run(&mended));
+    (number.to_string() == text && still_bad != Some(line)).then_some(key)
 }
 
 /// The answers that an output has, and the number of its bad line. A value
@@ -135,6 +166,9 @@ impl fmt::Display for Tally {
         writeln!(out, "Scripts that end with a bad line:")?;
         writeln!(out, "  {:<22}{:>9}", "bad=0", self.too_long)?;
         writeln!(out, "  {:<22}{:>9}", "bad= line number", self.bad_lines)?;
+        for (key, count) in &self.bad_choices {
+            writeln!(out, "  {:<22}{count:>9}", format!("of these no {key}"))?;
+        }
         writeln!(out, "Statuses (and how often) by call:")?;
         for &directive in SCRIPT {
             write!(out, "  {:<16}", directive.name())?;
@@ -145,7 +179,10 @@ impl fmt::Display for Tally {
             }
             writeln!(out)?;
         }
-        writeln!(out, "Ids, generations, page counts and serving:")?;
+        writeln!(
+            out,
+            "Ids, generations, page counts, serving and kinds of regions:"
+        )?;
         for (case, count) in &self.cases {
             writeln!(out, "  {:<58}{count:>9}", case.to_string())?;
         }
@@ -156,6 +193,8 @@ impl fmt::Display for Tally {
 #[cfg(test)]
 mod tests {
     use super::*;
+    use crate::kinds::Kind as ScriptKind;
+    use model::Kind;
 
     #[test]
     fn outputs_are_counted() {
@@ -163,8 +202,8 @@ mod tests {
         let script = b"call=tick\ncall=info\nid=9\ncall=return\nid=1\naddress=4\ncall=x\n";
         let output = b"status=0\nvalue=0\ntask=3\nwith=6\nvalue=0\n\
                        status=4\nvalue=0\nstatus=9\nvalue=0\nbad=8\n";
-        tally.add(Kind::Mixed, script, output);
-        tally.add(Kind::AtLimit, b"", b"bad=0\n");
+        tally.add(ScriptKind::Mixed, script, output);
+        tally.add(ScriptKind::AtLimit, b"", b"bad=0\n");
         assert_eq!(tally.calls[&(Directive::Tick, 0)], 1);
         assert_eq!(tally.calls[&(Directive::Information, 4)], 1);
         assert_eq!(tally.calls[&(Directive::Return, 9)], 1);
@@ -184,7 +223,7 @@ mod tests {
         let script =
             format!("{create}call=delete-region\nid=1\n{create}call=info\nid=1\ncall=tick\n");
         tally.add(
-            Kind::Mixed,
+            ScriptKind::Mixed,
             script.as_bytes(),
             &second::run(script.as_bytes()),
         );
@@ -192,12 +231,37 @@ mod tests {
             (Case::UsedAgain(Directive::CreateRegion), 1),
             (Case::Earlier(Directive::Information), 1),
             (Case::AllPages, 2),
+            (Case::Answered(Kind::Pages, Directive::CreateRegion, 0), 2),
+            (Case::Answered(Kind::Pages, Directive::DeleteRegion, 0), 1),
         ];
         assert_eq!(tally.cases, expected.into());
         let missing = tally.missing();
         for case in Case::of_scripts() {
             let is_missing = missing.contains(&case.to_string());
             assert_eq!(is_missing, !tally.cases.contains_key(&case), "{case}");
+        }
+    }
+
+    /// A number that is no choice is told from other bad lines.
+    #[test]
+    fn wrong_choices_are_counted() {
+        let create = |order: &str| {
+            format!("call=create-region\nname=1\nstart=4\nlength=1020\npage=64\norder={order}\n")
+        };
+        let get = |wait: &str| format!("call=tick\ncall=get\nid=1\nsize=1\nwait={wait}\n");
+        for (script, line, key) in [
+            (create("4"), 6, Some("order")),
+            (create("4294967295"), 6, Some("order")),
+            (get("2"), 5, Some("wait")),
+            (create("4294967296"), 6, None),
+            (create("04"), 6, None),
+            (create(""), 6, None),
+            ("order=4\n".to_string(), 1, None),
+            ("call=info\norder=4\n".to_string(), 2, None),
+        ] {
+            let output = second::run(script.as_bytes());
+            assert_eq!(answers_of(&output).1, Some(line), "{script}");
+            assert_eq!(wrong_choice(script.as_bytes(), line), key, "{script}");
         }
     }
 }

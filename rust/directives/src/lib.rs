@@ -6,7 +6,7 @@
 
 pub mod words;
 
-use words::status;
+use words::{status, ORDERS};
 
 /// Hands the table to a macro. Each row has the directive, its name in a
 /// script, its function in the library, its keys in order and the statuses
@@ -153,17 +153,27 @@ impl Directive {
     }
 }
 
-/// Whether only 0 and 1 are arguments for this key.
-pub fn is_choice(key: &str) -> bool {
-    key == "order" || key == "wait"
+/// How many choices there are for this key, from 0 on; none where it takes any
+/// number.
+pub fn choices(key: &str) -> Option<u32> {
+    match key {
+        "order" => Some(ORDERS),
+        "wait" => Some(2),
+        _ => None,
+    }
+}
+
+/// Whether a key takes an argument.
+pub fn is_allowed(key: &str, argument: u32) -> bool {
+    choices(key).is_none_or(|choices| argument < choices)
 }
 
 impl Call {
-    /// Whether a choice of the call is neither 0 nor 1.
+    /// Whether an argument of the call is no choice, where it has to be one.
     pub fn has_wrong_choice(&self) -> bool {
         match *self {
-            Call::CreateRegion { order, .. } => order > 1,
-            Call::Get { wait, .. } => wait > 1,
+            Call::CreateRegion { order, .. } => !is_allowed("order", order),
+            Call::Get { wait, .. } => !is_allowed("wait", wait),
             _ => false,
         }
     }
@@ -270,8 +280,17 @@ mod tests {
         }
         assert_eq!(Directive::of_script(b"info"), Some(Directive::Information));
         assert_eq!(Directive::of_script(b"read"), None);
-        assert!(Directive::Get.call(&[1, 2, 2, 4, 5, 6]).has_wrong_choice());
-        assert!(!Directive::Resize.call(&[1, 2, 2]).has_wrong_choice());
+    }
+
+    #[test]
+    fn choices_are_told_from_numbers() {
+        let get = |wait| Directive::Get.call(&[9, 9, wait, 9, 9, 9]);
+        let create = |order| Directive::CreateRegion.call(&[9, 9, 9, 9, order]);
+        for choice in [0, 1, 2, 3, 4, 256, u32::MAX] {
+            assert_eq!(get(choice).has_wrong_choice(), choice > 1);
+            assert_eq!(create(choice).has_wrong_choice(), choice > 3);
+        }
+        assert!(!Directive::Resize.call(&[9, 9, 9]).has_wrong_choice());
     }
 
     #[test]
@@ -323,6 +342,21 @@ mod tests {
         ] {
             assert_eq!(defined(&header, name) as usize, size, "{name}");
         }
+    }
+
+    #[test]
+    fn the_header_has_the_orders() {
+        let header = file("include/steepleclay.h");
+        let names = [
+            "SC_FIFO",
+            "SC_PRIORITY",
+            "SC_FIFO_HALVES",
+            "SC_PRIORITY_HALVES",
+        ];
+        let orders = names.map(|name| defined(&header, name));
+        assert_eq!(orders.map(is_by_priority), [false, true, false, true]);
+        assert_eq!(orders.map(is_by_halves), [false, false, true, true]);
+        assert_eq!(orders.to_vec(), (0..ORDERS).collect::<Vec<u32>>());
     }
 
     /// The header says of each function the statuses of the table, by their names.

@@ -10,6 +10,8 @@ pub const GENERATIONS: u32 = 65_536;
 pub const ID_STEP: u32 = 16;
 /// Tasks that may wait, and places for waiters.
 pub const TASKS: usize = 16;
+/// The orders of a region are below this.
+pub const ORDERS: u32 = 4;
 /// The most words of a memory; the least is 1.
 pub const MEMORY_WORDS: usize = 16_384;
 
@@ -86,10 +88,22 @@ pub fn generation_of(id: u32) -> u32 {
     id / ID_STEP
 }
 
+/// Whether a region of this order serves its queue by priority, and not by
+/// arrival.
+pub fn is_by_priority(order: u32) -> bool {
+    order % 2 == 1
+}
+
+/// Whether a region of this order is cut in halves, and not by pages.
+pub fn is_by_halves(order: u32) -> bool {
+    order >= 2
+}
+
 /// Whether words can be a record at all, sound or not: as many as a record
 /// has, and each order a choice.
 pub fn is_record(words: &[u32]) -> bool {
-    words.len() == RECORD_WORDS && (0..SLOTS).all(|index| words[region_at(index) + ORDER] <= 1)
+    let is_order = |index: usize| words[region_at(index) + ORDER] < ORDERS;
+    words.len() == RECORD_WORDS && (0..SLOTS).all(is_order)
 }
 
 /// What a word of a record means, for messages.

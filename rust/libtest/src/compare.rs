@@ -17,7 +17,7 @@ use author::Random;
 use directives::words::*;
 use directives::{Answer, Call, Directive};
 use model::examples::{self, Step};
-use model::Model;
+use model::{Kind, Model};
 use std::fmt::Write;
 
 /// Words before and after a buffer that the library must not touch.
@@ -156,7 +156,7 @@ impl<'a, L: Library> Comparison<'a, L> {
     ) -> Result<Answer, String> {
         let (record, memory) = (model.record(), model.memory().to_vec());
         let before = answer_before(random, call, model, words);
-        let found = Before::new(model);
+        let found = Before::new(model, call);
         let answer = model.call(call);
         let (record_after, memory_after) = (model.record(), model.memory());
         sound::check(&record_after, memory_after)
@@ -255,6 +255,13 @@ impl<'a, L: Library> Comparison<'a, L> {
             let call = list.call_of(Directive::Resize, random, &found);
             self.step(random, &mut found.clone(), &call)?;
         }
+        // A short list leaves few blocks.
+        let calls = if has_many_blocks(&found) { 16 } else { 0 };
+        for _ in 0..calls {
+            let directive = random.pick(&[Directive::Get, Directive::Return]);
+            let call = list.call_of(directive, random, &found);
+            self.step(random, &mut found, &call)?;
+        }
         for _ in 0..random.between(0, 8) {
             let call = list.call(random, &found);
             self.step(random, &mut found, &call)?;
@@ -341,6 +348,12 @@ impl<'a, L: Library> Comparison<'a, L> {
         differences(&mut problems, "memory", memory, expected.memory, plain);
         Err(format!("{call:?}\n{problems}"))
     }
+}
+
+/// Whether a region by halves has at least four blocks.
+fn has_many_blocks(model: &Model) -> bool {
+    let mut ids = model.region_ids().into_iter();
+    ids.any(|id| model.kind(id) == Some(Kind::Halves) && model.segments(id).len() >= 4)
 }
 
 /// Made-up words for the answer before a call: as many as asked for, or for a

@@ -95,9 +95,36 @@ fn empty_field(
 }
 
 /// A random segment of a random live region.
-fn some_segment(random: &mut Random, state: &State) -> Option<(usize, u32, bool)> {
+fn some_segment(random: &mut Random, state: &State) -> Option<Segment> {
     let region = random.pick_any(&state.regions(true))?;
     random.pick_any(&state.segments(region))
+}
+
+/// A random one of the segments of a region that are held, or are free, and
+/// have at least so many pages.
+fn some_segment_of(
+    random: &mut Random,
+    state: &State,
+    region: usize,
+    held: bool,
+    least: u32,
+) -> Option<Segment> {
+    let mut segments = state.segments(region);
+    segments.retain(|&(_, pages, is_held)| pages >= least && is_held == held);
+    random.pick_any(&segments)
+}
+
+/// Whether two blocks that adjoin are the halves of one, by the number of the
+/// first page.
+fn are_halves(first: u32, [low, high]: &[Segment; 2]) -> bool {
+    low.1 == high.1 && first.is_multiple_of(2 * low.1)
+}
+
+/// Makes one segment of two that adjoin, held or free.
+fn join(random: &mut Random, state: &mut State, [low, high]: [Segment; 2]) {
+    let held = random.chance(50);
+    state.memory[high.0] = 0;
+    state.memory[low.0] = 2 * (low.1 + high.1) + u32::from(held);
 }
 
 /// A random partition with at least so many free buffers, and its chain.
@@ -327,12 +354,22 @@ pub const KINDS: &[Kind] = &[
         Some(())
     }),
     // Slots of regions.
-    unsound("order neither 0 nor 1", |random, state| {
-        region_field(random, state, ORDER, &[2, 3, 256, MAX])
+    unsound("order above 3", |random, state| {
+        region_field(random, state, ORDER, &[4, 5, 256, MAX])
     }),
-    unsound("order of an empty slot not 0", |random, state| {
+    unsound("order of an empty slot 1, 2 or 3", |random, state| {
         let at = random.pick_any(&state.regions(false))?;
-        state.record[at + ORDER] = random.pick(&[1, 2, MAX]);
+        state.record[at + ORDER] = random.pick(&[1, 2, 3]);
+        Some(())
+    }),
+    unsound("order of an empty slot above 3", |random, state| {
+        let at = random.pick_any(&state.regions(false))?;
+        state.record[at + ORDER] = random.pick(&[4, 256, MAX]);
+        Some(())
+    }),
+    any("order of the other kind", |random, state| {
+        let at = random.pick_any(&state.regions(true))?;
+        state.record[at + ORDER] ^= 2;
         Some(())
     }),
     unsound("empty region slot with a field not 0", |random, state| {
@@ -506,17 +543,17 @@ pub const KINDS: &[Kind] = &[
         state.plant_partition(low + 8, 8)?;
         Some(())
     }),
-    sound("region added in a gap", |_, state| {
+    sound("region added in a gap", |random, state| {
         let (low, high) = state.gap(40)?;
-        state.plant_region(low, high - low)?;
+        state.plant_region(low, high - low, random.between(0, 3))?;
         Some(())
     }),
     unsound("two regions added, overlapping in one byte", |_, state| {
         // One page at low + 8, and one at low + 24 with its map before.
         let (low, _) = state.gap(48)?;
         let page = (low + 4).next_multiple_of(8);
-        state.plant_region(low, page + 8 - low + 1)?;
-        state.plant_region(page + 8, 24)?;
+        state.plant_region(low, page + 8 - low + 1, 0)?;
+        state.plant_region(page + 8, 24, 0)?;
         Some(())
     }),
     // Maps.
@@ -563,20 +600,16 @@ pub const KINDS: &[Kind] = &[
         Some(())
     }),
     unsound("map: free segment in two", |random, state| {
-        let region = random.pick_any(&state.regions(true))?;
-        let mut segments = state.segments(region);
-        segments.retain(|&(_, pages, held)| pages > 1 && !held);
-        let (at, pages, _) = random.pick_any(&segments)?;
+        let region = random.pick_any(&state.regions_by(false))?;
+        let (at, pages, _) = some_segment_of(random, state, region, false, 2)?;
         let first = random.between(1, pages - 1);
         state.memory[at] = 2 * first;
         state.memory[at + first as usize] = 2 * (pages - first);
         Some(())
     }),
     sound("map: held segment in two", |random, state| {
-        let region = random.pick_any(&state.regions(true))?;
-        let mut segments = state.segments(region);
-        segments.retain(|&(_, pages, held)| pages > 1 && held);
-        let (at, pages, _) = random.pick_any(&segments)?;
+        let region = random.pick_any(&state.regions_by(false))?;
+        let (at, pages, _) = some_segment_of(random, state, region, true, 2)?;
         let first = random.between(1, pages - 1);
         state.memory[at] = 2 * first + 1;
         state.memory[at + first as usize] = 2 * (pages - first) + 1;
@@ -585,24 +618,134 @@ pub const KINDS: &[Kind] = &[
     unsound(
         "map: held segment free, beside a free one",
         |random, state| {
-            let region = random.pick_any(&state.regions(true))?;
-            let segments = state.segments(region);
-            let pairs: Vec<usize> = segments
-                .windows(2)
-                .filter(|pair| pair[0].2 != pair[1].2)
-                .map(|pair| if pair[0].2 { pair[0].0 } else { pair[1].0 })
-                .collect();
-            let at = random.pick_any(&pairs)?;
+            let region = random.pick_any(&state.regions_by(false))?;
+            let one_held = |_, two: &[Segment; 2]| two[0].2 != two[1].2;
+            let [low, high] = state.some_neighbours(random, region, one_held)?;
+            let (at, ..) = if low.2 { low } else { high };
             state.memory[at] -= 1;
             Some(())
         },
     ),
     sound("map: free segment held", |random, state| {
         let region = random.pick_any(&state.regions(true))?;
-        let mut segments = state.segments(region);
-        segments.retain(|&(_, _, held)| !held);
-        let (at, ..) = random.pick_any(&segments)?;
+        let (at, ..) = some_segment_of(random, state, region, false, 1)?;
         state.memory[at] += 1;
+        Some(())
+    }),
+    // Maps by halves.
+    sound("halves: any blocks", |random, state| {
+        let region = random.pick_any(&state.regions_by(true))?;
+        state.draw_blocks(random, region);
+        Some(())
+    }),
+    sound(
+        "halves: any blocks, and tasks that wait",
+        |random, state| {
+            let region = state.some_blocks(random, 2)?;
+            let (at, ..) = state.segments(region)[0];
+            state.memory[at] |= 1;
+            for _ in 0..random.between(1, 4) {
+                state.plant_waiter_in(random, region);
+            }
+            Some(())
+        },
+    ),
+    sound(
+        "halves: free neighbours, no halves of one block",
+        |random, state| {
+            let region = state.some_blocks(random, 4)?;
+            let pages = state.layout(region).pages;
+            let block = pages >> random.between(2, pages.ilog2());
+            let mut blocks = vec![(block, true); (pages / block) as usize];
+            // The second and the third of four, or of the next four.
+            let low = 4 * random.below(blocks.len() / 4) + 1;
+            blocks[low..low + 2].fill((block, false));
+            state.draw_map(region, &blocks);
+            Some(())
+        },
+    ),
+    sound("halves: held block in halves", |random, state| {
+        let region = state.some_blocks(random, 2)?;
+        let (at, pages, _) = some_segment_of(random, state, region, true, 2)?;
+        state.memory[at] = pages + 1;
+        state.memory[at + pages as usize / 2] = pages + random.between(0, 1);
+        Some(())
+    }),
+    unsound("halves: free block in halves", |random, state| {
+        let region = state.some_blocks(random, 2)?;
+        let (at, pages, _) = some_segment_of(random, state, region, false, 2)?;
+        state.memory[at] = pages;
+        state.memory[at + pages as usize / 2] = pages;
+        Some(())
+    }),
+    unsound("halves: both halves of a block free", |random, state| {
+        let region = state.some_blocks(random, 2)?;
+        let [low, high] = state.some_neighbours(random, region, are_halves)?;
+        state.memory[low.0] &= !1;
+        state.memory[high.0] &= !1;
+        Some(())
+    }),
+    unsound(
+        "halves: block not of a power of two pages",
+        |random, state| {
+            let region = state.some_blocks(random, 4)?;
+            let differ = |_, two: &[Segment; 2]| two[0].1 != two[1].1;
+            let two = state.some_neighbours(random, region, differ)?;
+            join(random, state, two);
+            Some(())
+        },
+    ),
+    unsound("halves: held block in no halves", |random, state| {
+        let region = state.some_blocks(random, 4)?;
+        let (at, pages, _) = some_segment_of(random, state, region, true, 4)?;
+        let low = random.pick(&[1, pages / 4, pages / 4 * 3, pages - 1]);
+        state.memory[at] = 2 * low + 1;
+        state.memory[at + low as usize] = 2 * (pages - low) + 1;
+        Some(())
+    }),
+    unsound(
+        "halves: block not at a multiple of its length",
+        |random, state| {
+            let region = state.some_blocks(random, 4)?;
+            let are_apart =
+                |first, two: &[Segment; 2]| two[0].1 == two[1].1 && !are_halves(first, two);
+            let two = state.some_neighbours(random, region, are_apart)?;
+            join(random, state, two);
+            Some(())
+        },
+    ),
+    unsound("halves: a block lower by a page", |random, state| {
+        // Blocks of 1, 2, 4, .. pages in a row, and a single page at the end.
+        let region = state.some_blocks(random, 4)?;
+        let pages = state.layout(region).pages;
+        let mut blocks = vec![(1, true)];
+        blocks.extend((1..pages.ilog2()).map(|power| (1 << power, random.chance(70))));
+        blocks.push((1, true));
+        state.draw_map(region, &blocks);
+        Some(())
+    }),
+    unsound("halves: inner word not 0", |random, state| {
+        let region = state.some_blocks(random, 2)?;
+        let mut segments = state.segments(region);
+        segments.retain(|&(_, pages, _)| pages > 1);
+        let (at, pages, _) = random.pick_any(&segments)?;
+        let inner = random.pick(&[1, pages / 2, pages - 1]);
+        state.memory[at + inner as usize] = random.pick(&[1, 2, 3, pages, MAX]);
+        Some(())
+    }),
+    unsound("halves: last block twice as long", |random, state| {
+        let region = state.some_blocks(random, 1)?;
+        let (at, pages, _) = *state.segments(region).last()?;
+        state.memory[at] += 2 * pages;
+        Some(())
+    }),
+    unsound("halves: last block without its half", |random, state| {
+        let region = state.some_blocks(random, 2)?;
+        let (at, pages, held) = *state.segments(region).last()?;
+        state.memory[at] = match pages {
+            1 => 0,
+            _ => pages + u32::from(held),
+        };
         Some(())
     }),
     // Chains.
@@ -875,6 +1018,18 @@ pub const KINDS: &[Kind] = &[
         state.record[at + WANTED] = state.record[region + PAGE] * state.layout(region).pages;
         Some(())
     }),
+    sound(
+        "waiter: size rounded up to all of the region's pages",
+        |random, state| {
+            let region = state.some_blocks(random, 2)?;
+            let (first, ..) = state.segments(region)[0];
+            state.memory[first] |= 1;
+            let at = state.plant_waiter_in(random, region)?;
+            let half = state.record[region + PAGE] * state.layout(region).pages / 2;
+            state.record[at + WANTED] = half + random.between(1, half);
+            Some(())
+        },
+    ),
     unsound("waiter: priority 0", |random, state| {
         waiter_field(random, state, PRIORITY, &[0])
     }),
@@ -987,7 +1142,8 @@ pub const KINDS: &[Kind] = &[
         "queue: more urgent waiter behind, by priority",
         |random, state| {
             let mut regions = state.regions(true);
-            regions.retain(|&at| state.record[at + ORDER] == 1 && state.anything_held(at));
+            regions
+                .retain(|&at| is_by_priority(state.record[at + ORDER]) && state.anything_held(at));
             let region = random.pick_any(&regions)?;
             state.plant_waiter_in(random, region)?;
             state.plant_waiter_in(random, region)?;

@@ -19,8 +19,12 @@ impl List {
         // again; some give nothing back, some delete nothing.
         let creates = if random.chance(30) { 4 } else { 1 };
         let deletes = if random.chance(40) { 5 } else { 1 };
+        // Some halve and join many small blocks.
+        let halving = random.chance(20);
         let weight = |directive: &Directive| {
             let usual = match directive {
+                Directive::Get if halving => 120,
+                Directive::Return if halving => 100,
                 Directive::Get => 24,
                 Directive::Return | Directive::GetBuffer => 14,
                 Directive::CreateRegion | Directive::CreatePartition => 12 * creates,
@@ -42,14 +46,22 @@ impl List {
             (if misses { 0 } else { weight }, *directive)
         };
         let weights = Directive::ALL.iter().map(weight).collect();
-        let style = Style {
+        let mut style = Style {
             odd: random.pick(&[2, 5, 10, 25]),
             odd_choices: 2,
+            halves: random.pick(&[0, 50, 50, 100]),
             waits: random.pick(&[0, 30, 60, 90]),
             small_gets: random.pick(&[20, 60, 90]),
             longest: bytes / random.pick(&[1, 2, 3, 8, 16, 24, 32]),
             largest_unit: random.pick(&[8, 16, 64, 64, 256, 4_096]),
         };
+        if halving {
+            style.odd = 2;
+            style.halves = 100;
+            style.small_gets = 90;
+            style.longest = random.pick(&[200, 600, 2_000]);
+            style.largest_unit = random.pick(&[8, 16]);
+        }
         List { style, weights }
     }
 

@@ -159,22 +159,25 @@ fn empty(slot: &mut [u32]) {
     slot[GENERATION] = generation;
 }
 
-/// A live region: its slot, its page size and where its pages lie.
+/// A live region: its slot, its page size, whether it is by halves and where
+/// its pages lie.
 #[derive(Clone, Copy)]
 struct Region {
     at: usize,
     page: u32,
+    by_halves: bool,
     layout: Layout,
 }
 
 impl Region {
     fn find(record: &[u32], id: u32) -> Result<Region, u32> {
         let at = find(record, id, region_at)?;
-        let page = record[at + PAGE];
+        let (page, order) = (record[at + PAGE], record[at + ORDER]);
         Ok(Region {
             at,
             page,
-            layout: layout(record[at + START], record[at + LENGTH], page),
+            by_halves: is_by_halves(order),
+            layout: layout(record[at + START], record[at + LENGTH], page, order),
         })
     }
 
@@ -183,7 +186,12 @@ impl Region {
     }
 
     fn pages_for(&self, size: u32) -> usize {
-        size.div_ceil(self.page) as usize
+        let pages = size.div_ceil(self.page) as usize;
+        if self.by_halves {
+            pages.next_power_of_two()
+        } else {
+            pages
+        }
     }
 
     fn pages(&self) -> usize {
@@ -224,9 +232,12 @@ impl Region {
         })
     }
 
-    /// Holds so many pages from the lowest free segment that has enough, and
-    /// gives the address.
+    /// Holds so many pages from the free segment that serves, and gives the
+    /// address.
     fn take(&self, memory: &mut [u32], pages: usize) -> Option<u32> {
+        if self.by_halves {
+            return self.take_block(memory, pages);
+        }
         let (first, room, _) = self
             .segments(memory)
             .find(|&(_, room, held)| !held && room >= pages)?;
@@ -235,6 +246,38 @@ impl Region {
         }
         memory[self.word(first)] = 2 * pages as u32 + 1;
         Some(self.address_of(first))
+    }
+
+    /// The same by halves: the lowest of the smallest blocks that have enough
+    /// pages is halved until it has so many, and its high halves stay free.
+    fn take_block(&self, memory: &mut [u32], pages: usize) -> Option<u32> {
+        let (first, room, _) = self
+            .segments(memory)
+            .filter(|&(_, room, held)| !held && room >= pages)
+            .min_by_key(|&(_, room, _)| room)?;
+        let mut half = room / 2;
+        while half >= pages {
+            memory[self.word(first + half)] = 2 * half as u32;
+            half /= 2;
+        }
+        memory[self.word(first)] = 2 * pages as u32 + 1;
+        Some(self.address_of(first))
+    }
+
+    /// Frees a block and joins it with its other half, for as long as that is
+    /// free.
+    fn free_block(&self, memory: &mut [u32], first: usize, pages: usize) {
+        let (mut first, mut pages) = (first, pages);
+        while pages < self.pages() {
+            let other = first ^ pages;
+            if memory[self.word(other)] != 2 * pages as u32 {
+                break;
+            }
+            memory[self.word(first.max(other))] = 0;
+            first = first.min(other);
+            pages *= 2;
+        }
+        memory[self.word(first)] = 2 * pages as u32;
     }
 }
 
@@ -273,7 +316,7 @@ impl State<'_> {
             return Err(status::INVALID_SIZE);
         }
         let page = page.next_multiple_of(8);
-        let layout = layout(start, length, page);
+        let layout = layout(start, length, page, order);
         if layout.pages == 0 {
             return Err(status::INVALID_SIZE);
         }
@@ -331,7 +374,11 @@ impl State<'_> {
     fn return_segment(&mut self, id: u32, address: u32) -> Result<u32, u32> {
         let region = Region::find(self.record, id)?;
         let (page, pages) = region.held_at(self.memory, address)?;
-        self.free_and_join(&region, page, page + pages);
+        if region.by_halves {
+            region.free_block(self.memory, page, pages);
+        } else {
+            self.free_and_join(&region, page, page + pages);
+        }
         self.serve(id, &region, 0);
         Ok(0)
     }
@@ -376,6 +423,10 @@ impl State<'_> {
         let value = old as u32 * region.page;
         let new = region.pages_for(size);
         let after = page + old;
+        if region.by_halves && new != old {
+            self.answer[0] = value;
+            return Err(status::UNSATISFIED);
+        }
         if new > old {
             // The pages of the free follower, if there is one.
             let mut room = 0;
@@ -594,7 +645,7 @@ impl State<'_> {
 
     /// Puts a waiter in its place; there is an unused one.
     fn enqueue(&mut self, region_at: usize, new: [u32; WAITER_WORDS]) {
-        let by_priority = self.record[region_at + ORDER] == 1;
+        let by_priority = is_by_priority(self.record[region_at + ORDER]);
         let slot = slot_of(new[REGION]);
         let is_ahead = |other: &[u32]| match slot_of(other[REGION]).cmp(&slot) {
             Ordering::Less => true,
@@ -670,6 +721,17 @@ mod tests {
             (Directive::CreatePartition, &[3, 612, 8, 8]),
             (Directive::IdentPartition, &[3]),
             (Directive::GetBuffer, &[2]),
+            (Directive::CreateRegion, &[1, 700, 200, 16, 3]),
+            (Directive::Get, &[2, 16, 0, 0, 0, 0]),
+            (Directive::Get, &[2, 40, 0, 0, 0, 0]),
+            (Directive::Get, &[2, 17, 0, 0, 0, 0]),
+            (Directive::Get, &[2, 90, 1, 6, 9, 2]),
+            (Directive::Resize, &[2, 736, 1]),
+            (Directive::Resize, &[2, 736, 17]),
+            (Directive::Return, &[2, 800]),
+            (Directive::Return, &[2, 768]),
+            (Directive::Return, &[2, 736]),
+            (Directive::Information, &[2]),
         ] {
             let call = asked.call(arguments);
             let mut others = words.clone();

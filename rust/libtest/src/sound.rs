@@ -32,7 +32,7 @@ macro_rules! clauses {
 clauses! {
     RecordLength => "record not of 192 words",
     MemoryLength => "memory not of 1 to 16,384 words",
-    OrderChoice => "order neither 0 nor 1",
+    OrderChoice => "order above 3",
     RegionSlotNotZero => "empty region slot not zero but for its generation",
     EmptyRegionGeneration => "empty region slot's generation above 65,536",
     RegionGeneration => "region's generation above 65,535",
@@ -57,6 +57,9 @@ clauses! {
     SegmentPastPages => "map: segment past the pages",
     InnerMapWordNotZero => "map: inner word not 0",
     FreeSegmentsAdjoin => "map: two free segments adjoin",
+    BlockNotAPower => "map by halves: block not of a power of two pages",
+    BlockMisplaced => "map by halves: block not at a multiple of its length",
+    FreeHalves => "map by halves: two free halves of one block",
     EndsOfEmptyChain => "chain: no free buffer, but an end not 0",
     FreeCountTooLarge => "chain: more free buffers than buffers",
     ChainTooShort => "chain: ends before the free count",
@@ -96,9 +99,9 @@ pub struct Layout {
     pub pages: u32,
 }
 
-/// The layout of an area that lies inside the memory. `page` must be a
-/// rounded page size.
-pub fn layout(start: u32, length: u32, page: u32) -> Layout {
+/// The layout of an area that lies inside the memory, for a region of some
+/// order. `page` must be a rounded page size.
+pub fn layout(start: u32, length: u32, page: u32, order: u32) -> Layout {
     let map = (start + 3) & !3;
     let end = start + length;
     let page_0 = |pages: u32| (map + 4 * pages).div_ceil(page) * page;
@@ -107,6 +110,10 @@ pub fn layout(start: u32, length: u32, page: u32) -> Layout {
     let mut pages = end.saturating_sub(map) / (page + 4);
     if pages > 0 && page_0(pages) + pages * page > end {
         pages -= 1;
+    }
+    // Fewer fit too, behind a shorter map.
+    if is_by_halves(order) && pages > 0 {
+        pages = 1 << pages.ilog2();
     }
     Layout {
         map: map as usize / 4,
@@ -149,9 +156,11 @@ pub fn check(record: &[u32], memory: &[u32]) -> Result<(), Clause> {
     for index in 0..SLOTS {
         let region = &record[region_at(index)..][..REGION_WORDS];
         if region[NAME] != 0 {
-            let layout = layout(region[START], region[LENGTH], region[PAGE]);
+            let order = region[ORDER];
+            let layout = layout(region[START], region[LENGTH], region[PAGE], order);
             ask(layout.pages > 0, Clause::RegionWithoutPage)?;
-            held[index] = check_map(&memory[layout.map..][..layout.pages as usize])?;
+            let map = &memory[layout.map..][..layout.pages as usize];
+            held[index] = check_map(map, is_by_halves(order))?;
             layouts[index] = layout;
         }
     }
@@ -183,7 +192,7 @@ fn check_slot(slot: &[u32], [not_zero, empty, live]: [Clause; 3]) -> Result<bool
 
 fn check_region(slot: &[u32], bytes: u32) -> Result<(), Clause> {
     use Clause::*;
-    ask(slot[ORDER] <= 1, OrderChoice)?;
+    ask(slot[ORDER] < ORDERS, OrderChoice)?;
     let clauses = [RegionSlotNotZero, EmptyRegionGeneration, RegionGeneration];
     if !check_slot(slot, clauses)? {
         return Ok(());
@@ -251,22 +260,38 @@ fn check_overlaps(record: &[u32]) -> Result<(), Clause> {
 }
 
 /// Checks a region's map and gives whether anything is held.
-fn check_map(map: &[u32]) -> Result<bool, Clause> {
+fn check_map(map: &[u32], by_halves: bool) -> Result<bool, Clause> {
     let mut rest = map;
     let mut anything_held = false;
-    let mut free_before = false;
+    // The pages of the segment before, if that is free, or 0.
+    let mut free_before = 0;
     while let Some(&word) = rest.first() {
         let pages = (word / 2) as usize;
         let held = word % 2 == 1;
         ask(pages > 0, Clause::SegmentWithoutPage)?;
         ask(pages <= rest.len(), Clause::SegmentPastPages)?;
-        ask(held || !free_before, Clause::FreeSegmentsAdjoin)?;
+        if by_halves {
+            check_block(map.len() - rest.len(), pages, held, free_before)?;
+        } else {
+            ask(held || free_before == 0, Clause::FreeSegmentsAdjoin)?;
+        }
         ask(all_zero(&rest[1..pages]), Clause::InnerMapWordNotZero)?;
         anything_held |= held;
-        free_before = !held;
+        free_before = if held { 0 } else { pages };
         rest = &rest[pages..];
     }
     Ok(anything_held)
+}
+
+/// Checks a block by halves: its first page, its pages, whether it is held, and
+/// the pages of a free block before it.
+fn check_block(first: usize, pages: usize, held: bool, free_before: usize) -> Result<(), Clause> {
+    ask(pages.is_power_of_two(), Clause::BlockNotAPower)?;
+    // The region has a power of two pages, so such a block is got by halving.
+    ask(first.is_multiple_of(pages), Clause::BlockMisplaced)?;
+    let is_high_half = !first.is_multiple_of(2 * pages);
+    let is_with_low = !held && is_high_half && free_before == pages;
+    ask(!is_with_low, Clause::FreeHalves)
 }
 
 /// Checks the chain of a partition whose area and sizes are as they must be.
@@ -323,12 +348,12 @@ fn check_waiters(
         let slot = &record[region_at(index)..][..REGION_WORDS];
         ask(held[index], Clause::NothingHeld)?;
         ask(size > 0, Clause::WaiterSizeZero)?;
+        // By halves this is rounded up, but not above the pages, a power of two.
         let fits = size.div_ceil(slot[PAGE]) <= layouts[index].pages;
         ask(fits, Clause::WaiterSizeTooLarge)?;
         ask((1..=255).contains(&priority), Clause::WaiterPriority)?;
         ask(last_index <= index, Clause::RegionsNotAscending)?;
-        let by_priority = slot[ORDER] == 1;
-        if by_priority && last_index == index {
+        if is_by_priority(slot[ORDER]) && last_index == index {
             ask(last_priority <= priority, Clause::PriorityOrder)?;
         }
         (last_index, last_priority) = (index, priority);

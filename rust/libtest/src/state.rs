@@ -15,6 +15,33 @@ pub struct State {
 
 pub const MAX: u32 = u32::MAX;
 
+/// A segment: the memory word of the first page's map word, the pages, and
+/// whether it is held.
+pub type Segment = (usize, u32, bool);
+
+/// Adds blocks that fill so many pages, a power of two: so many of a hundred
+/// are halved, and so many of a hundred of the others are held.
+fn add_blocks(
+    random: &mut Random,
+    pages: u32,
+    [halved, held]: [u32; 2],
+    blocks: &mut Vec<(u32, bool)>,
+) {
+    if pages == 1 || !random.chance(halved) {
+        blocks.push((pages, random.chance(held)));
+        return;
+    }
+    let from = blocks.len();
+    for _ in 0..2 {
+        add_blocks(random, pages / 2, [halved, held], blocks);
+    }
+    // Two free halves are one block.
+    if blocks[from..] == [(pages / 2, false); 2] {
+        blocks.truncate(from);
+        blocks.push((pages, false));
+    }
+}
+
 /// Reading a sound state.
 impl State {
     pub fn bytes(&self) -> u32 {
@@ -58,12 +85,23 @@ impl State {
             self.record[region + START],
             self.record[region + LENGTH],
             self.record[region + PAGE],
+            self.record[region + ORDER],
         )
     }
 
-    /// The segments of a region: the memory word of the first page's map
-    /// word, the pages, and whether it is held.
-    pub fn segments(&self, region: usize) -> Vec<(usize, u32, bool)> {
+    pub fn is_by_halves(&self, region: usize) -> bool {
+        is_by_halves(self.record[region + ORDER])
+    }
+
+    /// The slots of the live regions by halves, or of those by pages.
+    pub fn regions_by(&self, halves: bool) -> Vec<usize> {
+        let mut regions = self.regions(true);
+        regions.retain(|&region| self.is_by_halves(region) == halves);
+        regions
+    }
+
+    /// The segments of a region, by rising address.
+    pub fn segments(&self, region: usize) -> Vec<Segment> {
         let layout = self.layout(region);
         let end = layout.map + layout.pages as usize;
         let mut segments = Vec::new();
@@ -141,7 +179,7 @@ impl State {
         let most = self.layout(region).pages * self.record[region + PAGE];
         let size = random.between(1, most);
         let priority = random.pick(&[1, 2, 3, 254, 255]);
-        let by_priority = self.record[region + ORDER] == 1;
+        let by_priority = is_by_priority(self.record[region + ORDER]);
         let is_ahead = |at: usize| {
             let (other, urgency) = (self.region_of(at), self.record[at + PRIORITY]);
             other < Some(region) || other == Some(region) && (!by_priority || urgency <= priority)
@@ -157,10 +195,73 @@ impl State {
         let segments = self.segments(region);
         let (at, pages, _) = segments[segments.len() - 1];
         let all_same = segments.iter().all(|&(_, _, held)| held == segments[0].2);
+        let free = if self.is_by_halves(region) {
+            pages / 2
+        } else {
+            1
+        };
         if all_same && pages > 1 {
-            self.memory[at] = 2 * (pages - 1) + 1;
-            self.memory[at + pages as usize - 1] = 2;
+            let held = pages - free;
+            self.memory[at] = 2 * held + 1;
+            self.memory[at + held as usize] = 2 * free;
         }
+    }
+
+    /// Puts segments, each with its pages and whether it is held, into the map
+    /// of a region.
+    pub fn draw_map(&mut self, region: usize, segments: &[(u32, bool)]) {
+        let layout = self.layout(region);
+        let map = &mut self.memory[layout.map..][..layout.pages as usize];
+        map.fill(0);
+        let mut page = 0;
+        for &(pages, held) in segments {
+            map[page] = 2 * pages + u32::from(held);
+            page += pages as usize;
+        }
+    }
+
+    /// Puts any blocks into the map of a region by halves; the state stays
+    /// sound, so that something is held where tasks wait.
+    pub fn draw_blocks(&mut self, random: &mut Random, region: usize) {
+        let halved = random.pick(&[40, 60, 80]);
+        let held = random.pick(&[30, 60, 90]);
+        let mut blocks = Vec::new();
+        add_blocks(
+            random,
+            self.layout(region).pages,
+            [halved, held],
+            &mut blocks,
+        );
+        let waits = |at: &usize| self.region_of(*at) == Some(region);
+        blocks[0].1 |= self.waiters().iter().any(waits);
+        self.draw_map(region, &blocks);
+    }
+
+    /// A region by halves with at least so many pages. Mostly any blocks are
+    /// put into its map; the state stays sound.
+    pub fn some_blocks(&mut self, random: &mut Random, least: u32) -> Option<usize> {
+        let mut regions = self.regions_by(true);
+        regions.retain(|&region| self.layout(region).pages >= least);
+        let region = random.pick_any(&regions)?;
+        if random.chance(70) {
+            self.draw_blocks(random, region);
+        }
+        Some(region)
+    }
+
+    /// Two segments of a region that adjoin and are wanted, by the number of
+    /// the first page and by themselves.
+    pub fn some_neighbours(
+        &self,
+        random: &mut Random,
+        region: usize,
+        wanted: impl Fn(u32, &[Segment; 2]) -> bool,
+    ) -> Option<[Segment; 2]> {
+        let map = self.layout(region).map;
+        let segments = self.segments(region);
+        let pairs = segments.windows(2).map(|two| [two[0], two[1]]);
+        let wanted = pairs.filter(|two| wanted((two[0].0 - map) as u32, two));
+        random.pick_any(&wanted.collect::<Vec<_>>())
     }
 
     /// Adds a waiter for whom there is room in front of each queue; the state
@@ -265,20 +366,18 @@ impl State {
         Some(at)
     }
 
-    /// Adds a region with one held page and nothing else to a part of the
-    /// memory, writes its map, and gives its slot.
-    pub fn plant_region(&mut self, start: u32, length: u32) -> Option<usize> {
+    /// Adds a region of an order, with nothing held, to a part of the memory,
+    /// writes its map, and gives its slot.
+    pub fn plant_region(&mut self, start: u32, length: u32, order: u32) -> Option<usize> {
         let at = *self.regions(false).first()?;
-        let place = layout(start, length, 8);
+        let place = layout(start, length, 8, order);
         if place.pages == 0 {
             return None;
         }
         self.record[at + NAME] = 78;
-        let words = [start, length, 8, 0];
+        let words = [start, length, 8, order];
         self.record[at + START..at + REGION_WORDS].copy_from_slice(&words);
-        let map = &mut self.memory[place.map..][..place.pages as usize];
-        map.fill(0);
-        map[0] = 2 * place.pages;
+        self.draw_map(at, &[(place.pages, false)]);
         Some(at)
     }
 

@@ -7,6 +7,9 @@ use libtest::compare::Comparison;
 use libtest::plain::Plain;
 use libtest::sound::{self, Clause};
 
+#[path = "compare/halves.rs"]
+mod halves;
+
 /// Runs lists until so many calls are made, or a difference is found.
 fn run(library: &mut impl Library, calls: u64) -> Result<libtest::tally::Tally, String> {
     let mut comparison = Comparison::new(library);
@@ -76,10 +79,10 @@ fn each_clause_that_is_not_checked_is_found() {
 
 #[test]
 fn faults_of_arguments_are_found() {
-    must_be_found("order 2 as priority", |b, call| {
+    must_be_found("no choice as waiting", |b, call| {
         let mut call = call.clone();
-        if let Call::CreateRegion { order, .. } = &mut call {
-            *order = (*order).min(1);
+        if let Call::Get { wait, .. } = &mut call {
+            *wait = (*wait).min(1);
         }
         plain(b, &call)
     });
@@ -314,9 +317,14 @@ fn lengths(b: &Buffers, call: &Call) -> Option<(u32, u32)> {
         return None;
     };
     let mut words = copies(b);
-    let page = b.record[region_at(slot_of(id).filter(|_| is_sound(b))?) + PAGE];
+    let slot = region_at(slot_of(id).filter(|_| is_sound(b))?);
+    let page = b.record[slot + PAGE];
     let is_done = plain_on(&mut words, call) == 0;
-    is_done.then(|| (words[2][0], size.div_ceil(page) * page))
+    // By halves the length stays.
+    is_done.then(|| match is_by_halves(b.record[slot + ORDER]) {
+        true => (words[2][0], words[2][0]),
+        false => (words[2][0], size.div_ceil(page) * page),
+    })
 }
 
 #[test]

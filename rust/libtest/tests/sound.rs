@@ -44,7 +44,26 @@ fn state() -> State {
         Directive::Get.call(&[2, 1, 1, 4, 7, 3]),
         Directive::Get.call(&[2, 1, 1, 5, 8, 3]),
     ];
-    for call in &calls {
+    made(&mut model, &calls)
+}
+
+/// Region 1 (start 4, 8 pages of 64, by halves and priority) with a map of held
+/// 1, free 1, held 2, free 4 pages. Tasks 1 and 2 wait for all pages.
+fn by_halves() -> State {
+    let mut model = Model::new(vec![7; 200]);
+    let calls = [
+        Directive::CreateRegion.call(&[5, 4, 572, 64, 3]),
+        Directive::Get.call(&[1, 64, 0, 0, 0, 0]),
+        Directive::Get.call(&[1, 128, 0, 0, 0, 0]),
+        Directive::Get.call(&[1, 512, 1, 1, 7, 3]),
+        Directive::Get.call(&[1, 257, 1, 2, 8, 3]),
+    ];
+    made(&mut model, &calls)
+}
+
+/// The state after some calls, of which those that may wait do so.
+fn made(model: &mut Model, calls: &[Call]) -> State {
+    for call in calls {
         let answer = model.call(call);
         let waits = matches!(call, Call::Get { wait: 1, .. });
         assert_eq!(answer.status, if waits { 255 } else { 0 }, "{call:?}");
@@ -57,7 +76,10 @@ fn state() -> State {
 
 /// What the check says after a change.
 fn after(change: impl Fn(&mut State)) -> Result<(), Clause> {
-    let mut state = state();
+    changed(state(), change)
+}
+
+fn changed(mut state: State, change: impl Fn(&mut State)) -> Result<(), Clause> {
     change(&mut state);
     check(&state.record, &state.memory)
 }
@@ -92,6 +114,24 @@ fn map(page: usize, value: u32) -> Result<(), Clause> {
     after(|state| state.memory[MAP_1 + page] = value)
 }
 
+/// A change of one map word of the region by halves.
+fn block(page: usize, value: u32) -> Result<(), Clause> {
+    changed(by_halves(), |state| state.memory[MAP_1 + page] = value)
+}
+
+/// A change of the first map words of the region by halves.
+fn blocks(words: &[u32]) -> Result<(), Clause> {
+    let map = MAP_1..MAP_1 + words.len();
+    changed(by_halves(), |state| {
+        state.memory[map.clone()].copy_from_slice(words)
+    })
+}
+
+/// A change of one word of the record with the region by halves.
+fn set_by_halves(word: usize, value: u32) -> Result<(), Clause> {
+    changed(by_halves(), |state| state.record[word] = value)
+}
+
 /// A change of one word of the memory, by its address.
 fn link(address: u32, value: u32) -> Result<(), Clause> {
     after(|state| state.memory[address as usize / 4] = value)
@@ -104,6 +144,9 @@ fn sound_states_pass() {
     assert_eq!(check(&[0; RECORD_WORDS], &[9; MEMORY_WORDS]), Ok(()));
     let state = state();
     assert_eq!(state.memory[MAP_1..MAP_1 + 5], [5, 0, 3, 24, 0]);
+    let by_halves = by_halves();
+    assert_eq!(by_halves.memory[MAP_1..MAP_1 + 8], [3, 2, 5, 0, 8, 0, 0, 0]);
+    assert_eq!(check(&by_halves.record, &by_halves.memory), Ok(()));
 }
 
 /// Changes that leave the record and the memory sound.
@@ -142,6 +185,29 @@ fn sound_changes_pass() {
     assert_eq!(link(PARTITION_1 + 24 + 8, 1), Ok(()));
 }
 
+/// Such changes of a region by halves.
+#[test]
+fn sound_changes_by_halves_pass() {
+    // The other order, and a size that is rounded up to all pages.
+    assert_eq!(set_by_halves(region(1, ORDER), 2), Ok(()));
+    assert_eq!(set_by_halves(waiter(1, WANTED), 257), Ok(()));
+    // A free block held, and a held one free whose other half is not.
+    assert_eq!(block(1, 3), Ok(()));
+    assert_eq!(block(4, 9), Ok(()));
+    assert_eq!(block(2, 4), Ok(()));
+    // A held block in halves, one of them free.
+    assert_eq!(blocks(&[3, 2, 3, 3]), Ok(()));
+    assert_eq!(blocks(&[3, 3, 2, 3]), Ok(()));
+    // Free neighbours of one size that are no halves of one block.
+    assert_eq!(blocks(&[3, 2, 2, 3]), Ok(()));
+    assert_eq!(blocks(&[5, 0, 4, 0, 4, 0, 5, 0]), Ok(()));
+    // Of other sizes.
+    assert_eq!(blocks(&[3, 2, 4, 0, 8]), Ok(()));
+    // All held, in one block and in eight.
+    assert_eq!(blocks(&[17, 0, 0, 0, 0, 0, 0, 0]), Ok(()));
+    assert_eq!(blocks(&[3; 8]), Ok(()));
+}
+
 /// Every clause with the changes that break it.
 fn broken() -> Vec<(Clause, Vec<Result<(), Clause>>)> {
     use Clause::*;
@@ -165,9 +231,10 @@ fn broken() -> Vec<(Clause, Vec<Result<(), Clause>>)> {
         (
             OrderChoice,
             vec![
-                set(region(1, ORDER), 2),
+                set(region(1, ORDER), 4),
                 set(region(2, ORDER), u32::MAX),
-                set(region(8, ORDER), 2),
+                set(region(8, ORDER), 4),
+                set_by_halves(region(1, ORDER), 4),
             ],
         ),
         (
@@ -178,6 +245,8 @@ fn broken() -> Vec<(Clause, Vec<Result<(), Clause>>)> {
                 set(region(8, LENGTH), 1),
                 set(region(8, PAGE), 8),
                 set(region(8, ORDER), 1),
+                set(region(8, ORDER), 2),
+                set(region(8, ORDER), 3),
                 after(|state| {
                     state.record[region(8, GENERATION)] = 65_536;
                     state.record[region(8, PAGE)] = 8;
@@ -232,6 +301,7 @@ fn broken() -> Vec<(Clause, Vec<Result<(), Clause>>)> {
                 set(region(1, LENGTH), 0),
                 set(region(1, LENGTH), 123),
                 set(region(3, PAGE), 4_096),
+                set_by_halves(region(1, LENGTH), 123),
             ],
         ),
         (
@@ -317,7 +387,18 @@ fn broken() -> Vec<(Clause, Vec<Result<(), Clause>>)> {
                 set(partition(1, START), 1_020),
             ],
         ),
-        (SegmentWithoutPage, vec![map(0, 0), map(0, 1), map(3, 0)]),
+        (
+            SegmentWithoutPage,
+            vec![
+                map(0, 0),
+                map(0, 1),
+                map(3, 0),
+                block(1, 0),
+                block(0, 1),
+                // The high half of the last block is missing.
+                block(4, 4),
+            ],
+        ),
         (
             SegmentPastPages,
             vec![
@@ -326,6 +407,11 @@ fn broken() -> Vec<(Clause, Vec<Result<(), Clause>>)> {
                 map(3, 26),
                 map(3, 27),
                 map(3, u32::MAX - 1),
+                block(4, 16),
+                block(4, 10),
+                block(0, u32::MAX),
+                // By halves there are fewer pages.
+                set(region(1, ORDER), 2),
             ],
         ),
         (
@@ -336,6 +422,11 @@ fn broken() -> Vec<(Clause, Vec<Result<(), Clause>>)> {
                 map(14, 1),
                 map(14, u32::MAX),
                 map(0, 7),
+                block(3, 2),
+                block(5, 1),
+                block(7, u32::MAX),
+                // A block of four over others.
+                block(0, 9),
             ],
         ),
         (
@@ -346,6 +437,34 @@ fn broken() -> Vec<(Clause, Vec<Result<(), Clause>>)> {
                     state.memory[MAP_1 + 3] = 2;
                     state.memory[MAP_1 + 4] = 22;
                 }),
+            ],
+        ),
+        (
+            BlockNotAPower,
+            vec![
+                block(4, 6),
+                block(4, 7),
+                blocks(&[7, 0, 0, 3]),
+                blocks(&[3, 6, 0, 0]),
+                blocks(&[3, 7, 0, 0]),
+            ],
+        ),
+        (
+            BlockMisplaced,
+            vec![
+                blocks(&[3, 5, 0, 3]),
+                blocks(&[3, 4, 0, 3]),
+                block(2, 8),
+                blocks(&[5, 0, 9, 0, 0, 0, 5, 0]),
+            ],
+        ),
+        (
+            FreeHalves,
+            vec![
+                block(0, 2),
+                blocks(&[3, 3, 2, 2]),
+                blocks(&[3, 2, 5, 0, 4, 0, 4, 0]),
+                blocks(&[8, 0, 0, 0]),
             ],
         ),
         (
@@ -498,6 +617,8 @@ fn broken() -> Vec<(Clause, Vec<Result<(), Clause>>)> {
                 set(waiter(1, WANTED), 961),
                 set(waiter(1, WANTED), u32::MAX),
                 set(waiter(1, WANTED), u32::MAX - 62),
+                set_by_halves(waiter(1, WANTED), 513),
+                set_by_halves(waiter(2, WANTED), u32::MAX),
             ],
         ),
         (
@@ -523,7 +644,11 @@ fn broken() -> Vec<(Clause, Vec<Result<(), Clause>>)> {
         ),
         (
             PriorityOrder,
-            vec![set(waiter(5, PRIORITY), 6), set(waiter(3, PRIORITY), 8)],
+            vec![
+                set(waiter(5, PRIORITY), 6),
+                set(waiter(3, PRIORITY), 8),
+                set_by_halves(waiter(2, PRIORITY), 6),
+            ],
         ),
     ]
 }
@@ -541,24 +666,30 @@ fn broken_clauses_are_named() {
 }
 
 /// The layout that the check of a record finds by a division is the one that
-/// the model finds by adding pages.
+/// the model finds by adding pages, or by doubling them.
 #[test]
 fn layouts_agree() {
     for page in [8, 16, 24, 64, 72, 1_000, 4_096] {
         for start in 1..70 {
             for length in (0..40).chain((page..page + 150).step_by(7)).chain([9_999]) {
-                let mut model = Model::fresh();
-                let status =
-                    model.call(&Directive::CreateRegion.call(&[1, start, length, page, 0]));
-                let found = layout(start, length, page);
-                let expected = model.pages(1).map_or(0, |(_, pages)| pages);
-                assert_eq!(status.status, if expected == 0 { 8 } else { 0 });
-                assert_eq!(found.pages, expected, "{start} {length} {page}");
-                if expected > 0 {
-                    assert_eq!(found.first_page, model.segments(1)[0].address);
-                    assert_eq!(found.map, (start as usize).div_ceil(4));
+                for order in [0, 2] {
+                    layout_agrees([start, length, page, order]);
                 }
             }
         }
+    }
+}
+
+fn layout_agrees([start, length, page, order]: [u32; 4]) {
+    let mut model = Model::fresh();
+    let create = Directive::CreateRegion.call(&[1, start, length, page, order]);
+    let answer = model.call(&create);
+    let found = layout(start, length, page, order);
+    let expected = model.pages(1).map_or(0, |(_, pages)| pages);
+    assert_eq!(answer.status, if expected == 0 { 8 } else { 0 });
+    assert_eq!(found.pages, expected, "{create:?}");
+    if expected > 0 {
+        assert_eq!(found.first_page, model.segments(1)[0].address);
+        assert_eq!(found.map, (start as usize).div_ceil(4));
     }
 }

@@ -11,12 +11,14 @@
 //! `u64`, where they cannot wrap.
 
 pub mod examples;
+mod kind;
 mod partition;
 mod region;
 mod slots;
 
 use directives::words::*;
 use directives::{Answer, Call, Notice};
+pub use kind::Kind;
 use partition::Partition;
 pub use region::Segment;
 use region::{Region, Waiter};
@@ -186,7 +188,7 @@ impl Model {
                 length,
                 page,
                 order,
-            } => self.create_region(name, Area::new(start, length), page, order == 1),
+            } => self.create_region(name, Area::new(start, length), page, order),
             Call::IdentRegion { name } => self.regions.ident(name, |region| region.name),
             Call::DeleteRegion { id } => self.delete_region(id),
             Call::Get {
@@ -230,14 +232,14 @@ impl Model {
         name: u32,
         area: Area,
         page: u32,
-        by_priority: bool,
+        order: u32,
     ) -> Result<Answer, Refusal> {
         refuse_if(name == 0, status::INVALID_NAME)?;
         refuse_if(area.start == 0, status::INVALID_ADDRESS)?;
         refuse_if(self.is_past_memory(&area), status::INVALID_ADDRESS)?;
         refuse_if(page == 0 || page > MAX_PAGE, status::INVALID_SIZE)?;
         let page = page.next_multiple_of(PAGE_STEP);
-        let region = Region::new(name, area, page, by_priority);
+        let region = Region::new(name, area, page, order);
         refuse_if(region.page_count() == 0, status::INVALID_SIZE)?;
         refuse_if(self.is_taken(&area), status::INVALID_ADDRESS)?;
         let slot = self.regions.vacant()?;
@@ -296,9 +298,7 @@ impl Model {
         let (page, old) = region.held_at(address)?;
         let mut answer = Answer::value(old as u32 * region.page);
         let new = region.pages_for(size);
-        if new < old {
-            region.take_back(page + new, page + old);
-        } else if !region.extend(page + old, page + new) {
+        if !region.resize(page + old, page + new) {
             answer.status = status::UNSATISFIED;
             return Ok(answer);
         }
@@ -439,6 +439,16 @@ impl Model {
         let regions = self.regions.objects().map(|region| region.name);
         let partitions = self.partitions.objects().map(|p| p.name);
         regions.chain(partitions).collect()
+    }
+
+    /// The area of a live region.
+    pub fn area(&self, id: u32) -> Option<Area> {
+        Some(self.regions.live(id).ok()?.area)
+    }
+
+    /// The kind of a live region.
+    pub fn kind(&self, id: u32) -> Option<Kind> {
+        Some(self.regions.live(id).ok()?.kind)
     }
 
     /// The page size and the page count of a live region.

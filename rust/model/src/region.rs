@@ -1,12 +1,10 @@
 //! A region: for each page which loan owns it, and the queue of waiters.
 
+use crate::kind::{is_free, Kind, NOBODY};
 use crate::{Area, WORD};
-use directives::words::{status, REGION_WORDS, WAITER_WORDS};
+use directives::words::{is_by_priority, status, REGION_WORDS, WAITER_WORDS};
 use directives::Notice;
 use std::collections::VecDeque;
-
-/// The owner of a page that is free.
-const NOBODY: u32 = 0;
 
 #[derive(Clone, Debug, PartialEq, Eq)]
 pub struct Waiter {
@@ -28,7 +26,8 @@ impl Waiter {
     }
 }
 
-/// A free or held segment: a longest run of pages with one owner.
+/// A free or held segment: by pages a longest run of pages with one owner, by
+/// halves a block.
 #[derive(Clone, Copy, Debug, PartialEq, Eq)]
 pub struct Segment {
     pub address: u32,
@@ -42,7 +41,8 @@ pub struct Region {
     pub name: u32,
     pub area: Area,
     pub page: u32,
-    by_priority: bool,
+    order: u32,
+    pub kind: Kind,
     /// The memory word of the map's first word.
     pub map: usize,
     /// The address of page 0.
@@ -54,28 +54,27 @@ pub struct Region {
     pub queue: VecDeque<Waiter>,
 }
 
-fn is_free(pages: &[u32]) -> bool {
-    pages.iter().all(|&owner| owner == NOBODY)
-}
-
 impl Region {
     /// A region with all pages free, in an area that lies inside the memory.
     /// The map comes first, with one word a page, and then the pages, each on
-    /// a multiple of the page size. Pages are added for as long as all fits.
-    pub fn new(name: u32, area: Area, page: u32, by_priority: bool) -> Region {
+    /// a multiple of the page size. There are as many pages as the kind allows,
+    /// for as long as all fits.
+    pub fn new(name: u32, area: Area, page: u32, order: u32) -> Region {
         let size = u64::from(page);
         let map = u64::from(area.start).next_multiple_of(WORD);
         let page_0 = |pages: u64| (map + WORD * pages).next_multiple_of(size);
         let fits = |pages: &u64| page_0(*pages) + size * pages <= area.end();
-        let pages = (1..).take_while(fits).count();
+        let kind = Kind::of(order);
+        let pages = kind.count(fits);
         Region {
             name,
             area,
             page,
-            by_priority,
+            order,
+            kind,
             map: (map / WORD) as usize,
-            first_page: page_0(pages as u64) as u32,
-            owners: vec![NOBODY; pages],
+            first_page: page_0(pages) as u32,
+            owners: vec![NOBODY; pages as usize],
             loans: 0,
             queue: VecDeque::new(),
         }
@@ -88,7 +87,7 @@ impl Region {
             unreachable!("a slot has so many words");
         };
         let area = Area::new(*start, *length);
-        let mut region = Region::new(*name, area, *page, *order == 1);
+        let mut region = Region::new(*name, area, *page, *order);
         let mut first = 0;
         while first < region.owners.len() {
             let word = memory[region.map + first];
@@ -104,8 +103,7 @@ impl Region {
     /// The words of its slot, but for the generation.
     pub fn slot(&self) -> [u32; REGION_WORDS] {
         let Area { start, length } = self.area;
-        let order = u32::from(self.by_priority);
-        [self.name, 0, start, length, self.page, order]
+        [self.name, 0, start, length, self.page, self.order]
     }
 
     /// The words of its waiters' places, by its id.
@@ -116,11 +114,10 @@ impl Region {
 
     /// Draws the map into the memory.
     pub fn draw(&self, memory: &mut [u32]) {
-        let mut word = self.map;
-        for run in self.owners.chunk_by(|a, b| a == b) {
-            memory[word..word + run.len()].fill(0);
-            memory[word] = 2 * run.len() as u32 + u32::from(run[0] != NOBODY);
-            word += run.len();
+        let map = &mut memory[self.map..][..self.owners.len()];
+        map.fill(0);
+        for (first, run) in self.kind.runs(&self.owners) {
+            map[first] = 2 * run.len() as u32 + u32::from(run[0] != NOBODY);
         }
     }
 
@@ -128,8 +125,9 @@ impl Region {
         self.owners.len()
     }
 
+    /// The pages that a request of some bytes comes to.
     pub fn pages_for(&self, size: u32) -> usize {
-        size.div_ceil(self.page) as usize
+        self.kind.rounded(size.div_ceil(self.page) as usize)
     }
 
     fn address_of(&self, page: usize) -> u32 {
@@ -137,17 +135,13 @@ impl Region {
     }
 
     pub fn segments(&self) -> Vec<Segment> {
-        let mut page = 0;
-        let mut segments = Vec::new();
-        for run in self.owners.chunk_by(|a, b| a == b) {
-            segments.push(Segment {
-                address: self.address_of(page),
-                length: run.len() as u32 * self.page,
-                held: run[0] != NOBODY,
-            });
-            page += run.len();
-        }
-        segments
+        let segment = |(first, run): (usize, &[u32])| Segment {
+            address: self.address_of(first),
+            length: run.len() as u32 * self.page,
+            held: run[0] != NOBODY,
+        };
+        let runs = self.kind.runs(&self.owners).into_iter();
+        runs.map(segment).collect()
     }
 
     pub fn anything_held(&self) -> bool {
@@ -174,26 +168,39 @@ impl Region {
         self.owners[first..end].fill(self.loans);
     }
 
-    /// The first page of the lowest run of so many free pages.
-    fn lowest(&self, pages: usize) -> Option<usize> {
-        self.owners.windows(pages).position(is_free)
+    /// The first page of the place that the kind has for so many pages.
+    fn place(&self, pages: usize) -> Option<usize> {
+        self.kind.place(&self.owners, pages)
     }
 
-    /// Lends the lowest run of so many free pages and gives its address.
+    /// Lends so many pages, if there is a place, and gives the address.
     pub fn lend(&mut self, pages: usize) -> Option<u32> {
-        let page = self.lowest(pages)?;
+        let page = self.place(pages)?;
         self.own(page, page + pages);
         Some(self.address_of(page))
     }
 
-    /// Takes the pages of a loan back, all or those from one on.
+    /// Takes pages of a loan back, all or those from one on.
     pub fn take_back(&mut self, first: usize, end: usize) {
         self.owners[first..end].fill(NOBODY);
     }
 
+    /// Lets the loan that ends before page `end` end before `new_end`, if it
+    /// can. By halves it stays as it is.
+    pub fn resize(&mut self, end: usize, new_end: usize) -> bool {
+        if self.kind == Kind::Halves {
+            return new_end == end;
+        }
+        if new_end < end {
+            self.take_back(new_end, end);
+            return true;
+        }
+        self.extend(end, new_end)
+    }
+
     /// Lets the loan that ends before page `end` own the pages up to
     /// `new_end` too, if all of them are free.
-    pub fn extend(&mut self, end: usize, new_end: usize) -> bool {
+    fn extend(&mut self, end: usize, new_end: usize) -> bool {
         let has_room = self.owners.get(end..new_end).is_some_and(is_free);
         if has_room {
             let owner = self.owners[end - 1];
@@ -203,7 +210,8 @@ impl Region {
     }
 
     pub fn enqueue(&mut self, waiter: Waiter) {
-        let ahead = |other: &Waiter| !self.by_priority || other.priority <= waiter.priority;
+        let by_priority = is_by_priority(self.order);
+        let ahead = |other: &Waiter| !by_priority || other.priority <= waiter.priority;
         let place = self.queue.iter().take_while(|other| ahead(other)).count();
         self.queue.insert(place, waiter);
     }
@@ -211,7 +219,7 @@ impl Region {
     /// Whether there is room for the first waiter.
     pub fn can_serve(&self) -> bool {
         let first = self.queue.front();
-        first.is_some_and(|first| self.lowest(self.pages_for(first.size)).is_some())
+        first.is_some_and(|first| self.place(self.pages_for(first.size)).is_some())
     }
 
     /// Serves the first waiter for as long as there is room for it.

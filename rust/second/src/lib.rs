@@ -7,7 +7,7 @@
 //! (see there), the names and keys come from the table of the directives, and
 //! lines are taken from the front of the script, one by one.
 
-use directives::{is_choice, Answer, Call, Directive, MAX_LINE, MAX_SCRIPT};
+use directives::{is_allowed, Answer, Call, Directive, MAX_LINE, MAX_SCRIPT};
 use model::Model;
 
 /// Runs a script over a fresh model and gives all that it writes.
@@ -74,7 +74,7 @@ impl<'a> Reader<'a> {
     /// Reads the argument of a key.
     fn argument(&mut self, key: &str) -> Option<u32> {
         let number = parse_number(self.text(key)?)?;
-        (number <= 1 || !is_choice(key)).then_some(number)
+        is_allowed(key, number).then_some(number)
     }
 
     /// Reads a whole call.

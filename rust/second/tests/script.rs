@@ -200,6 +200,32 @@ fn resizes_and_ticks_serve() {
 }
 
 #[test]
+fn regions_by_halves() {
+    assert_answers(
+        "create-region name=1 start=4 length=1020 page=64 order=2 -> 0 1
+         info id=1 -> 0 1 512 512 0 0 0
+         get id=1 size=513 wait=0 task=0 priority=0 ticks=0 -> 8 0
+         get id=1 size=129 wait=0 task=0 priority=0 ticks=0 -> 0 64
+         get id=1 size=1 wait=0 task=0 priority=0 ticks=0 -> 0 320
+         size id=1 address=64 -> 0 256
+         resize id=1 address=64 size=250 -> 0 256
+         resize id=1 address=64 size=128 -> 13 256
+         return id=1 address=64 -> 0 0
+         get id=1 size=64 wait=0 task=0 priority=0 ticks=0 -> 0 384
+         info id=1 -> 0 2 256 384 2 64 128
+         get id=1 size=512 wait=1 task=3 priority=1 ticks=0 -> 255 0
+         return id=1 address=384 -> 0 0
+         delete-region id=1 -> 12 0
+         return id=1 address=320 -> 0 0 task 3 with 0 64
+         create-region name=2 start=1024 length=576 page=64 order=3 -> 0 2
+         get id=2 size=300 wait=0 task=0 priority=0 ticks=0 -> 0 1088
+         get id=2 size=64 wait=1 task=4 priority=9 ticks=0 -> 255 0
+         get id=2 size=64 wait=1 task=5 priority=1 ticks=0 -> 255 0
+         return id=2 address=1088 -> 0 0 task 5 with 0 1088 task 4 with 0 1152",
+    );
+}
+
+#[test]
 fn refused_information_is_written_to_the_byte() {
     let zeros = "value=0\n".repeat(6);
     assert_output("call=info\nid=1\n", &format!("status=4\n{zeros}"));
@@ -323,12 +349,26 @@ fn keys_that_are_wrong_or_out_of_order() {
 }
 
 #[test]
-fn order_and_wait_are_0_or_1() {
-    for order in ["2", "00", "01", "10", "4294967295", "", "true"] {
+fn order_is_0_to_3_and_wait_0_or_1() {
+    for order in [
+        "4",
+        "5",
+        "00",
+        "01",
+        "03",
+        "10",
+        "256",
+        "4294967295",
+        "",
+        "true",
+    ] {
         let script = REGION.replace("order=0", &format!("order={order}"));
         assert_bad(&script, 6);
     }
-    assert_output(&REGION.replace("order=0", "order=1"), REGION_ANSWER);
+    for order in 0..4 {
+        let script = REGION.replace("order=0", &format!("order={order}"));
+        assert_output(&script, REGION_ANSWER);
+    }
     for wait in ["2", "00", "01", "10", "4294967295", "", "yes"] {
         let get = format!("call=get\nid=1\nsize=1\nwait={wait}\ntask=1\npriority=1\nticks=1\n");
         assert_bad(&get, 4);
