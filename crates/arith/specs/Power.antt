@@ -8,7 +8,7 @@ unfoldable pub levelFrom : ℕ → ℕ → ℕ → ℕ
 levelFrom zero j k = j
 levelFrom (suc n) j k = cond (leb k (2 ^ j)) j (levelFrom n (suc j) k)
 
--- how often two is doubled from 1 on to reach k
+-- how often 1 is doubled to reach k
 abbrev pub level : ℕ → ℕ
 level k = levelFrom k 0 k
 
