@@ -1,5 +1,5 @@
-// The stores in a map by the kind of its region: of pages, or by halves. Which it is, is asked nowhere else. These functions have exactly
-// the map's words, and need them sound.
+// The stores in a map by the kind of its region: of pages, or by halves. No other function of the crate asks which it is. These functions
+// have exactly the map's words, and need them sound.
 use crate::halves;
 use crate::pages;
 use manager::Order;
