@@ -1,0 +1,3 @@
+pub mod Gauge
+pub mod Readings
+pub mod Examples
