@@ -1,2 +1,2 @@
-// What a user sees, by the receipts alone: specs/ states it for the program and for the library, proofs/ proves it. There is no code
-// here.
+// What a user sees: of the program and of the library by the receipts alone, and of the library's gauge by its readings. specs/ states
+// it, proofs/ proves it. There is no code here.

@@ -1,14 +1,22 @@
 // The directives for C and Rust to call: include/steepleclay.h says how. The caller keeps the manager record as words (`state`), lends the
-// memory, and gets the answer in words.
+// memory, and gets the answer in words. A gauge is kept in words of its own.
 mod answer;
 mod call;
+mod reading;
 
 use call::INTERNAL_ERROR;
 use call::run_call;
 use call::wait_at;
 use manager::Call;
+use reading::INFORMATION_WORDS;
+use reading::LAST_ALARM;
+use reading::alarm_at;
+use reading::gauge_at;
+use reading::information_at;
+use reading::leave;
 ghost use Rattle.packing.specs.Packing.{lastOrder, orderAt};
 ghost use Rattle.firmware.specs.Exported.{Leaves, Reads, Writes, called, chosen, waitAt, segmentWords, segmentWritten};
+ghost use Rattle.firmware.specs.Reading.{LeavesGauge, gaugeRead, gaugeReadFrom};
 
 // Makes a region.
 #[no_mangle]
@@ -305,4 +313,53 @@ pub extern "C" fn sc_segment_write(
     let given = access::write_segment(memory, d, id, address, first, words);
     let s = given.status;
     manager::number(s)
+}
+
+// Reads a gauge: so many held bytes of a total.
+#[no_mangle]
+pub extern "C" fn sc_gauge_read(
+    words: &mut [u64; 2],
+    sounds: &mut u32,
+    alarm: u32,
+    limit: u64,
+    high: u64,
+    held: u32,
+    total: u32,
+) -> u32
+    ensures { λ r. ⌜ LeavesGauge (gaugeRead (now (words .entry)) (now (sounds .entry)) alarm limit high held total)
+        (now (words .exit)) (now (sounds .exit)) r ⌝ }
+{
+    if LAST_ALARM < alarm {
+        return INTERNAL_ERROR;
+    }
+    let a = alarm_at(alarm, limit, high);
+    let g = gauge_at(words);
+    let given = gauge::read(g, a, held, total);
+    leave(words, sounds, given)
+}
+
+// Reads a gauge by the answer to a call for a region's information.
+#[no_mangle]
+pub extern "C" fn sc_gauge_read_information(
+    words: &mut [u64; 2],
+    sounds: &mut u32,
+    alarm: u32,
+    limit: u64,
+    high: u64,
+    answer: &[u32],
+) -> u32
+    ensures { λ r. ⌜ LeavesGauge (gaugeReadFrom (now (words .entry)) (now (sounds .entry)) alarm limit high (now (answer .entry)))
+        (now (words .exit)) (now (sounds .exit)) r ⌝ }
+{
+    if LAST_ALARM < alarm {
+        return INTERNAL_ERROR;
+    }
+    if answer.len() < INFORMATION_WORDS {
+        return INTERNAL_ERROR;
+    }
+    let a = alarm_at(alarm, limit, high);
+    let g = gauge_at(words);
+    let i = information_at(answer);
+    let given = gauge::read_information(g, a, i);
+    leave(words, sounds, given)
 }
