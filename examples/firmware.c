@@ -1,7 +1,8 @@
 /* What a firmware does with the library: a region with tasks that wait, whom a resize, a tick and a
- * return serve or whose time runs out, a partition, a region by halves, taking them down again, and
- * an old id that opens nothing. */
+ * return serve or whose time runs out, a partition, a region by halves, taking them down again, an
+ * old id that opens nothing, and a gauge of a region with an alarm. */
 #include <stdio.h>
+#include <stdlib.h>
 
 #include "steepleclay.h"
 
@@ -114,6 +115,48 @@ static void halves(void)
     say("delete the region by halves", scm_region_delete(&manager, region));
 }
 
+static void say_gauge(const char *what, uint32_t status, const sc_gauge *gauge)
+{
+    printf("%s: status %u, fill %.4f, smoothed %.4f, %s\n", what, (unsigned)status, gauge->last,
+           gauge->smoothed, gauge->sounds ? "alarm" : "silent");
+}
+
+/* Reads a gauge by a region's information, with an alarm above `limit`. */
+static void read_gauge(const char *what, sc_gauge *gauge, uint32_t region, double limit)
+{
+    uint32_t status = scm_region_get_information(&manager, region);
+    if (status == SC_SUCCESSFUL)
+        status = scm_gauge_read_information(gauge, SC_ABOVE, limit, 0, &manager);
+    say_gauge(what, status, gauge);
+}
+
+/* A region of 16 pages: all of them held, then a half, then none. The alarm is silent at its limit
+ * and sounds above it. A limit that is no number and a total of 0 leave the gauge as it was. */
+static void gauges(void)
+{
+    const double no_number = strtod("nan", NULL);
+    sc_gauge gauge = {0, 0, 0};
+    uint32_t region;
+
+    say("create region for a gauge", scm_region_create(&manager, 4, 8192, 1088, 64, SC_FIFO));
+    region = answer(SC_ANSWER_VALUE);
+    say("get all of it", scm_region_get_segment(&manager, region, 1024, SC_NO_WAIT, 0, 0, 0));
+    read_gauge("read the gauge, alarm above 0.25", &gauge, region, 0.25);
+    read_gauge("read it again", &gauge, region, 0.25);
+    say("shrink to a half", scm_region_resize_segment(&manager, region, 8256, 512));
+    read_gauge("read it again", &gauge, region, 0.25);
+    read_gauge("with a limit that is no number", &gauge, region, no_number);
+    say("return it", scm_region_return_segment(&manager, region, 8256));
+    read_gauge("read it again", &gauge, region, 0.25);
+    say("delete the region", scm_region_delete(&manager, region));
+    read_gauge("read it by an id that is gone", &gauge, region, 0.25);
+    say_gauge("read 1 of 3 bytes, alarm outside 0.25 and 0.75",
+              scm_gauge_read(&gauge, SC_OUTSIDE, 0.25, 0.75, 1, 3), &gauge);
+    say_gauge("read 2 of 3 bytes, alarm below 0.5",
+              scm_gauge_read(&gauge, SC_BELOW, 0.5, 0, 2, 3), &gauge);
+    say_gauge("read a total of 0", scm_gauge_read(&gauge, SC_BELOW, 0.5, 0, 0, 0), &gauge);
+}
+
 int main(void)
 {
     uint32_t region;
@@ -136,5 +179,6 @@ int main(void)
     say("delete the region, its map mended", scm_region_delete(&manager, region));
     say("create it again", scm_region_create(&manager, 1, 4, 1020, 64, SC_PRIORITY));
     say("get by the old id", scm_region_get_segment(&manager, region, 64, SC_NO_WAIT, 0, 0, 0));
+    gauges();
     return 0;
 }

@@ -22,23 +22,24 @@
  * generation 65,535 is spent and is not used again.
  *
  * What the functions can't tell, and the caller must see to: each pointer is valid for the length
- * passed with it (not null, unless the length is 0) and aligned to 4 bytes, and no two buffers of
- * one call overlap. Calls on one record must not run at the same time. Everything else is checked,
- * each time: the functions are proved for every content and length of the buffers and for every
- * argument.
+ * passed with it (not null, unless the length is 0) and aligned to 4 bytes, a gauge's words to 8,
+ * and no two buffers of one call overlap. Calls on one record must not run at the same time.
+ * Everything else is checked, each time: the functions are proved for every content and length of
+ * the buffers and for every argument.
  *
- * Every function but the reads returns a status. With any other status than SC_SUCCESSFUL and
- * SC_WAITING no word of record and memory is changed, and the answer is all zeros (but see
- * scm_region_resize_segment). Any function that returns a status may return SC_INTERNAL_ERROR: the
- * record and memory are damaged or have the wrong lengths, the answer is too short, or an argument
- * is no choice. With words that can be no record (another length, or a region's order above 3), a
- * short answer or no choice, the answer too is left as it was.
+ * Every function but the reads of a segment returns a status. With any other status than
+ * SC_SUCCESSFUL and SC_WAITING no word of record and memory is changed, and the answer is all zeros
+ * (but see scm_region_resize_segment). Any function that returns a status may return
+ * SC_INTERNAL_ERROR: the record and memory are damaged or have the wrong lengths, the answer is too
+ * short, or an argument is no choice. With words that can be no record (another length, or a
+ * region's order above 3), a short answer or no choice, the answer too is left as it was.
  */
 #ifndef STEEPLECLAY_H
 #define STEEPLECLAY_H
 
 #include <stddef.h>
 #include <stdint.h>
+#include <string.h>
 
 #ifdef __cplusplus
 extern "C" {
@@ -93,7 +94,7 @@ extern "C" {
 #define SC_TIMEOUT 6u           /* RTEMS_TIMEOUT: in a notice */
 #define SC_INVALID_SIZE 8u      /* RTEMS_INVALID_SIZE: a size, length or page size not allowed */
 #define SC_INVALID_ADDRESS 9u   /* RTEMS_INVALID_ADDRESS: area not allowed, or nothing held there */
-#define SC_INVALID_NUMBER 10u   /* RTEMS_INVALID_NUMBER: waiting task not 1 to SC_TASKS */
+#define SC_INVALID_NUMBER 10u   /* RTEMS_INVALID_NUMBER: waiting task not 1 to SC_TASKS; a gauge */
 #define SC_RESOURCE_IN_USE 12u  /* RTEMS_RESOURCE_IN_USE: delete with something held */
 #define SC_UNSATISFIED 13u      /* RTEMS_UNSATISFIED: no room now */
 #define SC_INCORRECT_STATE 14u  /* RTEMS_INCORRECT_STATE: the task waits already */
@@ -101,14 +102,17 @@ extern "C" {
 #define SC_INTERNAL_ERROR 25u   /* RTEMS_INTERNAL_ERROR: see above */
 #define SC_WAITING 255u         /* no refusal: the task waits, and hears by a later notice */
 
-/* Choices: how a region is cut and the order of its queue, and whether a get may wait. Any other
- * number is answered SC_INTERNAL_ERROR. */
+/* Choices: how a region is cut and the order of its queue, whether a get may wait, and what an
+ * alarm sounds at. Any other number is answered SC_INTERNAL_ERROR. */
 #define SC_FIFO 0u            /* by pages; the queue by arrival .. */
 #define SC_PRIORITY 1u        /* .. or by priority, 1 first, equal ones by arrival */
 #define SC_FIFO_HALVES 2u     /* by halves; the queue by arrival .. */
 #define SC_PRIORITY_HALVES 3u /* .. or by priority */
 #define SC_NO_WAIT 0u
 #define SC_WAIT 1u
+#define SC_ABOVE 0u   /* an alarm of a gauge: above a limit, .. */
+#define SC_BELOW 1u   /* .. below it, .. */
+#define SC_OUTSIDE 2u /* .. or outside it and a high one */
 
 /*
  * What is linked: the directives over three buffers, each with its length in words. scm_X, below,
@@ -141,6 +145,14 @@ size_t sc_segment_read(const uint32_t *record, size_t record_words, const uint32
 uint32_t sc_segment_write(const uint32_t *record, size_t record_words, uint32_t *memory,
                           size_t memory_words, const uint32_t *words, size_t words_count,
                           uint32_t id, uint32_t address, uint32_t first);
+
+/* Over a gauge's words: SC_GAUGE_WORDS of them, the bits of its fills. The limits are bits too. */
+#define SC_GAUGE_WORDS 2u
+uint32_t sc_gauge_read(uint64_t *words, uint32_t *sounds, uint32_t alarm, uint64_t limit,
+                       uint64_t high, uint32_t held, uint32_t total);
+uint32_t sc_gauge_read_information(uint64_t *words, uint32_t *sounds, uint32_t alarm,
+                                   uint64_t limit, uint64_t high, const uint32_t *answer,
+                                   size_t answer_words);
 
 /* What the caller keeps. */
 typedef struct sc_manager {
@@ -307,6 +319,62 @@ static inline uint32_t scm_segment_write(const sc_manager *m, const uint32_t *wo
 }
 
 #undef SC_OF
+
+/*
+ * A gauge: how full a region is, and an alarm. It knows no manager: it is handed numbers.
+ */
+
+/* What the caller keeps of a gauge. All zeros is a fresh one. A fill goes from 0, nothing held, to
+ * 1, all held. (The linked functions have the bits of these doubles in words: so what is proved of
+ * them is said of every bit, those of a NaN included, and doesn't turn on how a compiler passes
+ * doubles.) */
+typedef struct sc_gauge {
+    double last;     /* the fill at the last reading .. */
+    double smoothed; /* .. and the smoothed one; both kept between readings */
+    uint32_t sounds; /* 1 where the alarm sounded at the last reading, else 0 */
+} sc_gauge;
+
+static inline uint64_t sc_bits_of(double number)
+{
+    uint64_t bits;
+    memcpy(&bits, &number, sizeof bits);
+    return bits;
+}
+
+/* Reads the gauge: `held` of `total` bytes are held. The fill is held / total, and exactly 0 and 1
+ * at the ends; the smoothed fill s becomes s + (fill - s) * 0.25. The alarm then sounds where the
+ * smoothed fill is above `limit` (SC_ABOVE), below it (SC_BELOW), or below `limit` or above `high`
+ * (SC_OUTSIDE; else `high` isn't read). At a limit it is silent. Limits may be infinite.
+ * SC_INVALID_NUMBER leaves the fills as they were and the alarm silent: a limit is a NaN, `limit`
+ * is above `high`, a kept fill is no number from 0 to 1, `total` is 0, or `held` is above `total`.
+ * Fills that only these functions wrote are from 0 to 1. SC_INTERNAL_ERROR changes nothing.
+ * Statuses: SC_SUCCESSFUL, SC_INVALID_NUMBER. */
+static inline uint32_t scm_gauge_read(sc_gauge *gauge, uint32_t alarm, double limit, double high,
+                                      uint32_t held, uint32_t total)
+{
+    uint64_t words[SC_GAUGE_WORDS] = {sc_bits_of(gauge->last), sc_bits_of(gauge->smoothed)};
+    const uint32_t status = sc_gauge_read(words, &gauge->sounds, alarm, sc_bits_of(limit),
+                                          sc_bits_of(high), held, total);
+    memcpy(&gauge->last, &words[0], sizeof words[0]);
+    memcpy(&gauge->smoothed, &words[1], sizeof words[1]);
+    return status;
+}
+
+/* Reads the gauge by the manager's answer, if the call before was scm_region_get_information: the
+ * held total, and the sum of both totals. The answers of other calls have totals of 0, which is
+ * SC_INVALID_NUMBER.
+ * Statuses: SC_SUCCESSFUL, SC_INVALID_NUMBER. */
+static inline uint32_t scm_gauge_read_information(sc_gauge *gauge, uint32_t alarm, double limit,
+                                                  double high, const sc_manager *m)
+{
+    uint64_t words[SC_GAUGE_WORDS] = {sc_bits_of(gauge->last), sc_bits_of(gauge->smoothed)};
+    const uint32_t status =
+        sc_gauge_read_information(words, &gauge->sounds, alarm, sc_bits_of(limit),
+                                  sc_bits_of(high), m->answer, SC_ANSWER_WORDS);
+    memcpy(&gauge->last, &words[0], sizeof words[0]);
+    memcpy(&gauge->smoothed, &words[1], sizeof words[1]);
+    return status;
+}
 
 #ifdef __cplusplus
 }

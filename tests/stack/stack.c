@@ -30,6 +30,10 @@ static const uint32_t start = 60004, length = 1020, page = 8;
 static const uint32_t task = 16, priority = 9, ticks = 9, first = 0;
 static uint32_t words[4];
 static const size_t words_count = 4;
+static sc_gauge gauge;
+static uint32_t alarm;
+static const double limit = 0.25, high = 0.75;
+static const uint32_t total = 65536;
 
 #define KINDS 7     /* of records */
 #define ARGUMENTS 3 /* and of arguments */
@@ -44,6 +48,7 @@ static void choose(uint32_t arguments)
     address = arguments == 2 ? buffer : held;
     size = arguments == 0 ? 12 : 9;
     wait = arguments == 0 ? SC_NO_WAIT : SC_WAIT;
+    alarm = arguments; /* above, below, outside */
 }
 
 /* The calls. */
