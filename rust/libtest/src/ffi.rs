@@ -1,6 +1,7 @@
 //! The library under test, through the functions of its header.
 
 use crate::call::{Buffers, Call, Library};
+use crate::gauge::{Alarm, Gauge};
 use std::ptr;
 
 /// Declares the functions of the table and calls the one of a call. All but
@@ -80,6 +81,26 @@ extern "C" {
         address: u32,
         first: u32,
     ) -> u32;
+
+    fn sc_gauge_read(
+        words: *mut u64,
+        sounds: *mut u32,
+        alarm: u32,
+        limit: u64,
+        high: u64,
+        held: u32,
+        total: u32,
+    ) -> u32;
+
+    fn sc_gauge_read_information(
+        words: *mut u64,
+        sounds: *mut u32,
+        alarm: u32,
+        limit: u64,
+        high: u64,
+        answer: *const u32,
+        answer_words: usize,
+    ) -> u32;
 }
 
 /// The pointer to pass for a slice: the header allows null for no words.
@@ -151,6 +172,54 @@ impl Library for Linked {
                 ref words,
             } => write(buffers, words, id, address, first) as usize,
             _ => directive(buffers, call) as usize,
+        }
+    }
+}
+
+impl Gauge for Linked {
+    fn read(
+        &mut self,
+        words: &mut [u64; 2],
+        sounds: &mut u32,
+        alarm: Alarm,
+        held: u32,
+        total: u32,
+    ) -> u32 {
+        let Alarm {
+            number,
+            limit,
+            high,
+        } = alarm;
+        // SAFETY: the first pointer is of two words, as many as a gauge has, and
+        // the second of one. They don't overlap, as both are borrowed for
+        // writing.
+        unsafe { sc_gauge_read(words.as_mut_ptr(), sounds, number, limit, high, held, total) }
+    }
+
+    fn read_information(
+        &mut self,
+        words: &mut [u64; 2],
+        sounds: &mut u32,
+        alarm: Alarm,
+        answer: &[u32],
+    ) -> u32 {
+        let Alarm {
+            number,
+            limit,
+            high,
+        } = alarm;
+        // SAFETY: as above; the pointer to the answer comes from a slice of the
+        // length that is passed with it, which is only read and overlaps neither.
+        unsafe {
+            sc_gauge_read_information(
+                words.as_mut_ptr(),
+                sounds,
+                number,
+                limit,
+                high,
+                pointer(answer),
+                answer.len(),
+            )
         }
     }
 }

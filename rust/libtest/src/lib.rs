@@ -12,6 +12,7 @@
 //! - [`compare`]: runs made-up calls and compares every word with the model.
 //! - [`generations`]: the same with ids of every generation.
 //! - [`tally`]: counts what occurred.
+//! - [`gauge`]: made-up readings of a gauge, compared with plain code.
 //! - `ffi` (feature `archive`): the library under test.
 
 pub mod call;
@@ -19,6 +20,7 @@ pub mod compare;
 pub mod damage;
 #[cfg(feature = "archive")]
 pub mod ffi;
+pub mod gauge;
 pub mod generations;
 pub mod lists;
 pub mod plain;
