@@ -23,9 +23,10 @@
  *
  * What the functions can't tell, and the caller must see to: each pointer is valid for the length
  * passed with it (not null, unless the length is 0) and aligned to 4 bytes, a gauge's words to 8,
- * and no two buffers of one call overlap. Calls on one record must not run at the same time.
- * Everything else is checked, each time: the functions are proved for every content and length of
- * the buffers and for every argument.
+ * and no two buffers of one call overlap. Calls on one record must not run at the same time. Where
+ * a gauge is read, the floating-point environment is the one that C programs start in: to nearest,
+ * with subnormal numbers. Everything else is checked, each time: the functions are proved for every
+ * content and length of the buffers and for every argument.
  *
  * Every function but the reads of a segment returns a status. With any other status than
  * SC_SUCCESSFUL and SC_WAITING no word of record and memory is changed, and the answer is all zeros
