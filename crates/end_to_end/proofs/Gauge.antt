@@ -9,9 +9,10 @@ use lib.Dec.{leb}
 use lib.ListN.{length, getD}
 use lib.Ieee.{binary64, ofBits, toBits}
 use lib.Ieee.Bits.{ofBits-toBits}
-use Rattle.gauge.specs.Gauge.{fresh, fillOf, wrong, refused, taken, moved, reading}
+use Rattle.gauge.specs.Gauge.{fresh, wrong, reading}
 use Rattle.gauge.specs.Readings.{Asked, answer, after}
 use Rattle.gauge.specs.declared.Gauge.{Gauge}
+use Rattle.gauge.proofs.Laws.Fills.{answered}
 use Rattle.gauge.proofs.Laws.Smoothing.{fill-fits}
 use Rattle.gauge.proofs.Claims.{Kept, fresh-kept, answer-kept, kept}
 use Rattle.firmware.specs.Exported.{noticesAt}
@@ -29,8 +30,8 @@ left-words : (g : Gauge) (r : Asked) → left (gaugeWords g) (answer g r) .words
 unfolding left reading gaugeWords
 left-words g r = go (wrong g (r .alarm) (r .held) (r .total))
   where
-    go : (b : Bool) → left (gaugeWords g) (cond b (refused g) (taken (r .alarm) (moved g (fillOf (r .held) (r .total))))) .words
-        ≡ gaugeWords (cond b (refused g) (taken (r .alarm) (moved g (fillOf (r .held) (r .total)))) .gauge)
+    go : (b : Bool) → left (gaugeWords g) (answered g (r .alarm) (r .held) (r .total) b) .words
+        ≡ gaugeWords (answered g (r .alarm) (r .held) (r .total) b .gauge)
     go true = refl
     go false = refl
 

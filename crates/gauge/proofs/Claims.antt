@@ -1,5 +1,5 @@
--- The claims of every list of readings, proved. A gauge from a fresh one keeps two fills: 0 is one, an unrefused reading makes two new ones,
--- and a refused reading leaves both as they were. Assumes nothing.
+-- The claims of every reading and of every list of readings, proved. A gauge from a fresh one keeps two fills: 0 is one, an unrefused
+-- reading makes two new ones, and a refused reading leaves both as they were. Assumes nothing.
 use Prim.Native.Nat.{ℕ, _+_, _*_, _^_, _≤_, _<_}
 use mathlib.Core.Path.{_≡_, refl, sym, ap, _∙_, subst}
 use mathlib.Core.Logic.{_⊎_, inl, inr}
@@ -16,19 +16,41 @@ use Rattle.manager.specs.Record.{regionOf}
 use Rattle.manager.specs.Region.{dead, pagesOf, helds}
 use Rattle.manager.specs.Regions.{regionInformation}
 use Rattle.manager.specs.Sound.{sound}
+use Rattle.manager.specs.Status.{numberOf}
 use Rattle.manager.specs.declared.Information.{Information}
 use Rattle.manager.specs.declared.Manager.{Manager}
 use Rattle.manager.specs.declared.Status.the-variants.{Successful, InvalidNumber}
-use Rattle.gauge.specs.Gauge.{fresh, fillOf, smoothedBy, isFill, wrongLimits, wrong, refused, taken, moved, reading, readingOf}
+use Rattle.gauge.specs.Gauge.{fresh, fillOf, smoothedBy, isFill, wrongLimits, wrong, moved, reading, readingOf}
 use Rattle.gauge.specs.Readings.{Asked, answer, after, wrongAsked, onTheWay, Claims}
 use Rattle.gauge.specs.declared.Alarm.{Alarm}
 use Rattle.gauge.specs.declared.Gauge.{Gauge}
 use Rattle.gauge.specs.declared.Reading.{Reading}
 use Rattle.gauge.proofs.Laws.Rounding.{le-or-lt, le-of-order}
 use Rattle.gauge.proofs.Laws.Smoothing.{Fill, Between, smooth, smooth-between, fill-fits}
-use Rattle.gauge.proofs.Laws.Fills.{zero-fill, fillOf-fill, smoothedBy-is, smoothedBy-fill, fill-passes, unrefused, Unrefused}
+use Rattle.gauge.proofs.Laws.Fills.{zero-fill, fillOf-fill, smoothedBy-is, smoothedBy-fill, fill-passes, unrefused, Unrefused, answered}
 use Rattle.gauge.proofs.Laws.Ends.{fill-rounded}
 use Rattle.gauge.proofs.Laws.Totals.{both-totals, some-bytes, few-bytes, by-pages}
+
+-- ---- any reading
+any-answer : (g : Gauge) (a : Alarm) (held total : ℕ) → reading g a held total .status ≡ cond (wrong g a held total) InvalidNumber Successful
+unfolding reading
+any-answer g a held total = go (wrong g a held total)
+  where
+    go : (b : Bool) → answered g a held total b .status ≡ cond b InvalidNumber Successful
+    go true = refl
+    go false = refl
+
+no-refusal : Successful ≡ InvalidNumber → ⊥
+no-refusal e = let z : _≡_ {A = ℕ} (numberOf Successful) (numberOf InvalidNumber) = ap numberOf e in omega arith
+
+any-refusal : (g : Gauge) (a : Alarm) (held total : ℕ) → reading g a held total .status ≡ InvalidNumber
+    → (reading g a held total .gauge ≡ g) × (reading g a held total .sounds ≡ false)
+unfolding reading
+any-refusal g a held total e = go (wrong g a held total) e
+  where
+    go : (b : Bool) → answered g a held total b .status ≡ InvalidNumber → (answered g a held total b .gauge ≡ g) × (answered g a held total b .sounds ≡ false)
+    go true e = (refl, refl)
+    go false e = absurd (no-refusal e)
 
 -- ---- what is kept
 pub record Kept (g : Gauge) : Type 0 where
@@ -45,9 +67,8 @@ moved-kept g r k p =
     let s : T (fits binary64 (g .smoothed)) = fill-fits binary64 (g .smoothed) (k .smoothed) in
     record { last = x; smoothed = smoothedBy-fill (g .smoothed) (fillOf (r .held) (r .total)) s (u .smoothed) x }
 
--- a reading, by what `wrong` says
 abbrev at : (g : Gauge) (r : Asked) (b : Bool) → Reading
-at g r b = cond b (refused g) (taken (r .alarm) (moved g (fillOf (r .held) (r .total))))
+at g r b = answered g (r .alarm) (r .held) (r .total) b
 
 pub answer-kept : (g : Gauge) (r : Asked) → Kept g → Kept (answer g r .gauge)
 unfolding reading
@@ -72,13 +93,8 @@ wrong-is g r k =
     both-pass (isFill (g .last)) (isFill (g .smoothed)) (wrongLimits (r .alarm)) (eqb (r .total) 0 || ltb (r .total) (r .held))
     (fill-passes (g .last) (k .last)) (fill-passes (g .smoothed) (k .smoothed))
 
-status-is : (g : Gauge) (r : Asked) (b : Bool) → at g r b .status ≡ cond b InvalidNumber Successful
-status-is g r true = refl
-status-is g r false = refl
-
 answer-status : (g : Gauge) (r : Asked) → Kept g → answer g r .status ≡ cond (wrongAsked r) InvalidNumber Successful
-unfolding reading
-answer-status g r k = ap (λ (b : Bool). at g r b .status) (wrong-is g r k) ∙ status-is g r (wrongAsked r)
+answer-status g r k = any-answer g (r .alarm) (r .held) (r .total) ∙ ap (λ (b : Bool). cond b InvalidNumber Successful) (wrong-is g r k)
 
 -- ---- the way of the smoothed fill
 or-l : (a b : Bool) → T a → T (a || b)
@@ -168,6 +184,8 @@ kept l = after-kept l fresh fresh-kept
 
 pub claims : Claims
 claims = record {
+  answers = any-answer;
+  unchanged = any-refusal;
   rounded = fill-rounded;
   fills = λ (l : List Asked). both-fills (after fresh l) (kept l);
   refuses = λ (l : List Asked) (r : Asked). answer-status (after fresh l) r (kept l);

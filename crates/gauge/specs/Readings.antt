@@ -1,4 +1,4 @@
--- WHAT IS CLAIMED of every list of readings from a fresh gauge, refused ones included. Assumes nothing.
+-- WHAT IS CLAIMED of every reading of any gauge, and of every list of readings from a fresh one, refused ones included. Assumes nothing.
 use Prim.Native.Nat.{ℕ, _^_, _≤_, _<_}
 use mathlib.Core.Path.{_≡_}
 use mathlib.Core.Bool.{Bool, true, false, cond, _&&_, _||_}
@@ -12,7 +12,7 @@ use Rattle.manager.specs.Regions.{regionInformation}
 use Rattle.manager.specs.Sound.{sound}
 use Rattle.manager.specs.declared.Manager.{Manager}
 use Rattle.manager.specs.declared.Status.the-variants.{Successful, InvalidNumber}
-use Rattle.gauge.specs.Gauge.{fresh, fillOf, isFill, wrongLimits, reading, readingOf}
+use Rattle.gauge.specs.Gauge.{fresh, fillOf, isFill, wrongLimits, wrong, reading, readingOf}
 use Rattle.gauge.specs.declared.Alarm.{Alarm}
 use Rattle.gauge.specs.declared.Gauge.{Gauge}
 use Rattle.gauge.specs.declared.Reading.{Reading}
@@ -41,6 +41,11 @@ abbrev pub onTheWay : Float → Float → Float → Bool
 onTheWay s x y = (le s y && le y x) || (le x y && le y s)
 
 pub record Claims : Type 0 where
+  -- whatever gauge and numbers it is given, a reading is answered 0 or 10
+  pub answers : (g : Gauge) (a : Alarm) (held total : ℕ) → reading g a held total .status ≡ cond (wrong g a held total) InvalidNumber Successful
+  -- and 10 leaves the gauge as it was, and the alarm silent
+  pub unchanged : (g : Gauge) (a : Alarm) (held total : ℕ) → reading g a held total .status ≡ InvalidNumber
+      → (reading g a held total .gauge ≡ g) × (reading g a held total .sounds ≡ false)
   -- the fill is the fraction rounded once, and at both ends no other number than a division would give
   pub rounded : (held total : ℕ) → 0 < total → held ≤ total → total ≤ 2 ^ 53 → fillOf held total ≡ round binary64 false held total
   -- both kept fills are numbers from 0 to 1

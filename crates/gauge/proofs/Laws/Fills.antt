@@ -206,8 +206,8 @@ pub record Numbers (r : Reading) : Type 0 where
   pub last : T (not (isNan (r .gauge .last)))
   pub smoothed : T (not (isNan (r .gauge .smoothed)))
 
--- by what `wrong` says
-abbrev answered : Gauge → Alarm → ℕ → ℕ → Bool → Reading
+-- a reading, by what `wrong` says
+abbrev pub answered : Gauge → Alarm → ℕ → ℕ → Bool → Reading
 answered g a held total b = cond b (refused g) (taken a (moved g (fillOf held total)))
 
 pub taken-numbers : (g : Gauge) (a : Alarm) (held total : ℕ) → total ≤ 2 ^ 53 → T (fits binary64 (g .smoothed))
