@@ -147,7 +147,8 @@ uint32_t sc_segment_write(const uint32_t *record, size_t record_words, uint32_t 
                           size_t memory_words, const uint32_t *words, size_t words_count,
                           uint32_t id, uint32_t address, uint32_t first);
 
-/* Over a gauge's words: SC_GAUGE_WORDS of them, the bits of its fills. The limits are bits too. */
+/* Over a gauge's words: SC_GAUGE_WORDS of them, the bits of its fills. The limits are bits too, and
+ * one word says whether the alarm sounds, 1 or 0. */
 #define SC_GAUGE_WORDS 2u
 uint32_t sc_gauge_read(uint64_t *words, uint32_t *sounds, uint32_t alarm, uint64_t limit,
                        uint64_t high, uint32_t held, uint32_t total);
