@@ -1,5 +1,5 @@
 -- WRONG GAUGES: each is wrong in one rule, and for each there is a reading that it answers otherwise than the definition. So no code that
--- does as one of them meets the contract of `read`. Assumes nothing.
+-- does as one of them meets the contract of `read`, and none that does as the ninth that of `read_information`. Assumes nothing.
 use Prim.Native.Nat.{ℕ, _+_, _*_, _%_, _^_}
 use mathlib.Core.Path.{_≡_, refl, sym, ap, _∙_}
 use mathlib.Core.Bool.{Bool, true, false, cond, not, _||_, true≢false}
