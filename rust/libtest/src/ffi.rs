@@ -1,7 +1,7 @@
 //! The library under test, through the functions of its header.
 
 use crate::call::{Buffers, Call, Library};
-use crate::gauge::{Alarm, Gauge};
+use crate::gauge::{Alarm, Gauge, Numbers};
 use std::ptr;
 
 /// Declares the functions of the table and calls the one of a call. All but
@@ -182,9 +182,9 @@ impl Gauge for Linked {
         words: &mut [u64; 2],
         sounds: &mut u32,
         alarm: Alarm,
-        held: u32,
-        total: u32,
+        numbers: &Numbers,
     ) -> u32 {
+        let words = words.as_mut_ptr();
         let Alarm {
             number,
             limit,
@@ -192,34 +192,23 @@ impl Gauge for Linked {
         } = alarm;
         // SAFETY: the first pointer is of two words, as many as a gauge has, and
         // the second of one. They don't overlap, as both are borrowed for
-        // writing.
-        unsafe { sc_gauge_read(words.as_mut_ptr(), sounds, number, limit, high, held, total) }
-    }
-
-    fn read_information(
-        &mut self,
-        words: &mut [u64; 2],
-        sounds: &mut u32,
-        alarm: Alarm,
-        answer: &[u32],
-    ) -> u32 {
-        let Alarm {
-            number,
-            limit,
-            high,
-        } = alarm;
-        // SAFETY: as above; the pointer to the answer comes from a slice of the
-        // length that is passed with it, which is only read and overlaps neither.
+        // writing. The pointer to an answer comes from a slice of the length that
+        // is passed with it, which is only read and overlaps neither.
         unsafe {
-            sc_gauge_read_information(
-                words.as_mut_ptr(),
-                sounds,
-                number,
-                limit,
-                high,
-                pointer(answer),
-                answer.len(),
-            )
+            match numbers {
+                Numbers::Bytes { held, total } => {
+                    sc_gauge_read(words, sounds, number, limit, high, *held, *total)
+                }
+                Numbers::Answer(answer) => sc_gauge_read_information(
+                    words,
+                    sounds,
+                    number,
+                    limit,
+                    high,
+                    pointer(answer),
+                    answer.len(),
+                ),
+            }
         }
     }
 }

@@ -41,23 +41,13 @@ pub struct Alarm {
 
 /// The functions of the library's header that read a gauge.
 pub trait Gauge {
-    /// Reads a gauge by held and total bytes, and gives the status.
+    /// Reads a gauge by the function of these numbers, and gives the status.
     fn read(
         &mut self,
         words: &mut [u64; 2],
         sounds: &mut u32,
         alarm: Alarm,
-        held: u32,
-        total: u32,
-    ) -> u32;
-
-    /// Reads a gauge by the information in an answer, and gives the status.
-    fn read_information(
-        &mut self,
-        words: &mut [u64; 2],
-        sounds: &mut u32,
-        alarm: Alarm,
-        answer: &[u32],
+        numbers: &Numbers,
     ) -> u32;
 }
 
@@ -101,18 +91,10 @@ pub struct Left {
 }
 
 impl Reading {
-    /// Makes the reading on these words, and gives the status.
-    pub fn make(&self, gauge: &mut impl Gauge, words: &mut [u64; 2], sounds: &mut u32) -> u32 {
-        match &self.numbers {
-            Numbers::Bytes { held, total } => gauge.read(words, sounds, self.alarm, *held, *total),
-            Numbers::Answer(answer) => gauge.read_information(words, sounds, self.alarm, answer),
-        }
-    }
-
     /// What the reading leaves by a gauge.
     pub fn by(&self, gauge: &mut impl Gauge) -> Left {
         let (mut words, mut sounds) = (self.words, self.sounds);
-        let status = self.make(gauge, &mut words, &mut sounds);
+        let status = gauge.read(&mut words, &mut sounds, self.alarm, &self.numbers);
         Left {
             status,
             words,
@@ -157,30 +139,12 @@ impl Gauge for Plain {
         words: &mut [u64; 2],
         sounds: &mut u32,
         alarm: Alarm,
-        held: u32,
-        total: u32,
+        numbers: &Numbers,
     ) -> u32 {
-        observe(words, sounds, alarm, held, u64::from(total))
-    }
-
-    fn read_information(
-        &mut self,
-        words: &mut [u64; 2],
-        sounds: &mut u32,
-        alarm: Alarm,
-        answer: &[u32],
-    ) -> u32 {
-        if answer.len() < NOTICES_AT {
-            return status::INTERNAL_ERROR;
+        match numbers.held_and_total() {
+            Some((held, total)) => observe(words, sounds, alarm, held, total),
+            None => status::INTERNAL_ERROR,
         }
-        let (free, held) = (answer[FREE_TOTAL], answer[HELD_TOTAL]);
-        observe(
-            words,
-            sounds,
-            alarm,
-            held,
-            u64::from(free) + u64::from(held),
-        )
     }
 }
 
@@ -246,7 +210,7 @@ fn sounds_at(alarm: Alarm, s: f64) -> bool {
 
 /// Words around those of a reading that the gauge must not touch.
 const GUARD: u32 = 0xa5c3_96e1;
-const GUARD_WIDE: u64 = 0xa5c3_96e1_5a3c_691e;
+const GUARDS: [u64; 2] = [0xa5c3_96e1_5a3c_691e; 2];
 
 /// Compares a gauge with the plain code, and counts.
 pub struct Comparison<'a, G: Gauge> {
@@ -296,16 +260,43 @@ impl<'a, G: Gauge> Comparison<'a, G> {
 
     /// What the reading leaves, and whether all words around it are untouched.
     fn guarded(&mut self, reading: &Reading) -> (Left, bool) {
-        let [last, smoothed] = reading.words;
-        let mut words = [[GUARD_WIDE; 2], [last, smoothed], [GUARD_WIDE; 2]];
+        let mut words = [GUARDS, reading.words, GUARDS];
         let mut sounds = [GUARD, reading.sounds, GUARD];
-        let status = reading.make(self.gauge, &mut words[1], &mut sounds[1]);
+        let Reading { alarm, numbers, .. } = reading;
+        let status = self
+            .gauge
+            .read(&mut words[1], &mut sounds[1], *alarm, numbers);
         let left = Left {
             status,
             words: words[1],
             sounds: sounds[1],
         };
-        let around = words[0] == [GUARD_WIDE; 2] && words[2] == [GUARD_WIDE; 2];
-        (left, around && sounds[0] == GUARD && sounds[2] == GUARD)
+        (left, are_untouched(&words, &sounds))
+    }
+}
+
+/// Whether the words around those of a reading are as they were.
+fn are_untouched(words: &[[u64; 2]; 3], sounds: &[u32; 3]) -> bool {
+    words[0] == GUARDS && words[2] == GUARDS && sounds[0] == GUARD && sounds[2] == GUARD
+}
+
+#[cfg(test)]
+mod tests {
+    use super::*;
+
+    #[test]
+    fn a_word_written_outside_is_seen() {
+        let (words, sounds) = ([GUARDS, [0, 0], GUARDS], [GUARD, 0, GUARD]);
+        assert!(are_untouched(&words, &sounds));
+        for (part, at) in [(0, 0), (0, 1), (2, 0), (2, 1)] {
+            let mut words = words;
+            words[part][at] ^= 1;
+            assert!(!are_untouched(&words, &sounds));
+        }
+        for at in [0, 2] {
+            let mut sounds = sounds;
+            sounds[at] ^= 1;
+            assert!(!are_untouched(&words, &sounds));
+        }
     }
 }

@@ -36,45 +36,22 @@ fn what_never_occurs_is_told() {
 /// A gauge with a fault: what a reading leaves by it.
 struct Faulty<F>(F);
 
-impl<F: FnMut(&Reading) -> Left> Faulty<F> {
-    fn make(
-        &mut self,
-        words: &mut [u64; 2],
-        sounds: &mut u32,
-        alarm: Alarm,
-        numbers: Numbers,
-    ) -> u32 {
-        let left = (self.0)(&Reading {
-            words: *words,
-            sounds: *sounds,
-            alarm,
-            numbers,
-        });
-        (*words, *sounds) = (left.words, left.sounds);
-        left.status
-    }
-}
-
 impl<F: FnMut(&Reading) -> Left> Gauge for Faulty<F> {
     fn read(
         &mut self,
         words: &mut [u64; 2],
         sounds: &mut u32,
         alarm: Alarm,
-        held: u32,
-        total: u32,
+        numbers: &Numbers,
     ) -> u32 {
-        self.make(words, sounds, alarm, Numbers::Bytes { held, total })
-    }
-
-    fn read_information(
-        &mut self,
-        words: &mut [u64; 2],
-        sounds: &mut u32,
-        alarm: Alarm,
-        answer: &[u32],
-    ) -> u32 {
-        self.make(words, sounds, alarm, Numbers::Answer(answer.to_vec()))
+        let left = (self.0)(&Reading {
+            words: *words,
+            sounds: *sounds,
+            alarm,
+            numbers: numbers.clone(),
+        });
+        (*words, *sounds) = (left.words, left.sounds);
+        left.status
     }
 }
 
@@ -349,49 +326,6 @@ fn faults_of_numbers_are_found() {
             *held = (*held).min(*total);
         }
     });
-}
-
-/// A gauge that also writes outside its words.
-struct Outside {
-    words: bool,
-}
-
-impl Gauge for Outside {
-    fn read(
-        &mut self,
-        words: &mut [u64; 2],
-        sounds: &mut u32,
-        alarm: Alarm,
-        held: u32,
-        total: u32,
-    ) -> u32 {
-        // SAFETY: the comparison keeps guard words after both.
-        unsafe {
-            match self.words {
-                true => words.as_mut_ptr_range().end.write_volatile(0),
-                false => (sounds as *mut u32).add(1).write_volatile(0),
-            }
-        }
-        Plain.read(words, sounds, alarm, held, total)
-    }
-
-    fn read_information(
-        &mut self,
-        words: &mut [u64; 2],
-        sounds: &mut u32,
-        alarm: Alarm,
-        answer: &[u32],
-    ) -> u32 {
-        Plain.read_information(words, sounds, alarm, answer)
-    }
-}
-
-#[test]
-fn words_written_outside_are_found() {
-    for words in [false, true] {
-        let problem = run(&mut Outside { words }, 100).expect_err("nothing found");
-        assert!(problem.contains("written outside the words"), "{problem}");
-    }
 }
 
 /// A difference names the seed, the reading and all of its arguments.
