@@ -81,7 +81,7 @@ module _ (m : List ℕ) (d : Manager) where
       let r = newRegion (regionGeneration d slot) name start bytes page order in
       effects m d (CreateRegion name start bytes page order) _ _ refl refl (λ ok p.
       acts m d (CreateRegion name start bytes page order) ok _ refl refl (λ w.
-      subst (λ (x : Region). Only (MapWord x) m (withSegments m r (free+ (pagesOf r) []))) (sym (new-there d w slot r (p .1 .1 .1 .1 .1 .1 .1 .0) (eqb-false name 0 (p .0))))
+      subst (λ (x : Region). Only (MapWord x) m (withSegments m r (free+ (pagesOf r) []))) (sym (new-there d w slot r (p .1 .1 .1 .1 .1 .1 .1 .1 .0) (eqb-false name 0 (p .0))))
       (drawn-only m r (free+ (pagesOf r) []) (new-pages (pagesOf r)))))
 
   -- these change no word
@@ -267,13 +267,13 @@ module _ (m : List ℕ) (d : Manager) where
       let p = newPartition g name start bytes size in
       effects m d (CreatePartition name start bytes size) _ _ refl refl (λ ok c.
       acts m d (CreatePartition name start bytes size) ok _ refl refl (λ w.
-      let n = eqb-false start 0 (c .1 .0) in
-      let a = eqb-true (start % 4) 0 (not-false (eqb (start % 4) 0) (c .1 .1 .0)) in
-      let u = ltb-false (4 * length m) (start + bytes) (c .1 .1 .1 .0) in
-      let l = ltb-false bytes size (c .1 .1 .1 .1 .1 .1 .0) in
-      let v = eqb-true (size % 4) 0 (not-false (eqb (size % 4) 0) (c .1 .1 .1 .1 .1 .1 .1 .0)) in
-      let b = ltb-false size 8 (c .1 .1 .1 .1 .1 .1 .1 .1 .0) in
-      let s = leb-false slots slot (c .1 .1 .1 .1 .1 .1 .1 .1 .1 .1 .0) in
+      let n = eqb-false start 0 (c .1 .1 .0) in
+      let a = eqb-true (start % 4) 0 (not-false (eqb (start % 4) 0) (c .1 .1 .1 .0)) in
+      let u = ltb-false (4 * length m) (start + bytes) (c .1 .1 .1 .1 .0) in
+      let l = ltb-false bytes size (c .1 .1 .1 .1 .1 .1 .1 .0) in
+      let v = eqb-true (size % 4) 0 (not-false (eqb (size % 4) 0) (c .1 .1 .1 .1 .1 .1 .1 .1 .0)) in
+      let b = ltb-false size 8 (c .1 .1 .1 .1 .1 .1 .1 .1 .1 .0) in
+      let s = leb-false slots slot (c .1 .1 .1 .1 .1 .1 .1 .1 .1 .1 .1 .0) in
       let there =
       put-there (λ p. p .name) (λ p. p .generation) noPartition (d .partitions) slot s (omega (arith, w .partitions)) p g (eqb-false name 0 (c .0)) refl in
       subst (λ (x : Partition). Only (LinkWord (linkAll (buffers p) m p 0) x) m (linkAll (buffers p) m p 0)) (sym there)

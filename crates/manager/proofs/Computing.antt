@@ -14,7 +14,7 @@ use Rattle.manager.specs.Region.{regionAreas, partitionAreas}
 use Rattle.manager.specs.Queue.{goesBefore, push, insert, removeAt, enqueue, dequeue, staying, leaving, afterTick}
 use Rattle.manager.specs.Serve.{serveUpTo, serve, serveSlot, serveSlots, serveAll}
 use Rattle.manager.specs.Partition.{follow, linked, linkAll, afterGet, afterReturn}
-use Rattle.manager.specs.Sound.{liveRegion, livePartition, soundRegion, soundPartition, soundWaiter, soundPlace, soundQueue, sound}
+use Rattle.manager.specs.Sound.{liveRegion, livePartition, soundRegion, soundPartition, soundNames, soundWaiter, soundPlace, soundQueue, sound}
 use Rattle.manager.specs.Regions.{createRegion, deleteRegion, identRegion, getSegment, returnSegment, segmentSize, resizeSegment, regionInformation, tick}
 use Rattle.manager.specs.Partitions.{createPartition, identPartition, deletePartition, getBuffer, returnBuffer}
 use Rattle.manager.specs.Access.{readSegment, writeSegment}
@@ -29,7 +29,7 @@ unfolding blocks largest mostPages pageCount checked tasksTold every any indexOf
 maps = tt
 
 unfoldable pub records : Unit {0}
-unfolding slotOf generationOf idOf objectOf regionAreas partitionAreas goesBefore push insert removeAt enqueue dequeue staying leaving afterTick follow linked linkAll afterGet afterReturn liveRegion livePartition soundRegion soundPartition soundWaiter soundPlace soundQueue sound
+unfolding slotOf generationOf idOf objectOf regionAreas partitionAreas goesBefore push insert removeAt enqueue dequeue staying leaving afterTick follow linked linkAll afterGet afterReturn liveRegion livePartition soundRegion soundPartition soundNames soundWaiter soundPlace soundQueue sound
 records = tt
 
 unfoldable pub directives : Unit {0}

@@ -13,6 +13,7 @@ pub mod Kinds
 pub mod Sound
 pub mod Region
 pub mod Areas
+pub mod Names
 pub mod Partition
 pub mod Queue
 pub mod Serve

@@ -2,7 +2,7 @@
 -- Region A: start 4, length 1,020, page 64. Memory 16,384 words. Assumes nothing.
 use Prim.Native.Nat.{ℕ, _+_, _*_}
 use mathlib.Core.Bool.{Bool, true, false, _&&_}
-use mathlib.Core.List.{List, [], _∷_}
+use mathlib.Core.List.{List, [], _∷_, _++_}
 use lib.ListN.{replicate}
 use lib.Dec.{eqb}
 use Rattle.arith.specs.Layout.{mostPages, anyNumber, pageCount, firstPage}
@@ -12,7 +12,7 @@ use Rattle.manager.specs.Result.{Result}
 use Rattle.manager.specs.Region.{mapWords}
 use Rattle.manager.specs.Perform.{perform}
 use Rattle.manager.specs.declared.Call.{Call}
-use Rattle.manager.specs.declared.Call.the-variants.{CreateRegion, IdentRegion, DeleteRegion, GetSegment, ReturnSegment, ResizeSegment, CreatePartition, DeletePartition, GetBuffer, ReturnBuffer, Tick}
+use Rattle.manager.specs.declared.Call.the-variants.{CreateRegion, IdentRegion, DeleteRegion, GetSegment, ReturnSegment, ResizeSegment, CreatePartition, IdentPartition, DeletePartition, GetBuffer, ReturnBuffer, Tick}
 use Rattle.manager.specs.declared.Order.the-variants.{Fifo, HalvesFifo, HalvesPriority}
 use Rattle.manager.specs.declared.Wait.the-variants.{No, Yes}
 use Rattle.manager.specs.declared.Manager.{Manager}
@@ -68,6 +68,23 @@ a = step (CreateRegion 1 4 1020 64 Fifo) 0 1 []
 
 abbrev pub again : ℕ → Step
 again id = step (CreateRegion 1 4 1020 64 Fifo) 0 id []
+
+-- a region beside A, of a name
+abbrev pub beside : ℕ → ℕ → ℕ → Step
+beside name status value = step (CreateRegion name 1024 1020 64 Fifo) status value []
+
+-- a region in every slot, of names 1 to 8
+abbrev pub full : List Step
+full =
+    step (CreateRegion 1 4 60 32 Fifo) 0 1 []
+    ∷ step (CreateRegion 2 68 60 32 Fifo) 0 2 []
+    ∷ step (CreateRegion 3 132 60 32 Fifo) 0 3 []
+    ∷ step (CreateRegion 4 196 60 32 Fifo) 0 4 []
+    ∷ step (CreateRegion 5 260 60 32 Fifo) 0 5 []
+    ∷ step (CreateRegion 6 324 60 32 Fifo) 0 6 []
+    ∷ step (CreateRegion 7 388 60 32 Fifo) 0 7 []
+    ∷ step (CreateRegion 8 452 60 32 Fifo) 0 8 []
+    ∷ []
 
 -- 16 pages by halves, from 128 to 1,151
 abbrev pub h : Step
@@ -201,4 +218,36 @@ table =
     ∷ calls (h ∷ get 512 0 128 ∷ get 256 0 640 ∷ get 256 0 896 ∷ waits 3 512 ∷ return 640 0 [] ∷ return 896 0 (3 ∷ 0 ∷ 640 ∷ []) ∷ [])
     -- Three pages have four: a resize to four is 0, to two or to five 13.
     ∷ calls (h ∷ get 192 0 128 ∷ resize 128 256 0 256 [] ∷ resize 128 128 13 256 [] ∷ resize 128 257 13 256 [] ∷ [])
+    -- Request 6. A second region of A's name beside it: 3. Under another name: 0, and ident answers the one that has the name.
+    ∷ calls (a ∷ beside 1 3 0 ∷ beside 2 0 2 ∷ step (IdentRegion 1) 0 1 [] ∷ step (IdentRegion 2) 0 2 [] ∷ step (IdentRegion 3) 3 0 [] ∷ [])
+    -- The name is tested first: 3 with start 0, past the memory, with page 0 and 4,097, without a page, and where A is.
+    ∷ calls
+    (a
+    ∷ step (CreateRegion 1 0 1020 64 Fifo) 3 0 []
+    ∷ step (CreateRegion 1 65532 1020 64 Fifo) 3 0 []
+    ∷ step (CreateRegion 1 1024 1020 0 Fifo) 3 0 []
+    ∷ step (CreateRegion 1 1024 1020 4097 Fifo) 3 0 []
+    ∷ step (CreateRegion 1 1024 8 64 Fifo) 3 0 []
+    ∷ step (CreateRegion 1 4 1020 64 Fifo) 3 0 []
+    ∷ [])
+    -- Slot 1 is empty, and the new region would take it; slot 2 above it has the name: 3. The name of the deleted one may be had.
+    ∷ calls (a ∷ beside 2 0 2 ∷ remove 1 0 ∷ step (CreateRegion 2 4 1020 64 Fifo) 3 0 [] ∷ again 17 ∷ [])
+    -- A partition may have a region's name, and not another partition's, until that is deleted.
+    ∷ calls
+    (a
+    ∷ step (CreatePartition 1 1024 100 24) 0 1 []
+    ∷ step (CreatePartition 1 1124 100 24) 3 0 []
+    ∷ step (CreatePartition 1 0 100 24) 3 0 []
+    ∷ step (CreatePartition 2 1124 100 24) 0 2 []
+    ∷ step (DeletePartition 1) 0 0 []
+    ∷ step (CreatePartition 2 1024 100 24) 3 0 []
+    ∷ step (CreatePartition 1 1024 100 24) 0 17 []
+    ∷ step (IdentPartition 2) 0 2 []
+    ∷ [])
+    -- With every slot in use a new name is 5, and one in use 3.
+    ∷ calls
+    (full
+    ++ (step (CreateRegion 9 1024 128 64 Fifo) 5 0 []
+    ∷ step (CreateRegion 8 1024 128 64 Fifo) 3 0 []
+    ∷ []))
     ∷ []

@@ -14,7 +14,7 @@ use Rattle.manager.specs.declared.Manager.{Manager}
 use Rattle.manager.specs.declared.Partition.{Partition}
 use Rattle.manager.specs.declared.Status.the-variants.{InvalidName, InvalidId, TooMany, InvalidSize, InvalidAddress, ResourceInUse, Unsatisfied}
 
--- Create takes the lowest empty slot that isn't spent, ident the lowest with the name
+-- Create takes the lowest empty slot that isn't spent, ident the one with the name: in sound records no two live ones have it
 abbrev pub unspentPartition : Manager → ℕ
 unspentPartition d = indexOf (λ p. unspent (p .name) (p .generation)) (d .partitions)
 
@@ -43,14 +43,15 @@ newPartition generation name start bytes size =
       free = buffers p;
     }
 
--- create partition: 3, start 9, alignment 9, past memory 9, length or size 0 (8), length below size 8, size not a multiple of 4 or
--- below 8 (8), overlap 9, 5
+-- create partition: 3, a name that a live partition has 3, start 9, alignment 9, past memory 9, length or size 0 (8), length below size 8,
+-- size not a multiple of 4 or below 8 (8), overlap 9, 5
 unfoldable pub createPartition : List ℕ → Manager → ℕ → ℕ → ℕ → ℕ → Result
 createPartition m d name start bytes size =
     let slot = unspentPartition d in
     let p = newPartition (partitionGeneration d slot) name start bytes size in
     answered (sound m d) m d
     (check (eqb name 0) InvalidName
+    ∷ check (ltb (partitionNamed d name) slots) InvalidName
     ∷ check (eqb start 0) InvalidAddress
     ∷ check (not (eqb (start % 4) 0)) InvalidAddress
     ∷ check (pastMemory m start bytes) InvalidAddress

@@ -36,7 +36,7 @@ overlaps d a = any (overlap a) (areas d)
 abbrev pub pastMemory : List ℕ → ℕ → ℕ → Bool
 pastMemory m start bytes = ltb (4 * length m) (start + bytes)
 
--- Create takes the lowest empty slot that isn't spent, ident the lowest with the name
+-- Create takes the lowest empty slot that isn't spent, ident the one with the name: in sound records no two live ones have it
 abbrev pub unspentRegion : Manager → ℕ
 unspentRegion d = indexOf (λ r. unspent (r .name) (r .generation)) (d .regions)
 
@@ -50,7 +50,7 @@ regionGeneration d i = getD (d .regions) i noRegion .generation
 abbrev pub regionId : Manager → ℕ → ℕ
 regionId d i = idOf i (regionGeneration d i)
 
--- create region: 3, start 9, past memory 9, page 8, area 8, overlap 9, 5
+-- create region: 3, a name that a live region has 3, start 9, past memory 9, page 8, area 8, overlap 9, 5
 abbrev pub newRegion : ℕ → ℕ → ℕ → ℕ → ℕ → Order → Region
 newRegion generation name start bytes page order =
     record { name = name; generation = generation; start = start; length = bytes; page = roundUp page 8; order = order }
@@ -61,6 +61,7 @@ createRegion m d name start bytes page order =
     let r = newRegion (regionGeneration d slot) name start bytes page order in
     answered (sound m d) m d
     (check (eqb name 0) InvalidName
+    ∷ check (ltb (regionNamed d name) slots) InvalidName
     ∷ check (eqb start 0) InvalidAddress
     ∷ check (pastMemory m start bytes) InvalidAddress
     ∷ check (eqb page 0) InvalidSize

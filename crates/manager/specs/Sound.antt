@@ -69,6 +69,13 @@ soundRegion m r = soundGeneration (r .name) (r .generation) && cond (dead r) (em
 unfoldable pub soundPartition : List ℕ → Partition → Bool
 soundPartition m p = soundGeneration (p .name) (p .generation) && cond (deadPartition p) (emptyPartition p) (livePartition m p)
 
+-- "different names within a kind", of two of its slots by what their names are; an empty slot has none, and shares none
+abbrev pub otherName : {A : Type 0} → (A → ℕ) → A → A → Bool
+otherName name x y = eqb (name x) 0 || not (eqb (name x) (name y))
+
+unfoldable pub soundNames : Manager → Bool
+soundNames d = pairwise (otherName (λ r. r .name)) (d .regions) && pairwise (otherName (λ p. p .name)) (d .partitions)
+
 -- "no two overlapping (the whole asked area counts)"
 abbrev pub soundAreas : Manager → Bool
 soundAreas d = pairwise (λ a b. not (overlap a b)) (areas d)
@@ -113,7 +120,8 @@ sound m d =
     soundLength m
     && (every (soundRegion m) (d .regions)
     && (every (soundPartition m) (d .partitions)
-    && (soundAreas d && soundQueue m d)))
+    && (soundNames d
+    && (soundAreas d && soundQueue m d))))
 
 -- ---- what the functions of a directive ask of the region or the partition that they act on
 

@@ -1,3 +1,4 @@
 pub mod Fill
 pub mod Laws
 pub mod Live
+pub mod Names

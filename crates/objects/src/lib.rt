@@ -9,11 +9,11 @@ ghost use Prim.Native.Nat.{_+_, _*_, _<_, _≤_};
 ghost use lib.Dec.{ltb};
 ghost use lib.ListN.{drop, take};
 ghost use Rattle.manager.specs.Record.{slots, slotOf, generationOf, idOf, hasId, unspent, regionOf, partitionOf, withRegion, withPartition};
-ghost use Rattle.manager.specs.Lists.{every};
+ghost use Rattle.manager.specs.Lists.{every, pairwise};
 ghost use Rattle.manager.specs.Region.{regionAreas, areas, overlap};
 ghost use Rattle.manager.specs.Regions.{overlaps, unspentRegion, regionNamed};
 ghost use Rattle.manager.specs.Partitions.{unspentPartition, partitionNamed};
-ghost use Rattle.manager.specs.Sound.{soundAreas};
+ghost use Rattle.manager.specs.Sound.{otherName, soundNames, soundAreas};
 ghost use Rattle.objects.specs.Areas.{areaPlaces, nowhere, Gathers};
 
 // An id is slot + 16 x generation: its low part is the slot's number, from 1 on. Nothing but the three functions below knows this.
@@ -148,6 +148,50 @@ pub fn partition_named(d: Manager, name: u32) -> usize
         at = at + 1;
     }
     at
+}
+
+// Whether no two regions have one name: each that has a name is the first with it.
+fn region_names_differ(d: Manager) -> bool
+    ensures { λ b. ⌜ b ≡ pairwise (otherName (λ x. x .name)) (d .regions) ⌝ }
+{
+    let mut i: usize = 0;
+    while i < Manager::SLOTS {
+        let r = d.regions[i];
+        if r.name != 0 {
+            if region_named(d, r.name) < i {
+                return false;
+            }
+        }
+        i = i + 1;
+    }
+    true
+}
+
+// Whether no two partitions have one name: each that has a name is the first with it.
+fn partition_names_differ(d: Manager) -> bool
+    ensures { λ b. ⌜ b ≡ pairwise (otherName (λ x. x .name)) (d .partitions) ⌝ }
+{
+    let mut k: usize = 0;
+    while k < Manager::SLOTS {
+        let p = d.partitions[k];
+        if p.name != 0 {
+            if partition_named(d, p.name) < k {
+                return false;
+            }
+        }
+        k = k + 1;
+    }
+    true
+}
+
+// Whether no two objects of a kind have one name. A region and a partition may.
+pub fn names_differ(d: Manager) -> bool
+    ensures { λ r. ⌜ r ≡ soundNames d ⌝ }
+{
+    if !region_names_differ(d) {
+        return false;
+    }
+    partition_names_differ(d)
 }
 
 // The record with another region in a slot; as it was where there is no such slot.

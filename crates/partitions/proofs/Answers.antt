@@ -12,7 +12,7 @@ use lib.Dec.{eqb, ltb}
 use mir.Syntax.{w32}
 use mir.Val.{Fits}
 use borrow.Author.Needs.{fits-under}
-use borrow.Author.Tests.{eq-eqb, ne-eqb, le-leb, lt-leb, ltb-false, eqb-false, not-true, not-false}
+use borrow.Author.Tests.{eq-eqb, ne-eqb, le-leb, lt-leb, le-ltb, lt-ltb, ltb-false, eqb-false, not-true, not-false}
 use Rattle.manager.proofs.Laws.Appended.{or-first, or-second}
 use Rattle.manager.specs.Record.{slots, generations, slotOf, emptiedPartition, partitionOf, withPartition}
 use Rattle.manager.specs.Result.{Result, Performs, checked, answerOf, replied, refused, done}
@@ -243,38 +243,46 @@ module _ (m : List ℕ) (d : Manager) (name start bytes size : ℕ) (s : sound m
   unfolding createPartition checked
   create-nameless e = rw (s, eq-eqb _ _ e)
 
-  module _ (h1 : name ≡ 0 → ⊥) where
-    pub create-null : start ≡ 0 → createPartition m d name start bytes size ≡ refused m d InvalidAddress
+  module _ (h1 : name ≡ 0 → ⊥) (at : ℕ) (nq : at ≡ partitionNamed d name) where
+    pub create-taken : at < slots → createPartition m d name start bytes size ≡ refused m d InvalidName
     unfolding createPartition checked
-    create-null e = rw (s, ne-eqb _ _ h1, eq-eqb _ _ e)
+    create-taken e = rw (s, ne-eqb _ _ h1, ← nq, lt-ltb _ _ e)
 
-    module _ (h2 : start ≡ 0 → ⊥) where
-      pub create-crooked : (start % 4 ≡ 0 → ⊥) → createPartition m d name start bytes size ≡ refused m d InvalidAddress
+    module _ (h0 : slots ≤ at) where
+      not-taken : ltb (partitionNamed d name) slots ≡ false
+      not-taken = rw (← nq) (le-ltb _ _ h0)
+
+      pub create-null : start ≡ 0 → createPartition m d name start bytes size ≡ refused m d InvalidAddress
       unfolding createPartition checked
-      create-crooked e = rw (s, ne-eqb _ _ h1, ne-eqb _ _ h2, ne-eqb _ _ e)
+      create-null e = rw (s, ne-eqb _ _ h1, not-taken, eq-eqb _ _ e)
 
-      module _ (h3 : start % 4 ≡ 0) (past : Bool) (pq : past ≡ ltb (4 * length m) (start + bytes)) where
-        pub create-past : past ≡ true → createPartition m d name start bytes size ≡ refused m d InvalidAddress
+      module _ (h2 : start ≡ 0 → ⊥) where
+        pub create-crooked : (start % 4 ≡ 0 → ⊥) → createPartition m d name start bytes size ≡ refused m d InvalidAddress
         unfolding createPartition checked
-        create-past e = rw (s, ne-eqb _ _ h1, ne-eqb _ _ h2, eq-eqb _ _ h3, ← pq, e)
+        create-crooked e = rw (s, ne-eqb _ _ h1, not-taken, ne-eqb _ _ h2, ne-eqb _ _ e)
 
-        module _ (h4 : past ≡ false) (bad : Bool) (bq : bad ≡ sizeRefused bytes size) where
-          pub create-sizes : bad ≡ true → createPartition m d name start bytes size ≡ refused m d InvalidSize
+        module _ (h3 : start % 4 ≡ 0) (past : Bool) (pq : past ≡ ltb (4 * length m) (start + bytes)) where
+          pub create-past : past ≡ true → createPartition m d name start bytes size ≡ refused m d InvalidAddress
           unfolding createPartition checked
-          create-sizes e = rw (s, ne-eqb _ _ h1, ne-eqb _ _ h2, eq-eqb _ _ h3, ← pq, h4, sizes-one, ← bq, e)
+          create-past e = rw (s, ne-eqb _ _ h1, not-taken, ne-eqb _ _ h2, eq-eqb _ _ h3, ← pq, e)
 
-          module _ (h5 : bad ≡ false) (meets : Bool) (mq : meets ≡ overlaps d (record { start = start; length = bytes })) where
-            pub create-overlaps : meets ≡ true → createPartition m d name start bytes size ≡ refused m d InvalidAddress
+          module _ (h4 : past ≡ false) (bad : Bool) (bq : bad ≡ sizeRefused bytes size) where
+            pub create-sizes : bad ≡ true → createPartition m d name start bytes size ≡ refused m d InvalidSize
             unfolding createPartition checked
-            create-overlaps e = rw (s, ne-eqb _ _ h1, ne-eqb _ _ h2, eq-eqb _ _ h3, ← pq, h4, sizes-one, ← bq, h5, ← mq, e)
+            create-sizes e = rw (s, ne-eqb _ _ h1, not-taken, ne-eqb _ _ h2, eq-eqb _ _ h3, ← pq, h4, sizes-one, ← bq, e)
 
-            module _ (h6 : meets ≡ false) (slot : ℕ) (sq : slot ≡ unspentPartition d) where
-              pub create-full : slots ≤ slot → createPartition m d name start bytes size ≡ refused m d TooMany
+            module _ (h5 : bad ≡ false) (meets : Bool) (mq : meets ≡ overlaps d (record { start = start; length = bytes })) where
+              pub create-overlaps : meets ≡ true → createPartition m d name start bytes size ≡ refused m d InvalidAddress
               unfolding createPartition checked
-              create-full e = rw (s, ne-eqb _ _ h1, ne-eqb _ _ h2, eq-eqb _ _ h3, ← pq, h4, sizes-one, ← bq, h5, ← mq, h6, ← sq, le-leb _ _ e)
+              create-overlaps e = rw (s, ne-eqb _ _ h1, not-taken, ne-eqb _ _ h2, eq-eqb _ _ h3, ← pq, h4, sizes-one, ← bq, h5, ← mq, e)
 
-              pub create-makes : slot < slots → createPartition m d name start bytes size ≡ makes m d slot (newPartition (partitionGeneration d slot) name start bytes size)
-              unfolding createPartition checked makes
-              create-makes e = rw (s, ne-eqb _ _ h1, ne-eqb _ _ h2, eq-eqb _ _ h3, ← pq, h4, sizes-one, ← bq, h5, ← mq, h6, ← sq, lt-leb _ _ e)
+              module _ (h6 : meets ≡ false) (slot : ℕ) (sq : slot ≡ unspentPartition d) where
+                pub create-full : slots ≤ slot → createPartition m d name start bytes size ≡ refused m d TooMany
+                unfolding createPartition checked
+                create-full e = rw (s, ne-eqb _ _ h1, not-taken, ne-eqb _ _ h2, eq-eqb _ _ h3, ← pq, h4, sizes-one, ← bq, h5, ← mq, h6, ← sq, le-leb _ _ e)
 
-pub ruleset creating = (performs-refused, performs-done, create-nameless, create-null, create-crooked, create-past, create-sizes, create-overlaps, create-full, performs-as, create-makes, allowed-some, allowed-within, area-ends)
+                pub create-makes : slot < slots → createPartition m d name start bytes size ≡ makes m d slot (newPartition (partitionGeneration d slot) name start bytes size)
+                unfolding createPartition checked makes
+                create-makes e = rw (s, ne-eqb _ _ h1, not-taken, ne-eqb _ _ h2, eq-eqb _ _ h3, ← pq, h4, sizes-one, ← bq, h5, ← mq, h6, ← sq, lt-leb _ _ e)
+
+pub ruleset creating = (performs-refused, performs-done, create-nameless, create-taken, create-null, create-crooked, create-past, create-sizes, create-overlaps, create-full, performs-as, create-makes)

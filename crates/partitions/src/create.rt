@@ -117,6 +117,9 @@ pub(crate) fn create(
     if name == 0 {
         return reply::reply(d, Status::InvalidName, 0);
     }
+    if objects::partition_named(d, name) < Manager::SLOTS {
+        return reply::reply(d, Status::InvalidName, 0);
+    }
     if start == 0 {
         return reply::reply(d, Status::InvalidAddress, 0);
     }

@@ -11,7 +11,7 @@ use lib.Dec.{eqb, ltb}
 use mir.Syntax.{w32}
 use mir.Val.{Fits}
 use borrow.Author.Needs.{fits-under}
-use borrow.Author.Tests.{eq-eqb, ne-eqb, le-leb, lt-leb, ltb-false, eqb-false, not-true, not-false}
+use borrow.Author.Tests.{eq-eqb, ne-eqb, le-leb, lt-leb, le-ltb, lt-ltb, ltb-false, eqb-false, not-true, not-false}
 use Rattle.arith.specs.Round.{roundUp}
 use Rattle.arith.proofs.Laws.Round.{round-ge, round-least}
 use Rattle.manager.specs.Record.{slots, withRegion}
@@ -20,7 +20,7 @@ use Rattle.manager.proofs.Laws.Result.{performs-by, performs-replied}
 use Rattle.manager.proofs.Laws.Appended.{or-first, or-second}
 use Rattle.manager.specs.Region.{layoutOf, pagesOf, opened}
 use Rattle.objects.proofs.Laws.{unmapped}
-use Rattle.manager.specs.Regions.{overlaps, unspentRegion, regionGeneration, regionId, newRegion, createRegion}
+use Rattle.manager.specs.Regions.{overlaps, unspentRegion, regionNamed, regionGeneration, regionId, newRegion, createRegion}
 use Rattle.manager.specs.Sound.{sound, Laid}
 use Rattle.manager.proofs.Laws.Sound.{sound-words, region-most}
 use Rattle.manager.specs.declared.Manager.{Manager}
@@ -95,39 +95,47 @@ module _ (m : List ℕ) (d : Manager) (s : sound m d ≡ true) (name start bytes
   unfolding createRegion checked
   create-nameless e = rw (s, eq-eqb _ _ e)
 
-  module _ (n : name ≡ 0 → ⊥) where
-    pub create-startless : start ≡ 0 → Creates ≡ refused m d InvalidAddress
+  module _ (n : name ≡ 0 → ⊥) (at : ℕ) (en : at ≡ regionNamed d name) where
+    pub create-taken : at < slots → Creates ≡ refused m d InvalidName
     unfolding createRegion checked
-    create-startless e = rw (s, ne-eqb _ _ n, eq-eqb _ _ e)
+    create-taken h = rw (s, ne-eqb _ _ n, ← en, lt-ltb _ _ h)
 
-    module _ (z : start ≡ 0 → ⊥) (p : Bool) (ep : p ≡ ltb (4 * length m) (start + bytes)) where
-      pub create-past : p ≡ true → Creates ≡ refused m d InvalidAddress
+    module _ (o : slots ≤ at) where
+      not-taken : ltb (regionNamed d name) slots ≡ false
+      not-taken = rw (← en) (le-ltb _ _ o)
+
+      pub create-startless : start ≡ 0 → Creates ≡ refused m d InvalidAddress
       unfolding createRegion checked
-      create-past e = rw (s, ne-eqb _ _ n, ne-eqb _ _ z, ← ep, e)
+      create-startless e = rw (s, ne-eqb _ _ n, not-taken, eq-eqb _ _ e)
 
-      module _ (i : p ≡ false) (v : Bool) (ev : v ≡ (eqb page 0 || ltb 4096 page)) where
-        pub create-page : v ≡ true → Creates ≡ refused m d InvalidSize
+      module _ (z : start ≡ 0 → ⊥) (p : Bool) (ep : p ≡ ltb (4 * length m) (start + bytes)) where
+        pub create-past : p ≡ true → Creates ≡ refused m d InvalidAddress
         unfolding createRegion checked
-        create-page e = rw (s, ne-eqb _ _ n, ne-eqb _ _ z, ← ep, i) (either-refused (eqb page 0) (ltb 4096 page) _ _ (sym ev ∙ e))
+        create-past e = rw (s, ne-eqb _ _ n, not-taken, ne-eqb _ _ z, ← ep, e)
 
-        module _ (g : v ≡ false) (r : Region) (er : r ≡ newRegion 0 name start bytes page order) where
-          pub create-entered : Creates ≡ entered m d r
-          unfolding createRegion checked entered
-          create-entered = rw (er, s, ne-eqb _ _ n, ne-eqb _ _ z, ← ep, i, page-some page v ev g, page-most page v ev g)
+        module _ (i : p ≡ false) (v : Bool) (ev : v ≡ (eqb page 0 || ltb 4096 page)) where
+          pub create-page : v ≡ true → Creates ≡ refused m d InvalidSize
+          unfolding createRegion checked
+          create-page e = rw (s, ne-eqb _ _ n, not-taken, ne-eqb _ _ z, ← ep, i) (either-refused (eqb page 0) (ltb 4096 page) _ _ (sym ev ∙ e))
 
-          -- the new region lies in the memory, where it has a page
-          pub new-laid : 1 ≤ pagesOf r → Laid m r
-          new-laid =
-              rw er
-              (λ o. record {
-                words = sound-words m d s;
-                inside = ltb-false (4 * length m) (start + bytes) (sym ep ∙ i);
-                page-low = rounded-low page (eqb-false page 0 (page-some page v ev g));
-                page-high = rounded-high page (page-allowed page v ev g);
-                some = o;
-              })
+          module _ (g : v ≡ false) (r : Region) (er : r ≡ newRegion 0 name start bytes page order) where
+            pub create-entered : Creates ≡ entered m d r
+            unfolding createRegion checked entered
+            create-entered = rw (er, s, ne-eqb _ _ n, not-taken, ne-eqb _ _ z, ← ep, i, page-some page v ev g, page-most page v ev g)
 
-pub ruleset creating = (performs-replied, performs-by, page-allowed, new-laid, create-nameless, create-startless, create-past, create-page, create-entered)
+            -- the new region lies in the memory, where it has a page
+            pub new-laid : 1 ≤ pagesOf r → Laid m r
+            new-laid =
+                rw er
+                (λ o. record {
+                  words = sound-words m d s;
+                  inside = ltb-false (4 * length m) (start + bytes) (sym ep ∙ i);
+                  page-low = rounded-low page (eqb-false page 0 (page-some page v ev g));
+                  page-high = rounded-high page (page-allowed page v ev g);
+                  some = o;
+                })
+
+pub ruleset creating = (performs-replied, performs-by, page-allowed, new-laid, create-nameless, create-taken, create-startless, create-past, create-page, create-entered)
 
 -- ---- the new region
 

@@ -95,7 +95,7 @@ fn enter(mem: &mut [u32], d: Manager, r: Region) -> Answer
     reply::reply(e, Status::Successful, slots::region_id(d, slot))
 }
 
-// Create: 3, start 9, past memory 9, page 8; then what the new region itself is refused for.
+// Create: 3, a name that a live region has 3, start 9, past memory 9, page 8; then what the new region itself is refused for.
 pub(crate) fn create(
     mem: &mut [u32],
     d: Manager,
@@ -109,6 +109,9 @@ pub(crate) fn create(
     ensures { λ a. ⌜ Performs (createRegion (now (mem .entry)) d name start length page order) (now (mem .exit)) a ⌝ }
 {
     if name == 0 {
+        return reply::reply(d, Status::InvalidName, 0);
+    }
+    if objects::region_named(d, name) < Manager::SLOTS {
         return reply::reply(d, Status::InvalidName, 0);
     }
     if start == 0 {

@@ -34,6 +34,9 @@ pub fn is_sound(mem: &[u32], d: Manager) -> bool
     if !slots::sound_partitions(mem, partitions) {
         return false;
     }
+    if !objects::names_differ(d) {
+        return false;
+    }
     if !objects::apart(d) {
         return false;
     }

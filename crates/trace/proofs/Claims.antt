@@ -3,7 +3,7 @@
 use mathlib.Core.Path.{_≡_, refl, sym, ap, _∙_, subst}
 use mathlib.Core.Bool.{true}
 use mathlib.Core.List.{List, [], _∷_}
-use mathlib.Core.Logic.{_↔_, ⊎-elim}
+use mathlib.Core.Logic.{_⊎_, _↔_, ⊎-elim}
 use mathlib.Core.Option.{some}
 use Prim.Native.Nat.{ℕ, zero, suc, _+_, _*_, _/_, _≤_, _<_}
 use native.Mathlib.Nat.{mul-le-mul}
@@ -20,17 +20,18 @@ use Rattle.manager.proofs.Laws.Partition.Chain.{linked-buffer, linked-rest, lin
 use Rattle.manager.proofs.Laws.Partition.Live.{live-chain}
 use Rattle.manager.specs.Perform.{Implementation, perform}
 use Rattle.manager.specs.declared.Call.{Call}
-use Rattle.manager.specs.declared.Call.the-variants.{GetSegment, ReturnSegment, SegmentSize, ResizeSegment, RegionInformation, GetBuffer, Tick}
+use Rattle.manager.specs.declared.Call.the-variants.{CreateRegion, IdentRegion, GetSegment, ReturnSegment, SegmentSize, ResizeSegment, RegionInformation, CreatePartition, IdentPartition, GetBuffer, Tick}
+use Rattle.manager.specs.declared.Order.{Order}
 use Rattle.manager.specs.declared.Wait.the-variants.{No}
 use Rattle.manager.specs.declared.Partition.{Partition}
-use Rattle.manager.specs.declared.Status.the-variants.{InternalError}
-use Rattle.manager.specs.Lists.{In, Distinct}
+use Rattle.manager.specs.declared.Status.the-variants.{InvalidName, InternalError}
+use Rattle.manager.specs.Lists.{every, In, Distinct}
 use Rattle.trace.specs.Loans.{Loan, Lent, inPages, loanPages, sum}
 use Rattle.trace.specs.Receipts.{RegionEntry, PartitionEntry, Wait, Reply, replyOf, reading, unit, pagesIn, spanIn, pageIn, byPage, pageLoans, buffersIn, buffersFrom}
 use Rattle.trace.specs.Queue.{queueOf}
 use Rattle.trace.specs.Replies.{byReceipts, readByReceipts}
 use Rattle.trace.specs.Trace.{State, answer}
-use Rattle.trace.specs.Claims.{mapIn, freePages, Chained, null, link, RegionClaims, PartitionClaims, Ticked}
+use Rattle.trace.specs.Claims.{mapIn, freePages, Chained, null, link, RegionClaims, PartitionClaims, InUse, NameClaims, Ticked}
 use Rattle.trace.proofs.Invariant.{regionFor, PartitionIs, Inv}
 use Rattle.trace.proofs.Frame.{unit-least, pages-allowed, inside-parts, partition-shaped, buffer-lies, chained-buffer}
 use Rattle.trace.proofs.Buffers.{buffer-within, within-buffer}
@@ -41,6 +42,8 @@ use Rattle.trace.proofs.Map.{drawing}
 use Rattle.trace.proofs.Loans.Addresses.{address-pages}
 use Rattle.trace.proofs.Queue.Waiters.{waiter-places, waiters-for}
 use Rattle.trace.proofs.Partitions.Slot.{buffers-in, unlent-once}
+use Rattle.trace.proofs.Names.{regions-named, partitions-named}
+use Rattle.trace.proofs.Replies.Names.{name-claims, taken-claim}
 use Rattle.trace.proofs.Replies.Consequences.{unsatisfied-by, lowest-by, information-by, size-by, resize-by, resize-serves-by, return-by, buffer-unsatisfied, buffer-front}
 use Rattle.trace.proofs.Regions.Checks.{not-damaged}
 use Rattle.trace.proofs.Regions.Queue.{queue-asks}
@@ -94,6 +97,27 @@ module _ (i : Implementation) (s : State) (v : Inv (s .memory) (s .manager) (s .
 
   pub few-claim : (c : Call) → length (answer i s c .notices) ≤ tasks
   few-claim c = rw (defined-notices c) (once c .few)
+
+  -- NAMES, of either kind
+  pub region-names : NameClaims (s .receipts .regions) (λ e. e .name) (λ n. answer i s (IdentRegion n))
+  unfolding byReceipts
+  region-names = name-claims (regions-named _ _ _ (v .picture)) (λ n. answer i s (IdentRegion n)) (λ n. replies (IdentRegion n))
+
+  pub partition-names : NameClaims (s .receipts .partitions) (λ e. e .name) (λ n. answer i s (IdentPartition n))
+  unfolding byReceipts
+  partition-names = name-claims (partitions-named _ _ _ (v .picture)) (λ n. answer i s (IdentPartition n)) (λ n. replies (IdentPartition n))
+
+  pub region-taken : (name start bytes page : ℕ) (order : Order)
+      → (answer i s (CreateRegion name start bytes page order) .status ≡ InvalidName) ↔ ((name ≡ 0) ⊎ InUse (s .receipts .regions) (λ e. e .name) name)
+  unfolding byReceipts every
+  region-taken name start bytes page order =
+      taken-claim (regions-named _ _ _ (v .picture)) name _ _ refl refl (answer i s (CreateRegion name start bytes page order)) (replies (CreateRegion name start bytes page order))
+
+  pub partition-taken : (name start bytes size : ℕ)
+      → (answer i s (CreatePartition name start bytes size) .status ≡ InvalidName) ↔ ((name ≡ 0) ⊎ InUse (s .receipts .partitions) (λ e. e .name) name)
+  unfolding byReceipts every
+  partition-taken name start bytes size =
+      taken-claim (partitions-named _ _ _ (v .picture)) name _ _ refl refl (answer i s (CreatePartition name start bytes size)) (replies (CreatePartition name start bytes size))
 
   -- A REGION
   module _ (id : ℕ) (e : RegionEntry) (q : s .receipts .regions id ≡ some e) where

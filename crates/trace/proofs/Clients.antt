@@ -165,6 +165,8 @@ module _ (m : List ℕ) (d : Manager) (t : Receipts) (v : Inv m d t) where
           partitions = λ id. keep-partition id (partitionOf d id) (t .partitions id) refl refl (v .picture .partitions id);
           region-is = v .picture .region-is;
           partition-is = v .picture .partition-is;
+          region-names = v .picture .region-names;
+          partition-names = v .picture .partition-names;
           areas = v .picture .areas;
         };
         waits = v .waits;

@@ -170,7 +170,7 @@ note-follows t now c a =
 -- ---- A CREATE ANSWERS AN ID THAT WAS NEVER USED, and it is used from then on
 
 -- what the first slot found passes
-first-passes : (p : ℕ → Bool) (n k : ℕ) → firstSlot p n k < k + n → p (firstSlot p n k) ≡ true
+pub first-passes : (p : ℕ → Bool) (n k : ℕ) → firstSlot p n k < k + n → p (firstSlot p n k) ≡ true
 unfolding firstSlot
 first-passes p zero k h = absurd (omega arith)
 first-passes p (suc n) k h =
@@ -206,14 +206,14 @@ module _ (k : ℕ) (t : Receipts) where
   unfolding byReceipts every Passed
   region-unused name start bytes page order e =
       let x = decided-passes _ (yes (regionNow t (newRegionSlot t))) refl e in
-      rw (x .1) (new-unused (t .regions) (t .regionDeletes) (leb-false slots (newRegionSlot t) (x .0 .1 .1 .1 .1 .1 .1 .1 .0)))
+      rw (x .1) (new-unused (t .regions) (t .regionDeletes) (leb-false slots (newRegionSlot t) (x .0 .1 .1 .1 .1 .1 .1 .1 .1 .0)))
 
   pub partition-unused : (name start bytes size : ℕ) → let a = byReceipts k t (CreatePartition name start bytes size) in
       a .status ≡ Successful → ¬ Used (t .partitions) (t .partitionDeletes) (a .value)
   unfolding byReceipts every Passed
   partition-unused name start bytes size e =
       let x = decided-passes _ (yes (partitionNow t (newPartitionSlot t))) refl e in
-      rw (x .1) (new-unused (t .partitions) (t .partitionDeletes) (leb-false slots (newPartitionSlot t) (x .0 .1 .1 .1 .1 .1 .1 .1 .1 .1 .1 .0)))
+      rw (x .1) (new-unused (t .partitions) (t .partitionDeletes) (leb-false slots (newPartitionSlot t) (x .0 .1 .1 .1 .1 .1 .1 .1 .1 .1 .1 .1 .0)))
 
 -- ---- an object by its id, of either kind
 

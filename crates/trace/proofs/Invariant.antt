@@ -12,11 +12,11 @@ use Rattle.manager.specs.Result.{pad}
 use Rattle.manager.specs.Map.{draw}
 use Rattle.manager.specs.Region.{mapAt, mapWords}
 use Rattle.manager.specs.Partition.{isBuffer, buffers, chain}
-use Rattle.manager.specs.Sound.{soundLength, soundGeneration, inside, livePartition, soundAreas}
+use Rattle.manager.specs.Sound.{soundLength, soundGeneration, inside, livePartition, otherName, soundAreas}
 use Rattle.manager.specs.declared.Manager.{Manager}
 use Rattle.manager.specs.declared.Region.{Region}
 use Rattle.manager.specs.declared.Partition.{Partition}
-use Rattle.manager.specs.Lists.{In, Distinct}
+use Rattle.manager.specs.Lists.{pairwise, In, Distinct}
 use Rattle.trace.specs.Loans.{Loan}
 use Rattle.trace.specs.Receipts.{Receipts, RegionEntry, PartitionEntry, Wait, unit, pagesIn, spanIn, pageLoans, reading, Servable}
 use Rattle.trace.specs.Queue.{inLine}
@@ -129,6 +129,8 @@ pub record Picture (m : List ℕ) (d : Manager) (t : Receipts) : Type 0 where
   pub partitions : (id : ℕ) → PartitionSlot m (partitionOf d id) (t .partitions id)
   pub region-is : (i : ℕ) → i < slots → RegionSlotIs (getD (d .regions) i noRegion) (t .regionDeletes i)
   pub partition-is : (i : ℕ) → i < slots → PartitionSlotIs (getD (d .partitions) i noPartition) (t .partitionDeletes i)
+  pub region-names : pairwise (otherName (λ r. r .name)) (d .regions) ≡ true
+  pub partition-names : pairwise (otherName (λ p. p .name)) (d .partitions) ≡ true
   pub areas : soundAreas d ≡ true
 
 -- THE INVARIANT

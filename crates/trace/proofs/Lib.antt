@@ -5,6 +5,7 @@ pub mod Buffers
 pub mod Frame
 pub mod Disjoint
 pub mod Slots
+pub mod Names
 pub mod Areas
 pub mod Segments
 pub mod Map

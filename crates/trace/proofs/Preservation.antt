@@ -10,7 +10,7 @@ use borrow.Author.Tests.{eqb-true, not-true}
 use Rattle.manager.specs.Lists.{every, any, pairwise, adjacent}
 use Rattle.manager.proofs.Laws.Lists.{and-first, and-second}
 use Rattle.manager.specs.Record.{slots, tasks, regionOf}
-use Rattle.manager.specs.Sound.{soundLength, soundRegion, soundPartition, soundAreas, soundPlace, otherTask, inOrder, soundQueue, sound}
+use Rattle.manager.specs.Sound.{soundPlace, otherTask, inOrder, soundQueue, sound}
 use Rattle.manager.specs.Region.{anyHeld}
 use Rattle.manager.specs.Queue.{waitsFor}
 use Rattle.manager.specs.Access.{writeSegment}
@@ -19,6 +19,7 @@ use Rattle.manager.specs.declared.Manager.{Manager}
 use Rattle.manager.specs.declared.Waiter.{Waiter}
 use Rattle.manager.specs.declared.Call.{Call}
 use Rattle.manager.proofs.Laws.Appended.{by-case}
+use Rattle.manager.proofs.Laws.Sound.{sound-queue}
 use Rattle.trace.proofs.Access.{write-keeps}
 use Rattle.trace.proofs.Queue.Line.{true-false}
 use Rattle.trace.proofs.Queue.Places.{in-some, in-every}
@@ -45,13 +46,8 @@ module _ (m : List ℕ) (d : Manager) where
       ap (λ (i : ℕ). anyHeld m (regionOf d i)) (sym is) ∙ waiter-parts m d w e used .lending
 
   places-sound : sound m d ≡ true → every (soundPlace m d) (d .waiters) ≡ true
-  unfolding sound soundQueue
-  places-sound e =
-      let rs = every (soundRegion m) (d .regions) in
-      let ps = every (soundPartition m) (d .partitions) in
-      let q = soundQueue m d in
-      and-first (every (soundPlace m d) (d .waiters)) (pairwise otherTask (d .waiters) && adjacent (inOrder d) (d .waiters))
-      (and-second (soundAreas d) q (and-second ps (soundAreas d && q) (and-second rs (ps && (soundAreas d && q)) (and-second (soundLength m) (rs && (ps && (soundAreas d && q))) e))))
+  unfolding soundQueue
+  places-sound e = and-first (every (soundPlace m d) (d .waiters)) (pairwise otherTask (d .waiters) && adjacent (inOrder d) (d .waiters)) (sound-queue m d e)
 
   pub nobody-waits : sound m d ≡ true → (id : ℕ) → anyHeld m (regionOf d id) ≡ false → any (waitsFor id) (d .waiters) ≡ false
   nobody-waits ok id e =

@@ -5,7 +5,7 @@ pub mod Waits
 pub mod Queue
 pub mod Partition
 use mathlib.Core.Path.{_≡_, refl, sym, ap, _∙_}
-use mathlib.Core.Bool.{true, _&&_}
+use mathlib.Core.Bool.{true}
 use mathlib.Core.List.{List}
 use mathlib.Core.Logic.{⊎-elim}
 use Prim.Native.Nat.{ℕ, _<_}
@@ -13,16 +13,17 @@ use native.Mathlib.Omega.{arith}
 use lib.ListN.{length, getD}
 use borrow.Author.Tests.{eq-eqb}
 use Rattle.manager.specs.Lists.{every}
-use Rattle.manager.proofs.Laws.Lists.{and-first, and-second, every-at}
+use Rattle.manager.proofs.Laws.Lists.{every-at}
 use Rattle.manager.specs.Record.{slots, tasks, noRegion, noPartition, slotOf, idOf, regionOf, partitionOf}
-use Rattle.manager.specs.Sound.{soundLength, soundRegion, soundPartition, soundAreas, soundQueue, sound}
+use Rattle.manager.specs.Sound.{soundRegion, soundPartition, sound}
 use Rattle.manager.specs.Regions.{regionGeneration}
 use Rattle.manager.specs.Partitions.{partitionGeneration}
 use Rattle.manager.specs.declared.Manager.{Manager}
 use Rattle.manager.specs.declared.Region as region
 use Rattle.manager.specs.declared.Partition as partition
 use Rattle.manager.proofs.Laws.Ids.{id-back, Live, live-object, live-within, object-cases}
-use Rattle.manager.proofs.Laws.Sound.{region-generation, empty-of}
+use Rattle.manager.proofs.Laws.Sound.{sound-length, sound-regions, sound-partitions, sound-names, sound-areas, sound-queue, region-generation, empty-of}
+use Rattle.manager.proofs.Laws.Names.{region-names, partition-names}
 use Rattle.manager.proofs.Laws.Partition.Live.{partition-generation, empty-partition}
 use Rattle.trace.specs.Receipts.{Receipts}
 use Rattle.trace.proofs.Invariant.{RegionSlotIs, PartitionSlotIs, Inv}
@@ -82,26 +83,21 @@ module _ (m : List ℕ) (d : Manager) (nr : length (d .regions) ≡ slots) (np :
 
   -- A SOUND RECORD IS THE PICTURE OF RECEIPTS
   pub sound-inv : length (d .waiters) ≡ tasks → sound m d ≡ true → Inv m d (receiptsOf m d)
-  unfolding sound
   sound-inv nw e =
-      let rs = every (soundRegion m) (d .regions) in
-      let ps = every (soundPartition m) (d .partitions) in
-      let q = soundAreas d && soundQueue m d in
-      let e₁ = and-second (soundLength m) (rs && (ps && q)) e in
-      let e₂ = and-second rs (ps && q) e₁ in
-      let e₃ = and-second ps q e₂ in
-      let r : (id : ℕ) → soundRegion m (regionOf d id) ≡ true = region-clause (and-first rs (ps && q) e₁) in
-      let p : (id : ℕ) → soundPartition m (partitionOf d id) ≡ true = partition-clause (and-first ps q e₂) in
+      let rs = sound-regions m d e in
+      let ps = sound-partitions m d e in
       record {
         picture = record {
-          words = and-first (soundLength m) (rs && (ps && q)) e;
+          words = sound-length m d e;
           region-slots = nr;
           partition-slots = np;
-          regions = λ id. region-read m (regionOf d id) (r id);
-          partitions = λ id. partition-read m (partitionOf d id) (p id);
-          region-is = region-slot (and-first rs (ps && q) e₁);
-          partition-is = partition-slot (and-first ps q e₂);
-          areas = and-first (soundAreas d) (soundQueue m d) e₃;
+          regions = λ id. region-read m (regionOf d id) (region-clause rs id);
+          partitions = λ id. partition-read m (partitionOf d id) (partition-clause ps id);
+          region-is = region-slot rs;
+          partition-is = partition-slot ps;
+          region-names = region-names d (sound-names m d e);
+          partition-names = partition-names d (sound-names m d e);
+          areas = sound-areas m d e;
         };
-        waits = waits-read m d (receiptsOf m d) (λ id. refl) r id-now nw refl (and-second (soundAreas d) (soundQueue m d) e₃);
+        waits = waits-read m d (receiptsOf m d) (λ id. refl) (region-clause rs) id-now nw refl (sound-queue m d e);
       }

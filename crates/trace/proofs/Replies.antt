@@ -2,5 +2,6 @@
 -- nothing.
 pub mod Checks
 pub mod Ids
+pub mod Names
 pub mod Access
 pub mod Consequences

@@ -14,6 +14,7 @@ use Rattle.manager.specs.declared.Manager.{Manager}
 use Rattle.manager.specs.declared.Region.{Region}
 use Rattle.manager.specs.declared.Partition.{Partition}
 use Rattle.manager.proofs.Laws.Areas.{at-every}
+use Rattle.manager.proofs.Laws.Names.{names-made}
 use Rattle.trace.specs.Receipts.{Receipts, RegionEntry, PartitionEntry, unit, pagesIn}
 use Rattle.trace.specs.Replies.{regionNow, partitionNow}
 use Rattle.trace.proofs.Invariant.{regionAs, RegionIs, RegionSlot, PartitionSlot, Inv, empty, live}
@@ -59,5 +60,6 @@ inv-sound m d t v q =
           let u : i < slots = omega (arith, v .picture .partition-slots) in
           let s = v .picture .partition-is i u in
           partition-sound m (getD (d .partitions) i noPartition) (t .partitions (partitionNow t i)) (partition-in m d t (v .picture) i u) (rw (s .same) (s .sound))),
+      names-made d (v .picture .region-names) (v .picture .partition-names),
       v .picture .areas,
     ) q

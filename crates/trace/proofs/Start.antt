@@ -10,7 +10,7 @@ use Rattle.manager.specs.Lists.{every, pairwise, In, Distinct}
 use Rattle.manager.specs.Record.{slots, mostWords, emptiedRegion, emptiedPartition, objectOf, slotOf, fresh}
 use Rattle.manager.proofs.Laws.Ids.{object-none}
 use Rattle.manager.specs.Region.{regionAreas, partitionAreas}
-use Rattle.manager.specs.Sound.{soundAreas}
+use Rattle.manager.specs.Sound.{otherName, soundAreas}
 use Rattle.manager.specs.declared.Region.{Region}
 use Rattle.manager.specs.declared.Partition.{Partition}
 use Rattle.trace.specs.Receipts.{blank}
@@ -23,6 +23,14 @@ pub getD-same : {A : Type 0} (n i : ℕ) (z : A) → getD (replicate n z) i z �
 getD-same zero i z = refl
 getD-same (suc n) zero z = refl
 getD-same (suc n) (suc i) z = getD-same n i z
+
+fresh-regions : pairwise (otherName (λ r. r .name)) (fresh .regions) ≡ true
+unfolding pairwise every
+fresh-regions = refl
+
+fresh-partitions : pairwise (otherName (λ p. p .name)) (fresh .partitions) ≡ true
+unfolding pairwise every
+fresh-partitions = refl
 
 fresh-areas : soundAreas fresh ≡ true
 unfolding pairwise every regionAreas partitionAreas
@@ -54,6 +62,8 @@ start-inv m l h =
         partitions = λ id. subst (λ (p : Partition). PartitionSlot m p none) (sym (none-there (λ p. p .name) (λ p. p .generation) emptiedPartition refl refl id)) (empty 0);
         region-is = λ i h. slot-new (λ r. r .name) (λ r. r .generation) emptiedRegion refl refl i;
         partition-is = λ i h. slot-new (λ p. p .name) (λ p. p .generation) emptiedPartition refl refl i;
+        region-names = fresh-regions;
+        partition-names = fresh-partitions;
         areas = fresh-areas;
       };
       waits = fresh-waits;

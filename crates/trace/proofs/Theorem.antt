@@ -17,7 +17,7 @@ use Rattle.trace.proofs.Regions.Queue.{sound-inv}
 use Rattle.trace.proofs.Replies.Access.{replies-write, reads}
 use Rattle.trace.proofs.Regions.Checks.{not-damaged}
 use Rattle.trace.proofs.Directives.{performs}
-use Rattle.trace.proofs.Claims.{sound-claim, tick-claim, once-claim, few-claim, region-claims, partition-claims}
+use Rattle.trace.proofs.Claims.{sound-claim, tick-claim, once-claim, few-claim, region-names, partition-names, region-taken, partition-taken, region-claims, partition-claims}
 use Rattle.trace.proofs.Runs.{runs}
 use Rattle.trace.proofs.History.{replies, id-claims}
 
@@ -48,6 +48,10 @@ module _ (s : State) (v : Inv (s .memory) (s .manager) (s .receipts)) where
         ids = id-claims s v;
         region = region-claims defined s v answered handed;
         partition = partition-claims defined s v answered handed;
+        region-names = region-names defined s v answered handed;
+        partition-names = partition-names defined s v answered handed;
+        region-taken = region-taken defined s v answered handed;
+        partition-taken = partition-taken defined s v answered handed;
         apart = apart (s .memory) (s .manager) (s .receipts) v;
         stays = stays;
         writes = writes-by;

@@ -6,21 +6,22 @@ use mathlib.Core.Path.{_≡_}
 use mathlib.Core.Bool.{cond, not, _&&_}
 use mathlib.Core.List.{List, [], _∷_, _++_}
 use mathlib.Core.Logic.{_⊎_, _↔_}
-use mathlib.Core.Option.{none, some}
+use mathlib.Core.Option.{Option, none, some}
 use Prim.Native.Nat.{ℕ, zero, suc, _+_, _-_, _*_, _/_, _≤_, _<_}
 use lib.ListN.{length, getD, take, drop}
 use lib.Seq.{sets}
 use lib.Dec.{eqb}
 use Rattle.manager.specs.Record.{slots, tasks, mostWords, partitionOf}
-use Rattle.manager.specs.Result.{tasksTold}
+use Rattle.manager.specs.Result.{Result, tasksTold}
 use Rattle.manager.specs.Map.{Segment, free, held, draw, decode}
 use Rattle.manager.specs.Perform.{Implementation}
 use Rattle.manager.specs.declared.Waiter.{Waiter}
 use Rattle.manager.specs.declared.Notice.{Notice}
 use Rattle.manager.specs.declared.Call.{Call}
-use Rattle.manager.specs.declared.Call.the-variants.{GetSegment, ReturnSegment, SegmentSize, ResizeSegment, RegionInformation, GetBuffer, Tick}
+use Rattle.manager.specs.declared.Call.the-variants.{CreateRegion, IdentRegion, GetSegment, ReturnSegment, SegmentSize, ResizeSegment, RegionInformation, CreatePartition, IdentPartition, GetBuffer, Tick}
+use Rattle.manager.specs.declared.Order.{Order}
 use Rattle.manager.specs.declared.Wait.the-variants.{No}
-use Rattle.manager.specs.declared.Status.the-variants.{Successful, Unsatisfied, InternalError}
+use Rattle.manager.specs.declared.Status.the-variants.{Successful, InvalidName, Unsatisfied, InternalError}
 use Rattle.manager.specs.Lists.{In, Distinct}
 use Rattle.trace.specs.Loans.{Loan, Lent, loanPages, sum, enter, amend}
 use Rattle.trace.specs.Reading.{NoPlace}
@@ -164,6 +165,19 @@ pub record PartitionClaims (i : Implementation) (s : State) (id : ℕ) (e : Part
   pub front : (a : ℕ) (u : List ℕ) → e .unlent ≡ a ∷ u
       → (answer i s (GetBuffer id) .status ≡ Successful) × (answer i s (GetBuffer id) .value ≡ a)
 
+-- a live object of a kind has a name, by the kind's entries
+abbrev pub InUse : {A : Type 0} → (ℕ → Option A) → (A → ℕ) → ℕ → Type 0
+InUse {A} entries name n = (id : ℕ) × (e : A) × (entries id ≡ some e) × (name e ≡ n)
+
+-- OF THE NAMES OF A KIND, by its entries and what ident answers to a name
+pub record NameClaims {A : Type 0} (entries : ℕ → Option A) (name : A → ℕ) (ident : ℕ → Result) : Type 0 where
+  -- "Two regions called the same": no two live objects of a kind have one name
+  pub differ : (id k : ℕ) (e f : A) → entries id ≡ some e → entries k ≡ some f → name e ≡ name f → id ≡ k
+  -- ident answers the id of the only live object of that name
+  pub found : (id : ℕ) (e : A) → entries id ≡ some e → (ident (name e) .status ≡ Successful) × (ident (name e) .value ≡ id)
+  -- and 3 exactly where there is none
+  pub unknown : (n : ℕ) → (ident n .status ≡ InvalidName) ↔ (¬ InUse entries name n)
+
 -- WHAT CLIENTS HOLD AFTER THE NEXT CALL, by the receipts: "Writing lends on the part that starts at the given word of the segment and
 -- copies the given words there"; a refused write, and any other call, leaves the words as they were
 abbrev pub written : Receipts → Ask → List ℕ → List ℕ
@@ -186,6 +200,16 @@ pub record Claims (i : Implementation) (s : State) : Type 0 where
   -- a live object, "an id is live if the receipts have it for the call's kind"
   pub region : (id : ℕ) (e : RegionEntry) → s .receipts .regions id ≡ some e → RegionClaims i s id e
   pub partition : (id : ℕ) (e : PartitionEntry) → s .receipts .partitions id ≡ some e → PartitionClaims i s id e
+  -- the names of either kind, and a create is answered 3 exactly for name 0 and for a name that a live object of its kind has, whatever
+  -- else it asks. A region and a partition may have one name
+  pub region-names : NameClaims (s .receipts .regions) (λ e. e .name) (λ n. answer i s (IdentRegion n))
+  pub partition-names : NameClaims (s .receipts .partitions) (λ e. e .name) (λ n. answer i s (IdentPartition n))
+  pub region-taken : (name start bytes page : ℕ) (order : Order)
+      → (answer i s (CreateRegion name start bytes page order) .status ≡ InvalidName)
+      ↔ ((name ≡ 0) ⊎ InUse (s .receipts .regions) (λ e. e .name) name)
+  pub partition-taken : (name start bytes size : ℕ)
+      → (answer i s (CreatePartition name start bytes size) .status ≡ InvalidName)
+      ↔ ((name ≡ 0) ⊎ InUse (s .receipts .partitions) (λ e. e .name) name)
   -- "clients hold the loans": no two loans share a byte, of whatever objects
   pub apart : (o q : Object) (a n b k : ℕ) → Loaned (s .receipts) o a n → Loaned (s .receipts) q b k
       → ((o ≡ q) × (a ≡ b) × (n ≡ k)) ⊎ ((a + n ≤ b) ⊎ (b + k ≤ a))

@@ -96,8 +96,8 @@ regionNow t i = idNow (t .regionDeletes) i
 abbrev pub partitionNow : Receipts → ℕ → ℕ
 partitionNow t i = idNow (t .partitionDeletes) i
 
--- of a kind, by its entries and the deletes of its slots: "Create takes the lowest empty slot" that isn't spent, "ident the lowest with
--- the name"; and whether some object passes a test
+-- of a kind, by its entries and the deletes of its slots: "Create takes the lowest empty slot" that isn't spent, ident the one with the
+-- name; and whether some object passes a test
 module _ {A : Type 0} (entries : ℕ → Option A) (deletes : ℕ → ℕ) where
   abbrev pub newSlot : ℕ
   newSlot = firstSlot (λ i. vacant (entries (idNow deletes i)) && ltb (deletes i) generations) slots 0
@@ -218,10 +218,11 @@ front (a ∷ l) = yes a
 
 -- ---- WHAT EVERY CALL IS ANSWERED, over a memory of n words: its checks in the paper's order, the one for 25 aside, then its answer
 unfoldable pub byReceipts : ℕ → Receipts → Call → Reply
--- create region: 3, start 9, past memory 9, page 8, area 8, overlap 9, 5
+-- create region: 3, a name that a live region has 3, start 9, past memory 9, page 8, area 8, overlap 9, 5
 byReceipts n t (CreateRegion name start bytes page order) =
     decided
     (check (eqb name 0) InvalidName
+    ∷ check (ltb (regionSlotOf t name) slots) InvalidName
     ∷ check (eqb start 0) InvalidAddress
     ∷ check (ltb (4 * n) (start + bytes)) InvalidAddress
     ∷ check (eqb page 0) InvalidSize
@@ -262,11 +263,12 @@ byReceipts n t (ResizeSegment id a size) =
     (grantsIn e (amend a (pagesOver e size) (e .loans)) (queueOf id e t)))))
 -- information: 4
 byReceipts n t (RegionInformation id) = living (t .regions id) (λ e. informs (informationIn e))
--- create partition: 3, start 9, alignment 9, past memory 9, length or size 0 (8), length below size 8, size not a multiple of 4 or
--- below 8 (8), overlap 9, 5
+-- create partition: 3, a name that a live partition has 3, start 9, alignment 9, past memory 9, length or size 0 (8), length below size 8,
+-- size not a multiple of 4 or below 8 (8), overlap 9, 5
 byReceipts n t (CreatePartition name start bytes size) =
     decided
     (check (eqb name 0) InvalidName
+    ∷ check (ltb (partitionSlotOf t name) slots) InvalidName
     ∷ check (eqb start 0) InvalidAddress
     ∷ check (not (eqb (start % 4) 0)) InvalidAddress
     ∷ check (ltb (4 * n) (start + bytes)) InvalidAddress

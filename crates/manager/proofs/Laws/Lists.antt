@@ -189,4 +189,15 @@ index-passes z t (x ∷ l) h = go (t x) refl h (λ u. index-passes z t l u)
     go true e h k = e
     go false e h k = k (omega arith)
 
+-- and no later than any that passes
+pub index-least : {A : Type 0} (z : A) (t : A → Bool) (l : List A) (i : ℕ) → i < length l → t (getD l i z) ≡ true → indexOf t l ≤ i
+unfolding indexOf
+index-least z t [] i h e = absurd (omega arith)
+index-least z t (x ∷ l) zero h e = rw e (omega arith)
+index-least z t (x ∷ l) (suc i) h e = go (t x) (index-least z t l i (omega arith) e)
+  where
+    go : (b : Bool) → indexOf t l ≤ i → cond b 0 (suc (indexOf t l)) ≤ suc i
+    go true k = omega arith
+    go false k = omega arith
+
 pub ruleset index-loop = (index-start, index-next, index-here, index-missed, index-found, index-end)

@@ -21,19 +21,22 @@ use Rattle.manager.proofs.Laws.Ids.{Live, live-object, live-within}
 use Rattle.manager.specs.Map.{Segment, draw, tiled, soundMap, total}
 use Rattle.manager.proofs.Laws.Map.{Sized, redraw, sound-drawn, sound-tiled, sound-proper, length-draw, total-decoded, sized-decoded}
 use Rattle.manager.specs.Region.{dead, kind, pagesOf, firstPageOf, mapAt, mapWords, segments, withSegments, addressOf}
-use Rattle.manager.specs.Sound.{Laid, Sited, sound, soundLength, inside, soundPage, soundGeneration, emptyRegion, liveRegion, soundRegion, soundPartition, soundAreas, soundQueue}
+use Rattle.manager.specs.Sound.{Laid, Sited, sound, soundLength, inside, soundPage, soundGeneration, emptyRegion, liveRegion, soundRegion, soundPartition, soundNames, soundAreas, soundQueue}
 use Rattle.manager.specs.declared.Manager.{Manager}
 use Rattle.manager.specs.declared.Region.{Region}
 
 -- the clauses of sound books
 module _ (m : List ℕ) (d : Manager) (ok : sound m d ≡ true) where
-  tail : (every (soundRegion m) (d .regions) && (every (soundPartition m) (d .partitions) && (soundAreas d && soundQueue m d))) ≡ true
+  tail : (every (soundRegion m) (d .regions) && (every (soundPartition m) (d .partitions) && (soundNames d && (soundAreas d && soundQueue m d)))) ≡ true
   unfolding sound
   tail = and-second (soundLength m) _ ok
 
-  pub sound-words : length m ≤ 16384
+  pub sound-length : soundLength m ≡ true
   unfolding sound
-  sound-words = leb-true (length m) mostWords (and-second (leb 1 (length m)) _ (and-first (soundLength m) _ ok))
+  sound-length = and-first (soundLength m) _ ok
+
+  pub sound-words : length m ≤ 16384
+  sound-words = leb-true (length m) mostWords (and-second (leb 1 (length m)) _ sound-length)
 
   pub sound-regions : every (soundRegion m) (d .regions) ≡ true
   sound-regions = and-first (every (soundRegion m) (d .regions)) _ tail
@@ -41,11 +44,17 @@ module _ (m : List ℕ) (d : Manager) (ok : sound m d ≡ true) where
   pub sound-partitions : every (soundPartition m) (d .partitions) ≡ true
   sound-partitions = and-first (every (soundPartition m) (d .partitions)) _ (and-second (every (soundRegion m) (d .regions)) _ tail)
 
+  records : (soundNames d && (soundAreas d && soundQueue m d)) ≡ true
+  records = and-second (every (soundPartition m) (d .partitions)) _ (and-second (every (soundRegion m) (d .regions)) _ tail)
+
+  pub sound-names : soundNames d ≡ true
+  sound-names = and-first (soundNames d) _ records
+
   pub sound-areas : soundAreas d ≡ true
-  sound-areas = and-first (soundAreas d) _ (and-second (every (soundPartition m) (d .partitions)) _ (and-second (every (soundRegion m) (d .regions)) _ tail))
+  sound-areas = and-first (soundAreas d) _ (and-second (soundNames d) _ records)
 
   pub sound-queue : soundQueue m d ≡ true
-  sound-queue = and-second (soundAreas d) _ (and-second (every (soundPartition m) (d .partitions)) _ (and-second (every (soundRegion m) (d .regions)) _ tail))
+  sound-queue = and-second (soundAreas d) _ (and-second (soundNames d) _ records)
 
 -- the generation of a live slot
 pub generation-live : (name g : ℕ) → soundGeneration name g ≡ true → ¬ (name ≡ 0) → g < generations

@@ -20,4 +20,6 @@ is-sound-spec =
     (λ c κs. search needs)
     (λ c. search (needs, tests))
     (λ c κs. search needs)
-    (λ c. search (needs, tests, queue-told)))
+    (λ c. search (needs, tests) depth 6)
+    (λ c κs. search needs)
+    (λ c. search (needs, tests, queue-told) depth 6))

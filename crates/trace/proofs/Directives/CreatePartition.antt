@@ -9,7 +9,7 @@ use Prim.Native.Nat.{ℕ, zero, suc, _+_, _*_, _/_, _%_, _≤_, _<_}
 use native.Mathlib.Nat.{zero-mul}
 use native.Mathlib.Omega.{arith}
 use lib.ListN.{length, getD}
-use lib.Dec.{eqb, leb}
+use lib.Dec.{eqb, leb, ltb}
 use borrow.Author.Tests.{eqb-true, eqb-false, ltb-false, leb-false, not-false}
 use Rattle.manager.specs.Record.{slots, noPartition, emptiedPartition, unspent, withPartition}
 use Rattle.manager.specs.Result.{done}
@@ -22,7 +22,7 @@ use Rattle.manager.proofs.Laws.Partition.Area.{create-outside}
 use Rattle.manager.proofs.Laws.Partition.Live.{new-laid, new-created, live-new}
 use Rattle.manager.proofs.Laws.Lists.{and-first, index-passes}
 use Rattle.manager.proofs.Laws.Result.{Passed}
-use Rattle.manager.specs.Partitions.{unspentPartition, partitionGeneration, partitionId, newPartition, createPartition}
+use Rattle.manager.specs.Partitions.{unspentPartition, partitionNamed, partitionGeneration, partitionId, newPartition, createPartition}
 use Rattle.manager.specs.declared.Manager.{Manager}
 use Rattle.manager.specs.declared.Partition.{Partition}
 use Rattle.manager.specs.declared.Call.the-variants.{CreatePartition}
@@ -32,6 +32,7 @@ use Rattle.trace.specs.Replies.{yes, newPartitionSlot, byReceipts}
 use Rattle.trace.proofs.Invariant.{Only, PartitionIs, PartitionSlot, Inv, live}
 use Rattle.trace.proofs.Slots.{slot-filled}
 use Rattle.trace.proofs.Areas.{overlaps-clear, areas-new-partition}
+use Rattle.trace.proofs.Names.{names-new}
 use Rattle.trace.proofs.Buffers.{length-buffers, numbered-buffers, buffer-within}
 use Rattle.trace.proofs.Clients.{NoLink, owned-no-link}
 use Rattle.trace.proofs.Regions.Picture.{update-here}
@@ -39,7 +40,7 @@ use Rattle.trace.proofs.Regions.Checks.{Kept, kept-checked, Right}
 use Rattle.trace.proofs.Regions.Queue.{sound-inv}
 use Rattle.trace.proofs.Partitions.Slot.{keeping, there, put-keeps, outside, kept-done}
 use Rattle.trace.proofs.Replies.Checks.{same, test, acted, agree, answers}
-use Rattle.trace.proofs.Replies.Ids.{new-partition, partition-id, area-asked}
+use Rattle.trace.proofs.Replies.Ids.{new-partition, partition-slot, partition-id, area-asked}
 use Rattle.manager.specs.Sound.{Shaped}
 
 -- the addresses of buffers, by number and one after the other
@@ -109,7 +110,7 @@ module _ (m : List ℕ) (d : Manager) (t : Receipts) (v : Inv m d t) (name start
   abbrev memory : List ℕ
   memory = chaining m generation name start bytes size
 
-  module _ (within : slot < slots) (clear : overlaps d (areaOf made) ≡ false) (only : Only start bytes m memory)
+  module _ (within : slot < slots) (new : ltb (partitionNamed d name) slots ≡ false) (clear : overlaps d (areaOf made) ≡ false) (only : Only start bytes m memory)
       (is : PartitionIs memory made (asked name start bytes size)) where
     free-slot : unspent (getD (d .partitions) slot noPartition .name) generation ≡ true
     free-slot = index-passes noPartition (λ p. unspent (p .name) (p .generation)) (d .partitions) (omega (arith, v .picture .partition-slots))
@@ -121,6 +122,7 @@ module _ (m : List ℕ) (d : Manager) (t : Receipts) (v : Inv m d t) (name start
         let unnamed = eqb-true _ 0 (and-first (eqb (getD (d .partitions) slot noPartition .name) 0) _ free-slot) in
         put-keeps m d t v id slot generation within refl made (inl unnamed) (inr refl) memory (some (asked name start bytes size)) (t .partitionDeletes) only
         (λ x n. overlaps-clear d nr np (areaOf made) clear x)
+        (names-new (λ p. p .name) noPartition (d .partitions) np (v .picture .partition-names) slot within made new)
         (areas-new-partition d nr np slot within (v .picture .areas) made clear)
         (subst (λ (p : Partition). PartitionSlot memory p (some (asked name start bytes size)))
         (sym (there m d t v id slot generation within refl made (is .named) refl)) (live made (asked name start bytes size) is))
@@ -140,13 +142,13 @@ module _ (m : List ℕ) (d : Manager) (t : Receipts) (v : Inv m d t) (name start
   keeps-create =
       kept-checked (CreatePartition name start bytes size) m d t v _ _ (sound-inv m d t v) refl
       (λ c. let named = eqb-false name 0 (c .0) in
-      let started = eqb-false start 0 (c .1 .0) in
-      let aligned = eqb-true (start % 4) 0 (not-false (eqb (start % 4) 0) (c .1 .1 .0)) in
-      let upto = ltb-false (4 * length m) (start + bytes) (c .1 .1 .1 .0) in
-      let some-buffer = ltb-false bytes size (c .1 .1 .1 .1 .1 .1 .0) in
-      let whole = eqb-true (size % 4) 0 (not-false (eqb (size % 4) 0) (c .1 .1 .1 .1 .1 .1 .1 .0)) in
-      let big = ltb-false size 8 (c .1 .1 .1 .1 .1 .1 .1 .1 .0) in
-      act-kept (leb-false slots slot (c .1 .1 .1 .1 .1 .1 .1 .1 .1 .1 .0)) (c .1 .1 .1 .1 .1 .1 .1 .1 .1 .0)
+      let started = eqb-false start 0 (c .1 .1 .0) in
+      let aligned = eqb-true (start % 4) 0 (not-false (eqb (start % 4) 0) (c .1 .1 .1 .0)) in
+      let upto = ltb-false (4 * length m) (start + bytes) (c .1 .1 .1 .1 .0) in
+      let some-buffer = ltb-false bytes size (c .1 .1 .1 .1 .1 .1 .1 .0) in
+      let whole = eqb-true (size % 4) 0 (not-false (eqb (size % 4) 0) (c .1 .1 .1 .1 .1 .1 .1 .1 .0)) in
+      let big = ltb-false size 8 (c .1 .1 .1 .1 .1 .1 .1 .1 .1 .0) in
+      act-kept (leb-false slots slot (c .1 .1 .1 .1 .1 .1 .1 .1 .1 .1 .1 .0)) (c .1 .0) (c .1 .1 .1 .1 .1 .1 .1 .1 .1 .1 .0)
       (new-only m generation name start bytes size named started aligned upto some-buffer whole big)
       (new-is m generation name start bytes size named started aligned upto some-buffer whole big)
       (new-words m generation name start bytes size named started aligned upto some-buffer whole big))
@@ -159,9 +161,11 @@ module _ (m : List ℕ) (d : Manager) (t : Receipts) (v : Inv m d t) where
   replies-create name start bytes size =
       let e = new-partition m d t (v .picture) in
       answers m d _ _ _ (sound-inv m d t v)
-      (agree (same (same (same (same (same (same (same (same (same
+      (agree (test refl (λ u.
+      test (ap (λ (i : ℕ). ltb i slots) (sym (partition-slot m d t (v .picture) name (eqb-false name 0 u)))) (λ w.
+      same (same (same (same (same (same (same (same
       (test (area-asked m d t (v .picture) (record { start = start; length = bytes })) (λ z.
-      test (ap (leb slots) (sym e)) (λ z. acted (ap yes (partition-id m d t (v .picture) (unspentPartition d) (newPartitionSlot t) e z)))))))))))))))
+      test (ap (leb slots) (sym e)) (λ z. acted (ap yes (partition-id m d t (v .picture) (unspentPartition d) (newPartitionSlot t) e z))))))))))))))))
 
   pub right : (name start bytes size : ℕ) → Right (CreatePartition name start bytes size) m t (createPartition m d name start bytes size)
   right name start bytes size = record { kept = keeps-create m d t v name start bytes size; replies = replies-create name start bytes size }

@@ -8,13 +8,13 @@ use mathlib.Core.Option.{none, some}
 use Prim.Native.Nat.{ℕ, _+_, _*_, _≤_, _<_}
 use native.Mathlib.Omega.{arith}
 use lib.ListN.{length, getD}
-use lib.Dec.{eqb, leb}
+use lib.Dec.{eqb, leb, ltb}
 use borrow.Author.Tests.{eqb-true, eqb-false, ltb-false, leb-false}
 use Rattle.manager.specs.Record.{slots, noRegion, emptiedRegion, unspent, regionOf, withRegion}
 use Rattle.manager.specs.Result.{done}
 use Rattle.manager.specs.Lists as lists
 use Rattle.manager.specs.Region.{opened}
-use Rattle.manager.specs.Regions.{overlaps, unspentRegion, regionGeneration, regionId, createRegion}
+use Rattle.manager.specs.Regions.{overlaps, unspentRegion, regionNamed, regionGeneration, regionId, createRegion}
 use Rattle.manager.specs.declared.Manager.{Manager}
 use Rattle.manager.specs.declared.Region.{Region}
 use Rattle.manager.specs.declared.Order.{Order}
@@ -32,6 +32,7 @@ use Rattle.trace.proofs.Invariant.{Only, regionAs, regionFor, RegionSlo
 use Rattle.trace.proofs.Frame.{map-area}
 use Rattle.trace.proofs.Clients.{map-stays}
 use Rattle.trace.proofs.Areas.{overlaps-clear, areas-new-region}
+use Rattle.trace.proofs.Names.{names-new}
 use Rattle.trace.proofs.Regions.Checks.{note-done, Kept, kept-checked, Right}
 use Rattle.trace.proofs.Slots.{slot-filled, region-unnamed}
 use Rattle.trace.proofs.Regions.Put.{region-there, put-region}
@@ -40,7 +41,7 @@ use Rattle.trace.proofs.Regions.Lending.{none-there, waits-registered}
 use Rattle.trace.proofs.Regions.Queue.{sound-inv}
 use Rattle.trace.proofs.Map.{opens, Steps}
 use Rattle.trace.proofs.Replies.Checks.{same, test, acted, agree, answers}
-use Rattle.trace.proofs.Replies.Ids.{new-region, region-id, area-asked}
+use Rattle.trace.proofs.Replies.Ids.{new-region, region-slot, region-id, area-asked}
 
 -- ---- in a slot that is empty
 
@@ -67,7 +68,8 @@ module _ (m : List ℕ) (d : Manager) (t : Receipts) (v : Inv m d t) (name start
   abbrev manager : Manager
   manager = withRegion d slot (regionAs generation asked)
 
-  module _ (within : slot < slots) (step : Steps m asked memory []) (clear : overlaps d (areaFor (regionFor asked)) ≡ false) where
+  module _ (within : slot < slots) (step : Steps m asked memory []) (new : ltb (regionNamed d name) slots ≡ false)
+      (clear : overlaps d (areaFor (regionFor asked)) ≡ false) where
     only : Only start bytes m memory
     only = map-area memory asked (step .is) m memory (step .only)
 
@@ -88,6 +90,7 @@ module _ (m : List ℕ) (d : Manager) (t : Receipts) (v : Inv m d t) (name start
         let np = v .picture .partition-slots in
         put-region m d t (v .picture) id slot generation within refl (regionAs generation asked) (inl unnamed) (inr refl) memory (some asked) (t .regionDeletes) only
         (λ x n. overlaps-clear d nr np (areaFor (regionFor asked)) clear x)
+        (names-new (λ r. r .name) noRegion (d .regions) nr (v .picture .region-names) slot within (regionAs generation asked) new)
         (areas-new-region d nr np slot within (v .picture .areas) (regionAs generation asked) clear)
         (subst (λ (r : Region). RegionSlot memory r (some asked))
         (sym (region-there m d t (v .picture) id slot generation within refl (regionAs generation asked) (step .is .named) refl)) (live generation asked (step .is)))
@@ -113,13 +116,13 @@ module _ (m : List ℕ) (d : Manager) (t : Receipts) (v : Inv m d t) (name start
   keeps-create =
       kept-checked asks m d t v _ _ (sound-inv m d t v) refl
       (λ c. let named = eqb-false name 0 (c .0) in
-      let started = eqb-false start 0 (c .1 .0) in
-      let upto = ltb-false (4 * length m) (start + bytes) (c .1 .1 .0) in
-      let page-some : 1 ≤ page = (let y = eqb-false page 0 (c .1 .1 .1 .0) in omega arith) in
-      let page-most = ltb-false 4096 page (c .1 .1 .1 .1 .0) in
-      let some-page : 1 ≤ pagesIn asked = (let y = eqb-false (pagesIn asked) 0 (c .1 .1 .1 .1 .1 .0) in omega arith) in
-      act-kept (leb-false slots slot (c .1 .1 .1 .1 .1 .1 .1 .0)) (opens m asked refl named started upto page-some page-most some-page)
-      (c .1 .1 .1 .1 .1 .1 .0))
+      let started = eqb-false start 0 (c .1 .1 .0) in
+      let upto = ltb-false (4 * length m) (start + bytes) (c .1 .1 .1 .0) in
+      let page-some : 1 ≤ page = (let y = eqb-false page 0 (c .1 .1 .1 .1 .0) in omega arith) in
+      let page-most = ltb-false 4096 page (c .1 .1 .1 .1 .1 .0) in
+      let some-page : 1 ≤ pagesIn asked = (let y = eqb-false (pagesIn asked) 0 (c .1 .1 .1 .1 .1 .1 .0) in omega arith) in
+      act-kept (leb-false slots slot (c .1 .1 .1 .1 .1 .1 .1 .1 .0)) (opens m asked refl named started upto page-some page-most some-page)
+      (c .1 .0) (c .1 .1 .1 .1 .1 .1 .1 .0))
 
 -- IT IS ANSWERED AS THE RECEIPTS SAY
 module _ (m : List ℕ) (d : Manager) (t : Receipts) (v : Inv m d t) where
@@ -129,9 +132,11 @@ module _ (m : List ℕ) (d : Manager) (t : Receipts) (v : Inv m d t) where
   replies-create name start bytes page order =
       let e = new-region m d t (v .picture) in
       answers m d _ _ _ (sound-inv m d t v)
-      (agree (same (same (same (same (same (same
+      (agree (test refl (λ u.
+      test (ap (λ (i : ℕ). ltb i slots) (sym (region-slot m d t (v .picture) name (eqb-false name 0 u)))) (λ w.
+      same (same (same (same (same
       (test (area-asked m d t (v .picture) (record { start = start; length = bytes })) (λ z.
-      test (ap (leb slots) (sym e)) (λ z. acted (ap yes (region-id m d t (v .picture) (unspentRegion d) (newRegionSlot t) e z))))))))))))
+      test (ap (leb slots) (sym e)) (λ z. acted (ap yes (region-id m d t (v .picture) (unspentRegion d) (newRegionSlot t) e z)))))))))))))
 
   pub right : (name start bytes page : ℕ) (order : Order) → Right (CreateRegion name start bytes page order) m t (createRegion m d name start bytes page order)
   right name start bytes page order = record { kept = keeps-create m d t v name start bytes page order; replies = replies-create name start bytes page order }

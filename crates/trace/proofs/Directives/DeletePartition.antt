@@ -27,6 +27,7 @@ use Rattle.trace.proofs.Invariant.{Inv, empty, PartitionIs, PartitionSl
 use Rattle.trace.proofs.Frame.{only-refl}
 use Rattle.trace.proofs.Slots.{slot-emptied, deleted-other}
 use Rattle.trace.proofs.Areas.{areaIn, areas-no-partition}
+use Rattle.trace.proofs.Names.{names-none}
 use Rattle.trace.proofs.Regions.Checks.{Kept, kept-checked, Right}
 use Rattle.trace.proofs.Regions.Queue.{sound-inv}
 use Rattle.trace.proofs.Partitions.Slot.{partition-entry, keeping, gone, put-keeps, live-slot, live-in, kept-done, free-unlent}
@@ -53,6 +54,7 @@ module _ (m : List ℕ) (d : Manager) (t : Receipts) (v : Inv m d t) where
       let h = live-in m d t v id e is in
       put-keeps m d t v id (slotOf id) (generationOf id) h (id-back id h) (emptied id) (inr (slot .same)) (inl refl) m none
       (deleted id (t .partitionDeletes)) (only-refl 0 0 m) (λ x n. no-area (areaIn d x))
+      (names-none (λ p. p .name) noPartition (d .partitions) (v .picture .partition-slots) (v .picture .partition-names) (slotOf id) h (emptied id) refl)
       (areas-no-partition d (v .picture .region-slots) (v .picture .partition-slots) (slotOf id) h (v .picture .areas) (partitionOf d id .generation + 1))
       (subst (λ (p : Partition). PartitionSlot m p none)
       (sym (gone m d t v id (slotOf id) (generationOf id) h (id-back id h) (emptied id) refl)) (empty 0))

@@ -28,6 +28,7 @@ use Rattle.trace.proofs.Invariant.{regionFor, RegionSlot, RegionSlotIs,
 use Rattle.trace.proofs.Frame.{only-refl}
 use Rattle.trace.proofs.Slots.{Now, now-same, deleted-other, slot-emptied, region-now}
 use Rattle.trace.proofs.Areas.{areaIn, areas-no-region}
+use Rattle.trace.proofs.Names.{names-none}
 use Rattle.trace.proofs.Clients.{RegionAt}
 use Rattle.trace.proofs.Regions.Checks.{note-done, Kept, kept-words, kept-checked, Right}
 use Rattle.trace.proofs.Regions.Live.{slot-entry}
@@ -66,6 +67,7 @@ module _ (m : List ℕ) (d : Manager) (t : Receipts) (v : Inv m d t) (id : ℕ) 
     picture =
         put-region m d t (v .picture) id (slotOf id) (generationOf id) (now .within) (id-back id (now .within)) emptied (inr (slot .same)) (inl refl) m none deletes
         (only-refl 0 0 m) (λ x n. no-area (areaIn d x))
+        (names-none (λ r. r .name) noRegion (d .regions) (v .picture .region-slots) (v .picture .region-names) (slotOf id) (now .within) emptied refl)
         (areas-no-region d (v .picture .region-slots) (v .picture .partition-slots) (slotOf id) (now .within) (v .picture .areas) (regionOf d id .generation + 1))
         (subst (λ (r : Region). RegionSlot m r none)
         (sym (region-gone m d t (v .picture) id (slotOf id) (generationOf id) (now .within) (id-back id (now .within)) emptied refl)) (empty 0))

@@ -1,4 +1,4 @@
--- An ident of a partition: the id of the lowest slot with the name, and nothing changes. Assumes nothing.
+-- An ident of a partition: the id of the one with the name, and nothing changes. Assumes nothing.
 use mathlib.Core.Path.{refl, _≡_, sym, ap}
 use mathlib.Core.List.{List}
 use Prim.Native.Nat.{ℕ}

@@ -1,4 +1,4 @@
--- An ident of a region: the id of the lowest slot with the name, and nothing changes. Assumes nothing.
+-- An ident of a region: the id of the one with the name, and nothing changes. Assumes nothing.
 use mathlib.Core.Path.{_≡_, refl, ap, sym}
 use mathlib.Core.List.{List}
 use Prim.Native.Nat.{ℕ}

@@ -7,7 +7,7 @@ use mathlib.Core.Logic.{inl, inr}
 use mathlib.Core.Option.{Option, some}
 use Prim.Native.Nat.{ℕ, _+_, _*_, _<_}
 use native.Mathlib.Omega.{arith}
-use lib.ListN.{length, getD, length-set}
+use lib.ListN.{length, getD, set, length-set}
 use lib.Dec.{leb}
 use borrow.Author.Tests.{leb-true, leb-false}
 use Rattle.manager.specs.Record.{slots, noPartition, emptiedPartition, slotOf, generationOf, idOf, regionOf, partitionOf, withPartition}
@@ -23,7 +23,7 @@ use Rattle.manager.specs.declared.Manager.{Manager}
 use Rattle.manager.specs.declared.Partition.{Partition}
 use Rattle.manager.specs.declared.Call.{Call}
 use Rattle.manager.specs.declared.Status.the-variants.{Successful}
-use Rattle.manager.specs.Lists.{Distinct}
+use Rattle.manager.specs.Lists.{pairwise, Distinct}
 use Rattle.manager.proofs.Laws.Areas.{Clear}
 use Rattle.trace.specs.Receipts.{Receipts, PartitionEntry, buffersIn, update, mapOption, withPartitions, onPartition, withPartitionDeletes}
 use Rattle.trace.specs.Replies.{entered}
@@ -33,12 +33,13 @@ use Rattle.trace.proofs.Frame.{partition-shaped}
 use Rattle.trace.proofs.Buffers.{chain-once}
 use Rattle.trace.proofs.Areas.{areaIn, sound-clear, areas-same-partition, region-kept, partition-kept}
 use Rattle.trace.proofs.Slots.{slots-put}
+use Rattle.trace.proofs.Names.{names-same}
 use Rattle.trace.proofs.Loans.Tests.{by-eqb}
 use Rattle.trace.proofs.Queue.Tasks.{wait-same}
 use Rattle.trace.proofs.Clients.{Stays}
 use Rattle.trace.proofs.Regions.Checks.{Kept, note-done}
 use Rattle.trace.proofs.Regions.Picture.{words-same}
-use Rattle.manager.specs.Sound.{soundAreas, Shaped}
+use Rattle.manager.specs.Sound.{otherName, soundAreas, Shaped}
 
 -- ---- what stands in a slot
 
@@ -97,7 +98,8 @@ module _ (m : List ℕ) (d : Manager) (t : Receipts) (v : Inv m d t) (id i g : �
 
     -- THE INVARIANT, where the partition is as its entry says
     module _ (m′ : List ℕ) (o : Option PartitionEntry) (deletes : ℕ → ℕ) (only : Only (p .start) (p .length) m m′)
-        (clear : (x : Object) → ¬ (x ≡ partition id) → Clear (areaOf p) (areaIn d x)) (areas : soundAreas (withPartition d i p) ≡ true)
+        (clear : (x : Object) → ¬ (x ≡ partition id) → Clear (areaOf p) (areaIn d x)) (names : pairwise (otherName (λ p. p .name)) (set (d .partitions) i p) ≡ true)
+        (areas : soundAreas (withPartition d i p) ≡ true)
         (here : PartitionSlot m′ (partitionOf (withPartition d i p) id) o) (slot : PartitionSlotIs p (deletes i))
         (same : (j : ℕ) → ¬ (j ≡ i) → deletes j ≡ t .partitionDeletes j) where
       slot-at : (j : ℕ) → PartitionSlot m′ (partitionOf putting j) (update id o (t .partitions) j)
@@ -120,6 +122,8 @@ module _ (m : List ℕ) (d : Manager) (t : Receipts) (v : Inv m d t) (id i g : �
               partitions = slot-at;
               region-is = v .picture .region-is;
               partition-is = slots-put (λ p. p .name) (λ p. p .generation) emptiedPartition noPartition (d .partitions) i fits p (t .partitionDeletes) deletes same slot (v .picture .partition-is);
+              region-names = v .picture .region-names;
+              partition-names = names;
               areas = areas;
             };
             waits = waits-kept id o deletes t d putting refl (v .waits);
@@ -147,6 +151,8 @@ module _ (m : List ℕ) (d : Manager) (t : Receipts) (v : Inv m d t) (id : ℕ) 
         let before = v .picture .partition-is (slotOf id) live-in in
         put-keeps m d t v id (slotOf id) (generationOf id) live-in (id-back id live-in) p (inr (live-slot .same)) (inr g) m′ (some e′) (t .partitionDeletes) only
         (subst (λ (a : Area). (x : Object) → ¬ (x ≡ partition id) → Clear a (areaIn d x)) (sym area) live-clear)
+        (names-same (λ p. p .name) noPartition (d .partitions) (v .picture .partition-slots) (v .picture .partition-names) (slotOf id) live-in p
+        (name ∙ ap (λ (q : Partition). q .name) slot))
         (areas-same-partition d (v .picture .region-slots) (v .picture .partition-slots) (slotOf id) live-in (v .picture .areas) p (area ∙ ap areaOf slot))
         (subst (λ (q : Partition). PartitionSlot m′ q (some e′)) (sym (there m d t v id (slotOf id) (generationOf id) live-in (id-back id live-in) p (is′ .named) g)) (live p e′ is′))
         (record {

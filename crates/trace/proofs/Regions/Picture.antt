@@ -71,6 +71,8 @@ any-queue m d t q w v =
       partitions = v .partitions;
       region-is = v .region-is;
       partition-is = v .partition-is;
+      region-names = v .region-names;
+      partition-names = v .partition-names;
       areas = v .areas;
     }
 
@@ -108,5 +110,7 @@ module _ (m : List ℕ) (d : Manager) (t : Receipts) (v : Picture m d t) (id : �
               (clear (partition j) (λ (p : region id ≡ partition j). let z : _≡_ {A = ℕ} 0 1 = cc in omega arith)) (v .partitions j);
           region-is = v .region-is;
           partition-is = v .partition-is;
+          region-names = v .region-names;
+          partition-names = v .partition-names;
           areas = v .areas;
         }

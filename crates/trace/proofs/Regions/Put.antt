@@ -6,9 +6,10 @@ use mathlib.Core.List.{List}
 use mathlib.Core.Option.{Option}
 use Prim.Native.Nat.{ℕ, _<_}
 use native.Mathlib.Omega.{arith}
-use lib.ListN.{length, getD, length-set}
+use lib.ListN.{length, getD, set, length-set}
 use Rattle.manager.specs.Record.{slots, noRegion, emptiedRegion, idOf, regionOf, partitionOf, withRegion}
-use Rattle.manager.specs.Sound.{soundAreas}
+use Rattle.manager.specs.Lists.{pairwise}
+use Rattle.manager.specs.Sound.{otherName, soundAreas}
 use Rattle.manager.specs.declared.Manager.{Manager}
 use Rattle.manager.specs.declared.Region.{Region}
 use Rattle.manager.proofs.Laws.Ids.{OfGeneration, put-there, put-empty, put-others}
@@ -42,7 +43,8 @@ module _ (m : List ℕ) (d : Manager) (t : Receipts) (v : Picture m d t) (id i g
 
     -- THE PICTURE, where the region is as its entry says
     module _ (m′ : List ℕ) (o : Option RegionEntry) (deletes : ℕ → ℕ) (only : Only (r .start) (r .length) m m′)
-        (clear : (x : Object) → ¬ (x ≡ region id) → Clear (areaFor r) (areaIn d x)) (areas : soundAreas (withRegion d i r) ≡ true)
+        (clear : (x : Object) → ¬ (x ≡ region id) → Clear (areaFor r) (areaIn d x)) (names : pairwise (otherName (λ r. r .name)) (set (d .regions) i r) ≡ true)
+        (areas : soundAreas (withRegion d i r) ≡ true)
         (here : RegionSlot m′ (regionOf (withRegion d i r) id) o) (slot : RegionSlotIs r (deletes i))
         (same : (j : ℕ) → ¬ (j ≡ i) → deletes j ≡ t .regionDeletes j) where
       slot-at : (j : ℕ) → RegionSlot m′ (regionOf putting j) (update id o (t .regions) j)
@@ -64,5 +66,7 @@ module _ (m : List ℕ) (d : Manager) (t : Receipts) (v : Picture m d t) (id i g
                 (clear (partition j) (λ (e : partition j ≡ region id). let z : _≡_ {A = ℕ} 0 1 = cc in omega arith)) (v .partitions j);
             region-is = slots-put (λ r. r .name) (λ r. r .generation) emptiedRegion noRegion (d .regions) i fits r (t .regionDeletes) deletes same slot (v .region-is);
             partition-is = v .partition-is;
+            region-names = names;
+            partition-names = v .partition-names;
             areas = areas;
           }
