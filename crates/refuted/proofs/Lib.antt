@@ -5,5 +5,6 @@ pub mod Answers
 pub mod Effects
 pub mod Contents
 pub mod Ids
+pub mod Names
 pub mod Serving
 pub mod Halves

@@ -12,7 +12,7 @@ use Rattle.manager.specs.Perform.{Implementation, perform, asked}
 use Rattle.manager.specs.declared.Manager.{Manager}
 use Rattle.manager.specs.declared.Notice.{Notice}
 use Rattle.manager.specs.declared.Call.{Call}
-use Rattle.manager.specs.declared.Call.the-variants.{CreateRegion, IdentRegion, DeleteRegion, GetSegment, ReturnSegment, ResizeSegment, RegionInformation, GetBuffer, ReturnBuffer, Tick}
+use Rattle.manager.specs.declared.Call.the-variants.{CreateRegion, IdentRegion, DeleteRegion, GetSegment, ReturnSegment, ResizeSegment, RegionInformation, CreatePartition, GetBuffer, ReturnBuffer, Tick}
 use Rattle.manager.specs.declared.Order.the-variants.{Fifo}
 use Rattle.manager.specs.declared.Wait.the-variants.{No}
 
@@ -37,6 +37,9 @@ segment-resize = ResizeSegment 0 0 0
 
 abbrev pub region-information : Call
 region-information = RegionInformation 0
+
+abbrev pub partition-create : Call
+partition-create = CreatePartition 0 0 0 0
 
 abbrev pub buffer-get : Call
 buffer-get = GetBuffer 0
