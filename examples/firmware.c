@@ -1,6 +1,6 @@
 /* What a firmware does with the library: a region with tasks that wait, whom a resize, a tick and a
- * return serve or whose time runs out, a partition, a region by halves, taking them down again, an
- * old id that opens nothing, and a gauge of a region with an alarm. */
+ * return serve or whose time runs out, a partition, a name that is taken, a region by halves,
+ * taking them down again, an old id that opens nothing, and a gauge of a region with an alarm. */
 #include <stdio.h>
 #include <stdlib.h>
 
@@ -163,6 +163,7 @@ int main(void)
 
     say("create region", scm_region_create(&manager, 1, 4, 1020, 64, SC_PRIORITY));
     say("create partition", scm_partition_create(&manager, 7, 1024, 100, 24));
+    say("create another region 1", scm_region_create(&manager, 1, 2048, 1020, 64, SC_FIFO));
     say("ident region 2", scm_region_ident(&manager, 2));
     say("ident region 1", scm_region_ident(&manager, 1));
     region = answer(SC_ANSWER_VALUE);

@@ -21,6 +21,9 @@
  * never opens another object than the one that it was given for. A slot that is deleted at
  * generation 65,535 is spent and is not used again.
  *
+ * A name is any number but 0. No two live regions have the same name, and no two live partitions; a
+ * region and a partition may. The name of a deleted object is free again.
+ *
  * What the functions can't tell, and the caller must see to: each pointer is valid for the length
  * passed with it (not null, unless the length is 0) and aligned to 4 bytes, a gauge's words to 8,
  * and no two buffers of one call overlap. Calls on one record must not run at the same time. Where
@@ -61,12 +64,13 @@ extern "C" {
  * goes up when a word changes its place or its meaning. Whoever keeps a record longer than a run of
  * the program keeps this number beside it, and hands the record to no library with another. (The
  * orders 2 and 3 came later: a library that lacks them refuses a record that has them, with
- * SC_INTERNAL_ERROR.)
+ * SC_INTERNAL_ERROR. That names differ came later too: this library refuses a record of an earlier
+ * one in which two live objects of a kind have one name, with SC_INTERNAL_ERROR.)
  */
 #define STEEPLECLAY_RECORD_VERSION 2
 
 /*
- * The stack that a call needs: 13 KB were measured, rounded up here. tests/stack/run measures it:
+ * The stack that a call needs: 14 KB were measured, rounded up here. tests/stack/run measures it:
  * each function is called on a stack filled with a pattern, with fresh, full and damaged records,
  * and the deepest word that was written counts.
  */
@@ -89,7 +93,7 @@ extern "C" {
 
 /* Statuses: RTEMS numbers, but for SC_WAITING. */
 #define SC_SUCCESSFUL 0u        /* RTEMS_SUCCESSFUL */
-#define SC_INVALID_NAME 3u      /* RTEMS_INVALID_NAME: name 0, or not found */
+#define SC_INVALID_NAME 3u      /* RTEMS_INVALID_NAME: name 0, taken, or not found */
 #define SC_INVALID_ID 4u        /* RTEMS_INVALID_ID: no live object has the id */
 #define SC_TOO_MANY 5u          /* RTEMS_TOO_MANY: every slot of the kind is in use or spent */
 #define SC_TIMEOUT 6u           /* RTEMS_TIMEOUT: in a notice */
@@ -179,7 +183,7 @@ typedef struct sc_manager {
 
 /* Makes a region of `length` bytes from `start` on, with pages of `page` bytes (1 to 4096, rounded
  * up to a multiple of 8), cut and with a wait queue as `order` says. A part of the area is its map.
- * Value: the id.
+ * Value: the id. SC_INVALID_NAME, whatever else is wrong: `name` is 0, or a live region has it.
  * Statuses: SC_SUCCESSFUL, SC_INVALID_NAME, SC_TOO_MANY, SC_INVALID_SIZE, SC_INVALID_ADDRESS. */
 static inline uint32_t scm_region_create(sc_manager *m, uint32_t name, uint32_t start,
                                          uint32_t length, uint32_t page, uint32_t order)
@@ -187,7 +191,7 @@ static inline uint32_t scm_region_create(sc_manager *m, uint32_t name, uint32_t 
     return sc_region_create(SC_OF(m), name, start, length, page, order);
 }
 
-/* Value: the id of the region with the name; of several, the one in the lowest slot.
+/* Value: the id of the live region with the name; there is at most one.
  * Statuses: SC_SUCCESSFUL, SC_INVALID_NAME. */
 static inline uint32_t scm_region_ident(sc_manager *m, uint32_t name)
 {
@@ -249,7 +253,8 @@ static inline uint32_t scm_region_get_information(sc_manager *m, uint32_t id)
  */
 
 /* Makes a partition of `length` bytes from `start` (a multiple of 4) on, with buffers of `size`
- * bytes (a multiple of 4, at least 8). Value: the id.
+ * bytes (a multiple of 4, at least 8). Value: the id. SC_INVALID_NAME, whatever else is wrong:
+ * `name` is 0, or a live partition has it.
  * Statuses: SC_SUCCESSFUL, SC_INVALID_NAME, SC_TOO_MANY, SC_INVALID_SIZE, SC_INVALID_ADDRESS. */
 static inline uint32_t scm_partition_create(sc_manager *m, uint32_t name, uint32_t start,
                                             uint32_t length, uint32_t size)
@@ -257,7 +262,7 @@ static inline uint32_t scm_partition_create(sc_manager *m, uint32_t name, uint32
     return sc_partition_create(SC_OF(m), name, start, length, size);
 }
 
-/* Value: the id of the partition with the name; of several, the one in the lowest slot.
+/* Value: the id of the live partition with the name; there is at most one.
  * Statuses: SC_SUCCESSFUL, SC_INVALID_NAME. */
 static inline uint32_t scm_partition_ident(sc_manager *m, uint32_t name)
 {

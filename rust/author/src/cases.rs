@@ -1,7 +1,8 @@
-//! Cases that a comparison has to reach, of ids, generations, page counts,
-//! serving and regions by halves, and how to tell that a call is one.
+//! Cases that a comparison has to reach, of ids, names, generations, page
+//! counts, serving and regions by halves, and how to tell that a call is one.
 
 use crate::halves::{rounded, Blocks, Halves};
+use crate::names::{Holders, Names};
 use directives::words::*;
 use directives::Directive::*;
 use directives::{Answer, Call, Directive, SCRIPT};
@@ -43,6 +44,8 @@ impl Pages {
 pub enum Case {
     /// A create or an ident answers an id above 15: its slot was used before.
     UsedAgain(Directive),
+    /// Of the name of a create.
+    Named(Directive, Names),
     /// A call is refused, and its id differs from a live one only in its
     /// generation, which is an earlier one ..
     Earlier(Directive),
@@ -121,6 +124,10 @@ impl Case {
         let answer_ids = [CreateRegion, IdentRegion, CreatePartition, IdentPartition];
         let with_id = directives.iter().copied().filter(|of| of.has_id());
         let mut cases = answer_ids.map(UsedAgain).to_vec();
+        for create in [CreateRegion, CreatePartition] {
+            let names = Names::of(create).into_iter();
+            cases.extend(names.map(|names| Named(create, names)));
+        }
         cases.extend(with_id.flat_map(|directive| [Earlier(directive), Later(directive)]));
         cases.extend([SlotsBeforeIds, GrantsBySlots, AllPages, OneLess]);
         cases.extend(Pages::ALL.map(ResizeBlocked));
@@ -158,6 +165,7 @@ impl fmt::Display for Case {
     fn fmt(&self, out: &mut fmt::Formatter) -> fmt::Result {
         match self {
             UsedAgain(of) => write!(out, "{}: an id above 15", of.name()),
+            Named(of, names) => write!(out, "{}: {names}", of.name()),
             Earlier(of) => write!(out, "{}: refused for an earlier generation", of.name()),
             Later(of) => write!(out, "{}: refused for a later generation", of.name()),
             SlotsBeforeIds => write!(out, "tick: the lower slot first, with the higher id"),
@@ -195,7 +203,8 @@ fn by(kind: Kind) -> &'static str {
     }
 }
 
-/// The ids, the queues and the region that a call names, before it.
+/// The ids, the queues, the region that a call names and who has the name of a
+/// create, before it.
 pub struct Before {
     regions: Vec<(u32, bool)>,
     partitions: Vec<(u32, bool)>,
@@ -207,6 +216,8 @@ pub struct Before {
     kind: Option<Kind>,
     /// .. and its blocks, if it names one by halves.
     blocks: Option<Blocks>,
+    /// Who has the name of a create.
+    holders: Option<Holders>,
 }
 
 impl Before {
@@ -225,6 +236,7 @@ impl Before {
             to_serve: model.regions_to_serve(),
             kind,
             blocks: id.and_then(|id| Blocks::new(model, id)),
+            holders: is_create(directive).then(|| Holders::new(model, call)),
         }
     }
 
@@ -248,6 +260,10 @@ impl Before {
             _ if directive.has_id() => self.of_id(directive, call.arguments()[0], answer),
             _ => vec![],
         };
+        if let Some(holders) = &self.holders {
+            let names = holders.cases(answer).into_iter();
+            cases.extend(names.map(|(is, names)| (is, Named(directive, names))));
+        }
         cases.extend(self.of_kind(directive, answer));
         if let Some(blocks) = &self.blocks {
             let halves = blocks.cases(call, answer, after).into_iter();
@@ -370,6 +386,10 @@ impl Before {
     }
 }
 
+fn is_create(directive: Directive) -> bool {
+    matches!(directive, CreateRegion | CreatePartition)
+}
+
 /// Whether regions get their notices in an order that is not that of ids.
 fn is_by_slots(ids: &[u32]) -> bool {
     ids.windows(2)
@@ -444,7 +464,8 @@ pub mod tests {
         let mut expected = vec![vec![]; calls.len()];
         expected[0] = vec![AllPages];
         expected[1] = vec![AllPages];
-        expected[3] = vec![UsedAgain(CreateRegion), AllPages];
+        let by_name = Named(CreateRegion, Names::Deleted);
+        expected[3] = vec![UsedAgain(CreateRegion), AllPages, by_name];
         expected[4] = vec![UsedAgain(IdentRegion)];
         expected[5] = vec![Earlier(Information)];
         expected[6] = vec![Later(Information)];
@@ -476,9 +497,9 @@ pub mod tests {
     fn cases_of_page_counts() {
         let calls: [(_, &[u32]); 4] = [
             (CreateRegion, &[1, 56, 136, 64, 0]),
-            (CreateRegion, &[1, 1_024, 123, 64, 0]),
-            (CreateRegion, &[1, 1_077, 136, 64, 0]),
-            (CreateRegion, &[1, 2_056, 1_020, 64, 0]),
+            (CreateRegion, &[2, 1_024, 123, 64, 0]),
+            (CreateRegion, &[3, 1_077, 136, 64, 0]),
+            (CreateRegion, &[4, 2_056, 1_020, 64, 0]),
         ];
         let expected = [vec![AllPages], vec![], vec![OneLess], vec![OneLess]];
         assert_eq!(cases(&mut Model::fresh(), &calls), expected);
@@ -583,9 +604,9 @@ pub mod tests {
     fn cases_of_a_kind() {
         let calls: [(_, &[u32]); 9] = [
             (CreateRegion, &[1, 4, 1_020, 64, 3]),
-            (CreateRegion, &[1, 4, 1_020, 64, 2]),
-            (CreateRegion, &[1, 4, 1_020, 64, 1]),
-            (CreateRegion, &[1, 4, 1_020, 64, 4]),
+            (CreateRegion, &[2, 4, 1_020, 64, 2]),
+            (CreateRegion, &[2, 4, 1_020, 64, 1]),
+            (CreateRegion, &[2, 4, 1_020, 64, 4]),
             (Get, &[1, 512, 0, 0, 0, 0]),
             (Get, &[2, 512, 0, 0, 0, 0]),
             (Read, &[1, 64]),

@@ -305,9 +305,9 @@ mod tests {
     fn cases_of_page_counts_by_halves() {
         let calls: [(_, &[u32]); 4] = [
             (CreateRegion, &[1, 4, 1_148, 64, 2]),
-            (CreateRegion, &[1, 2_052, 1_147, 64, 2]),
-            (CreateRegion, &[1, 4_100, 800, 64, 2]),
-            (CreateRegion, &[1, 8_196, 20_000, 8, 2]),
+            (CreateRegion, &[2, 2_052, 1_147, 64, 2]),
+            (CreateRegion, &[3, 4_100, 800, 64, 2]),
+            (CreateRegion, &[4, 8_196, 20_000, 8, 2]),
         ];
         let expected = [
             vec![Halves::AsManyPages],

@@ -6,11 +6,13 @@
 
 pub mod cases;
 pub mod halves;
+pub mod names;
 mod random;
 
 use directives::words::{generation_of, GENERATIONS, ID_STEP, SLOTS, TASKS};
 use directives::{Call, Directive};
 use model::Model;
+use names::Seen;
 pub use random::Random;
 
 /// Numbers at the edges of what a rule or a number type allows; the last ones
@@ -21,6 +23,10 @@ pub const EDGES: [u32; 36] = [
     4294967231, 4294967232, 4294967288, 4294967294, 4294967295,
 ];
 
+/// Objects are mostly named from 1 up to this. There are more such names than
+/// slots, so that a new object can have one.
+const NAMES: u32 = SLOTS as u32 + 4;
+
 /// What the calls of one list have in common.
 #[derive(Clone, Debug)]
 pub struct Style {
@@ -28,6 +34,9 @@ pub struct Style {
     pub odd: u32,
     /// How many of a hundred choices are none.
     pub odd_choices: u32,
+    /// How many of a hundred new objects are to have the name of a live one of
+    /// their kind.
+    pub taken_names: u32,
     /// How many of a hundred new regions are by halves.
     pub halves: u32,
     /// How many of a hundred gets may wait.
@@ -45,6 +54,7 @@ impl Default for Style {
         Style {
             odd: 5,
             odd_choices: 0,
+            taken_names: 5,
             halves: 50,
             waits: 40,
             small_gets: 40,
@@ -102,11 +112,12 @@ impl Author<'_> {
             ["name", "start", "length", "page", "order"] => {
                 let (start, length) = self.area(1);
                 let page = self.unit(1, length);
-                vec![self.name(), start, length, page, self.order()]
+                vec![self.new_name(directive), start, length, page, self.order()]
             }
             ["name", "start", "length", "size"] => {
                 let (start, length) = self.area(4);
-                vec![self.name(), start, length, self.unit(4, length)]
+                let name = self.new_name(directive);
+                vec![name, start, length, self.unit(4, length)]
             }
             keys => panic!("no arguments are made up for {keys:?}"),
         };
@@ -131,17 +142,46 @@ impl Author<'_> {
         }
     }
 
-    /// Names are few, so that some are the same.
-    pub fn name(&mut self) -> u32 {
+    /// A name to look for. Names are few, so that some object has it.
+    fn name(&mut self) -> u32 {
+        let names = [self.model.region_names(), self.model.partition_names()].concat();
         if self.is_odd() {
-            return match self.random.below(3) {
-                0 => self.odd_number(),
-                _ => 0,
-            };
+            return self.odd_name(&names);
         }
-        match self.random.pick_any(&self.model.names()) {
-            Some(name) if self.random.chance(30) => name,
-            _ => self.random.between(1, 8),
+        match self.random.pick_any(&names) {
+            Some(name) if self.random.chance(60) => name,
+            _ => self.random.between(1, NAMES),
+        }
+    }
+
+    /// A name for a new object. Mostly no live object of its kind has it, but
+    /// one of the other kind may, or a deleted one had it.
+    pub fn new_name(&mut self, create: Directive) -> u32 {
+        let seen = Seen::new(self.model, create);
+        let taken: Vec<u32> = seen.own.iter().map(|(name, _)| *name).collect();
+        match self.random.pick_any(&taken) {
+            Some(name) if self.random.chance(self.style.taken_names) => return name,
+            _ if self.is_odd() => return self.odd_name(&taken),
+            _ => {}
+        }
+        let mut names = match self.random.below(4) {
+            0 => seen.other.clone(),
+            1 => seen.old.clone(),
+            _ => vec![],
+        };
+        names.retain(|name| !seen.is_taken(*name));
+        if names.is_empty() {
+            names.extend((1..=NAMES).filter(|name| !seen.is_taken(*name)));
+        }
+        self.random.pick(&names)
+    }
+
+    /// Mostly 0, or a name that differs in one bit from one of these.
+    fn odd_name(&mut self, names: &[u32]) -> u32 {
+        match (self.random.below(4), self.random.pick_any(names)) {
+            (0, _) => self.odd_number(),
+            (1, Some(name)) => name ^ 1 << self.random.below(32),
+            _ => 0,
         }
     }
 
@@ -565,6 +605,45 @@ mod tests {
         ];
         for id in expected {
             assert!(odd.contains(&id), "{id}");
+        }
+    }
+
+    /// New names are those of the other kind, of deleted objects and others;
+    /// or they are taken; odd ones are 0 or near a live one.
+    #[test]
+    fn names_of_all_sorts_are_made_up() {
+        let mut model = Model::fresh();
+        for (directive, arguments) in [
+            (Directive::CreateRegion, &[100, 4, 100, 8, 0][..]),
+            (Directive::CreateRegion, &[200, 1_024, 100, 8, 0]),
+            (Directive::CreatePartition, &[300, 2_048, 16, 8]),
+            (Directive::DeleteRegion, &[1]),
+        ] {
+            assert_eq!(model.call(&directive.call(arguments)).status, 0);
+        }
+        let mut random = Random::for_list(0, 0);
+        let mut names = |create: Directive, odd: u32, taken_names: u32| -> BTreeSet<u32> {
+            let style = Style {
+                odd,
+                taken_names,
+                ..Style::default()
+            };
+            let mut author = Author {
+                random: &mut random,
+                style: &style,
+                model: &model,
+            };
+            (0..5_000).map(|_| author.new_name(create)).collect()
+        };
+        let few: Vec<u32> = (1..=NAMES).collect();
+        let with = |more: &[u32]| few.iter().chain(more).copied().collect();
+        assert_eq!(names(Directive::CreateRegion, 0, 0), with(&[100, 300]));
+        assert_eq!(names(Directive::CreatePartition, 0, 0), with(&[200]));
+        assert_eq!(names(Directive::CreateRegion, 0, 100), [200].into());
+        assert_eq!(names(Directive::CreatePartition, 0, 100), [300].into());
+        let odd = names(Directive::CreateRegion, 100, 0);
+        for name in [0, 201, 200 + 65_536, 200 + (1 << 31), u32::MAX] {
+            assert!(odd.contains(&name), "{name}");
         }
     }
 }

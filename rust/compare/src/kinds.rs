@@ -20,6 +20,7 @@ pub enum Kind {
     Layouts,
     Slots,
     Generations,
+    Names,
     Edges,
     BadNumber,
     BadName,
@@ -48,6 +49,7 @@ impl Kind {
             Kind::Layouts => "layouts",
             Kind::Slots => "all slots in use",
             Kind::Generations => "slots used again",
+            Kind::Names => "names",
             Kind::Edges => "numbers at the edges",
             Kind::BadNumber => "bad number",
             Kind::BadName => "bad name",
@@ -65,7 +67,7 @@ impl Kind {
 }
 
 /// The kinds in turn. Those with more to find come more often.
-pub const ROUND: [Kind; 52] = [
+pub const ROUND: [Kind; 54] = [
     Kind::Mixed,
     Kind::Waiting,
     Kind::Serving,
@@ -76,6 +78,7 @@ pub const ROUND: [Kind; 52] = [
     Kind::Layouts,
     Kind::Slots,
     Kind::Generations,
+    Kind::Names,
     Kind::Edges,
     Kind::BadNumber,
     Kind::DamagedBytes,
@@ -111,6 +114,7 @@ pub const ROUND: [Kind; 52] = [
     Kind::Refused,
     Kind::Partitions,
     Kind::Generations,
+    Kind::Names,
     Kind::Edges,
     Kind::BadName,
     Kind::DamagedLines,
@@ -174,6 +178,7 @@ fn good_script(kind: Kind, random: &mut Random) -> Option<Vec<u8>> {
         Kind::Layouts => layouts(&mut script),
         Kind::Slots => slots(&mut script),
         Kind::Generations => generations(&mut script),
+        Kind::Names => names(&mut script),
         Kind::Edges => edges(&mut script),
         _ => return None,
     }
@@ -229,6 +234,7 @@ fn mixed(script: &mut Script) {
 /// wrong argument show the order of the checks.
 fn refused(script: &mut Script) {
     script.style.odd = 0;
+    script.style.taken_names = 0;
     script.style.longest = 2_000;
     if script.random.chance(40) {
         script.repeat(8, 9, One(CreateRegion));
@@ -240,6 +246,7 @@ fn refused(script: &mut Script) {
     script.repeat(5, 20, One(Get));
     script.repeat(1, 5, One(GetBuffer));
     script.style.odd = script.random.pick(&[20, 35, 50]);
+    script.style.taken_names = script.random.pick(&[5, 20]);
     script.style.waits = 70;
     script.fill(&every_and(&[
         (11, One(CreateRegion)),
@@ -421,6 +428,29 @@ fn generations(script: &mut Script) {
         (2, One(ReturnBuffer)),
         (4, One(Tick)),
     ]));
+}
+
+/// Names that live objects have, of the same kind and of the other one, and
+/// names of deleted objects; now and then something else is wrong too.
+fn names(script: &mut Script) {
+    script.style.odd = script.random.pick(&[0, 10, 30]);
+    script.style.longest = script.random.pick(&[200, 1_000]);
+    script.style.taken_names = 0;
+    script.repeat(2, 9, One(CreateRegion));
+    script.repeat(2, 9, One(CreatePartition));
+    script.style.taken_names = 50;
+    script.fill(&[
+        (16, One(CreateRegion)),
+        (16, One(CreatePartition)),
+        (3, HigherName(CreateRegion)),
+        (3, HigherName(CreatePartition)),
+        (3, One(IdentRegion)),
+        (3, One(IdentPartition)),
+        (3, ClearRegion),
+        (3, ClearPartition),
+        (2, One(Get)),
+        (2, One(GetBuffer)),
+    ]);
 }
 
 fn edges(script: &mut Script) {

@@ -44,6 +44,9 @@ pub enum Step {
     RenewRegion,
     /// The same of a partition.
     RenewPartition,
+    /// The object in the lowest slot is deleted, and the name of one in a
+    /// higher slot is asked for in its place: a region, or a partition.
+    HigherName(Directive),
     /// Taking the buffers that a partition has left, and one more.
     DrainPartition,
     /// A region whose area ends at, or one byte around, the end of its last
@@ -129,15 +132,19 @@ impl Script {
                 let id = self.author().busy_region();
                 self.clear_region(id);
             }
-            Step::ClearPartition => self.clear_partition(),
+            Step::ClearPartition => {
+                let id = self.author().busy_partition();
+                self.clear_partition(id);
+            }
             Step::RenewRegion => {
                 self.take(Step::ClearRegion);
                 self.one(Directive::CreateRegion);
             }
             Step::RenewPartition => {
-                self.clear_partition();
+                self.take(Step::ClearPartition);
                 self.one(Directive::CreatePartition);
             }
+            Step::HigherName(create) => drop(self.higher_name(create)),
             Step::DrainPartition => self.drain_partition(),
             Step::Layout => self.layout(),
         }
@@ -259,12 +266,28 @@ impl Script {
         self.add(Call::DeleteRegion { id });
     }
 
-    fn clear_partition(&mut self) {
-        let id = self.author().busy_partition();
+    fn clear_partition(&mut self, id: u32) {
         for address in self.model.held_buffers(id) {
             self.add(Call::ReturnBuffer { id, address });
         }
         self.add(Call::DeletePartition { id });
+    }
+
+    fn higher_name(&mut self, create: Directive) -> Option<()> {
+        let names = match create.is_of_partitions() {
+            true => {
+                self.clear_partition(*self.model.partition_ids().first()?);
+                self.model.partition_names()
+            }
+            false => {
+                self.clear_region(*self.model.region_ids().first()?);
+                self.model.region_names()
+            }
+        };
+        let mut arguments = self.author().call_of(create).arguments();
+        arguments[0] = self.random.pick_any(&names)?;
+        self.add(create.call(&arguments))?;
+        Some(())
     }
 
     fn drain_partition(&mut self) {
@@ -279,7 +302,7 @@ impl Script {
     /// A large region with small pages.
     pub fn create_fine_region(&mut self) {
         let call = Call::CreateRegion {
-            name: self.author().name(),
+            name: self.author().new_name(Directive::CreateRegion),
             start: self.random.between(1, 5_000),
             length: self.random.between(40_000, 60_000),
             page: self.random.between(1, 16),
@@ -293,7 +316,7 @@ impl Script {
         let order = self.author().order();
         let (start, length) = self.exact_area(page.next_multiple_of(8), order);
         let call = Call::CreateRegion {
-            name: self.author().name(),
+            name: self.author().new_name(Directive::CreateRegion),
             start,
             length,
             page: match self.random.chance(self.style.odd) {

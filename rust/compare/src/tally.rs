@@ -181,7 +181,7 @@ impl fmt::Display for Tally {
         }
         writeln!(
             out,
-            "Ids, generations, page counts, serving and kinds of regions:"
+            "Ids, names, generations, page counts, serving and kinds of regions:"
         )?;
         for (case, count) in &self.cases {
             writeln!(out, "  {:<58}{count:>9}", case.to_string())?;
@@ -194,6 +194,7 @@ impl fmt::Display for Tally {
 mod tests {
     use super::*;
     use crate::kinds::Kind as ScriptKind;
+    use author::names::{Names, Wrong};
     use model::Kind;
 
     #[test]
@@ -220,8 +221,9 @@ mod tests {
     fn cases_are_counted() {
         let mut tally = Tally::default();
         let create = "call=create-region\nname=1\nstart=4\nlength=1020\npage=64\norder=0\n";
-        let script =
-            format!("{create}call=delete-region\nid=1\n{create}call=info\nid=1\ncall=tick\n");
+        let script = format!(
+            "{create}call=delete-region\nid=1\n{create}{create}call=info\nid=1\ncall=tick\n"
+        );
         tally.add(
             ScriptKind::Mixed,
             script.as_bytes(),
@@ -229,9 +231,15 @@ mod tests {
         );
         let expected = [
             (Case::UsedAgain(Directive::CreateRegion), 1),
+            (Case::Named(Directive::CreateRegion, Names::Deleted), 1),
+            (
+                Case::Named(Directive::CreateRegion, Names::Beside(Wrong::Overlap)),
+                1,
+            ),
             (Case::Earlier(Directive::Information), 1),
             (Case::AllPages, 2),
             (Case::Answered(Kind::Pages, Directive::CreateRegion, 0), 2),
+            (Case::Answered(Kind::Pages, Directive::CreateRegion, 3), 1),
             (Case::Answered(Kind::Pages, Directive::DeleteRegion, 0), 1),
         ];
         assert_eq!(tally.cases, expected.into());

@@ -80,6 +80,41 @@ fn generation(
     Some(())
 }
 
+/// Gives a random one of a kind's live slots a name that none of them has.
+fn new_name(random: &mut Random, state: &mut State, slots: Vec<usize>) -> Option<()> {
+    let at = random.pick_any(&slots)?;
+    let least = random.pick(&[1, 77, MAX - SLOTS as u32]);
+    state.record[at + NAME] = state.new_name(&slots, least)?;
+    Some(())
+}
+
+/// Two of some slots.
+fn some_two(random: &mut Random, slots: &[usize]) -> Option<[usize; 2]> {
+    let one = random.pick_any(slots)?;
+    let others: Vec<usize> = slots.iter().copied().filter(|&at| at != one).collect();
+    Some([one, random.pick_any(&others)?])
+}
+
+/// Gives one of a kind's live slots the name of another.
+fn one_name(random: &mut Random, state: &mut State, slots: Vec<usize>) -> Option<()> {
+    let [from, to] = some_two(random, &slots)?;
+    state.record[to + NAME] = state.record[from + NAME];
+    Some(())
+}
+
+/// Gives one of a kind's live slots a name that differs from another's in one
+/// bit, and that none of them has.
+fn near_name(random: &mut Random, state: &mut State, slots: Vec<usize>) -> Option<()> {
+    let [from, to] = some_two(random, &slots)?;
+    let names = state.names(&slots);
+    let near = (0..32).map(|bit| state.record[from + NAME] ^ 1 << bit);
+    let new: Vec<u32> = near
+        .filter(|name| *name != 0 && !names.contains(name))
+        .collect();
+    state.record[to + NAME] = random.pick_any(&new)?;
+    Some(())
+}
+
 /// Sets one of some fields of a random empty slot to a word that is not 0; its
 /// generation is any that an empty slot may keep.
 fn empty_field(
@@ -379,8 +414,8 @@ pub const KINDS: &[Kind] = &[
     unsound("name of a live region 0", |random, state| {
         region_field(random, state, NAME, &[0])
     }),
-    sound("name of a live region another", |random, state| {
-        region_field(random, state, NAME, &[1, 77, MAX])
+    sound("name of a live region a new one", |random, state| {
+        new_name(random, state, state.regions(true))
     }),
     unsound("region's start 0", |random, state| {
         region_field(random, state, START, &[0])
@@ -446,8 +481,8 @@ pub const KINDS: &[Kind] = &[
     unsound("name of a live partition 0", |random, state| {
         partition_field(random, state, NAME, &[0])
     }),
-    sound("name of a live partition another", |random, state| {
-        partition_field(random, state, NAME, &[1, 77, MAX])
+    sound("name of a live partition a new one", |random, state| {
+        new_name(random, state, state.partitions(true))
     }),
     unsound("partition's start 0", |random, state| {
         partition_field(random, state, START, &[0])
@@ -498,6 +533,41 @@ pub const KINDS: &[Kind] = &[
     any("partition's length near", |random, state| {
         let at = random.pick_any(&state.partitions(true))?;
         state.record[at + LENGTH] = near(random, state.record[at + LENGTH]);
+        Some(())
+    }),
+    // Names of both kinds.
+    unsound("names: two regions of one name", |random, state| {
+        one_name(random, state, state.regions(true))
+    }),
+    unsound("names: two partitions of one name", |random, state| {
+        one_name(random, state, state.partitions(true))
+    }),
+    sound(
+        "names: a region and a partition of one name",
+        |random, state| {
+            let (regions, partitions) = (state.regions(true), state.partitions(true));
+            let name = state.new_name(&[&regions[..], &partitions].concat(), 77)?;
+            for slots in [regions, partitions] {
+                let at = random.pick_any(&slots)?;
+                state.record[at + NAME] = name;
+            }
+            Some(())
+        },
+    ),
+    sound("names: two regions' differ in one bit", |random, state| {
+        near_name(random, state, state.regions(true))
+    }),
+    sound(
+        "names: two partitions' differ in one bit",
+        |random, state| near_name(random, state, state.partitions(true)),
+    ),
+    sound("names: two empty slots of a kind alike", |random, state| {
+        let generation = random.pick(&EMPTY_GENERATIONS);
+        for slots in [state.regions(false), state.partitions(false)] {
+            for at in some_two(random, &slots)? {
+                state.record[at + GENERATION] = generation;
+            }
+        }
         Some(())
     }),
     // Overlaps.

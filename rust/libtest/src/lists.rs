@@ -49,6 +49,7 @@ impl List {
         let mut style = Style {
             odd: random.pick(&[2, 5, 10, 25]),
             odd_choices: 2,
+            taken_names: random.pick(&[5, 10, 30]),
             halves: random.pick(&[0, 50, 50, 100]),
             waits: random.pick(&[0, 30, 60, 90]),
             small_gets: random.pick(&[20, 60, 90]),

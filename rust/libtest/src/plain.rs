@@ -306,7 +306,7 @@ impl State<'_> {
         page: u32,
         order: u32,
     ) -> Result<u32, u32> {
-        if name == 0 {
+        if name == 0 || self.named(name, region_at).is_some() {
             return Err(status::INVALID_NAME);
         }
         if start == 0 || !self.is_inside(start, length) {
@@ -475,7 +475,7 @@ impl State<'_> {
         length: u32,
         size: u32,
     ) -> Result<u32, u32> {
-        if name == 0 {
+        if name == 0 || self.named(name, partition_at).is_some() {
             return Err(status::INVALID_NAME);
         }
         if start == 0 || !start.is_multiple_of(4) || !self.is_inside(start, length) {
@@ -608,10 +608,13 @@ impl State<'_> {
         if name == 0 {
             return Err(status::INVALID_NAME);
         }
-        let mut slots = (0..SLOTS).map(|index| (index, slot_at(index)));
-        let slot = slots.find(|(_, at)| self.record[at + NAME] == name);
-        slot.map(|(index, at)| id_of(index, self.record[at + GENERATION]))
-            .ok_or(status::INVALID_NAME)
+        let index = self.named(name, slot_at).ok_or(status::INVALID_NAME)?;
+        Ok(id_of(index, self.record[slot_at(index) + GENERATION]))
+    }
+
+    /// The slot with a name that is not 0.
+    fn named(&self, name: u32, slot_at: fn(usize) -> usize) -> Option<usize> {
+        (0..SLOTS).find(|&index| self.record[slot_at(index) + NAME] == name)
     }
 
     /// The lowest empty slot that is not spent.
@@ -721,7 +724,9 @@ mod tests {
             (Directive::CreatePartition, &[3, 612, 8, 8]),
             (Directive::IdentPartition, &[3]),
             (Directive::GetBuffer, &[2]),
+            (Directive::CreatePartition, &[3, 620, 8, 8]),
             (Directive::CreateRegion, &[1, 700, 200, 16, 3]),
+            (Directive::CreateRegion, &[3, 700, 200, 16, 3]),
             (Directive::Get, &[2, 16, 0, 0, 0, 0]),
             (Directive::Get, &[2, 40, 0, 0, 0, 0]),
             (Directive::Get, &[2, 17, 0, 0, 0, 0]),

@@ -50,6 +50,8 @@ clauses! {
     BufferSizeUnaligned => "buffer size not a multiple of 4",
     BufferSizeTooSmall => "buffer size below 8",
     PartitionWithoutBuffer => "partition's length below its buffer size",
+    RegionsOfOneName => "two regions of one name",
+    PartitionsOfOneName => "two partitions of one name",
     RegionsOverlap => "two regions overlap",
     PartitionsOverlap => "two partitions overlap",
     RegionAndPartitionOverlap => "a region and a partition overlap",
@@ -149,6 +151,8 @@ pub fn check(record: &[u32], memory: &[u32]) -> Result<(), Clause> {
     for index in 0..SLOTS {
         check_partition(&record[partition_at(index)..][..PARTITION_WORDS], bytes)?;
     }
+    check_names(record, region_at, Clause::RegionsOfOneName)?;
+    check_names(record, partition_at, Clause::PartitionsOfOneName)?;
     check_overlaps(record)?;
 
     let mut layouts = [Layout::default(); SLOTS];
@@ -221,6 +225,16 @@ fn check_partition(slot: &[u32], bytes: u32) -> Result<(), Clause> {
     ask(size % 4 == 0, BufferSizeUnaligned)?;
     ask(size >= 8, BufferSizeTooSmall)?;
     ask(length >= size, PartitionWithoutBuffer)
+}
+
+/// Checks that no two live slots of a kind have one name.
+fn check_names(record: &[u32], slot_at: fn(usize) -> usize, clause: Clause) -> Result<(), Clause> {
+    for second in 1..SLOTS {
+        let name = record[slot_at(second) + NAME];
+        let has_name = |first: usize| record[slot_at(first) + NAME] == name;
+        ask(name == 0 || !(0..second).any(has_name), clause)?;
+    }
+    Ok(())
 }
 
 /// Checks that no two live areas overlap; each lies inside the memory.

@@ -357,10 +357,21 @@ impl State {
         random.pick_any(&self.waiters())
     }
 
+    /// The names in some slots.
+    pub fn names(&self, slots: &[usize]) -> Vec<u32> {
+        slots.iter().map(|&at| self.record[at + NAME]).collect()
+    }
+
+    /// A name that is in none of some slots, from one on.
+    pub fn new_name(&self, slots: &[usize], least: u32) -> Option<u32> {
+        let names = self.names(slots);
+        (least..=MAX).find(|name| !names.contains(name))
+    }
+
     /// Adds a partition with all its buffers held, and gives its slot.
     pub fn plant_partition(&mut self, start: u32, length: u32) -> Option<usize> {
         let at = *self.partitions(false).first()?;
-        self.record[at + NAME] = 77;
+        self.record[at + NAME] = self.new_name(&self.partitions(true), 77)?;
         let words = [start, length, 8, 0, 0, 0];
         self.record[at + START..at + PARTITION_WORDS].copy_from_slice(&words);
         Some(at)
@@ -374,7 +385,7 @@ impl State {
         if place.pages == 0 {
             return None;
         }
-        self.record[at + NAME] = 78;
+        self.record[at + NAME] = self.new_name(&self.regions(true), 78)?;
         let words = [start, length, 8, order];
         self.record[at + START..at + REGION_WORDS].copy_from_slice(&words);
         self.draw_map(at, &[(place.pages, false)]);

@@ -9,6 +9,8 @@ use libtest::sound::{self, Clause};
 
 #[path = "compare/halves.rs"]
 mod halves;
+#[path = "compare/names.rs"]
+mod names;
 
 /// Runs lists until so many calls are made, or a difference is found.
 fn run(library: &mut impl Library, calls: u64) -> Result<libtest::tally::Tally, String> {

@@ -23,15 +23,15 @@ const PARTITION_1: u32 = 1_024;
 /// free 12 pages; region 2 (start 1,201, priority) all held; region 3 all
 /// free; partition 1 with buffers 1,024, 1,048, 1,072, 1,096, the first held;
 /// partition 2 with all held. Tasks 1, 2 wait in region 1, and 3, 4, 5 in
-/// region 2.
+/// region 2. The regions are named 5, 6 and 7, the partitions 6 and 8.
 fn state() -> State {
     let mut model = Model::new(vec![7; 1_000]);
     let calls = [
         Directive::CreateRegion.call(&[5, 4, 1_020, 64, 0]),
-        Directive::CreateRegion.call(&[5, 1_201, 399, 64, 1]),
-        Directive::CreateRegion.call(&[5, 1_601, 399, 64, 1]),
+        Directive::CreateRegion.call(&[6, 1_201, 399, 64, 1]),
+        Directive::CreateRegion.call(&[7, 1_601, 399, 64, 1]),
         Directive::CreatePartition.call(&[6, PARTITION_1, 100, 24]),
-        Directive::CreatePartition.call(&[6, 3_000, 16, 8]),
+        Directive::CreatePartition.call(&[8, 3_000, 16, 8]),
         Directive::Get.call(&[1, 65, 0, 0, 0, 0]),
         Directive::Get.call(&[1, 1, 0, 0, 0, 0]),
         Directive::Get.call(&[2, 320, 0, 0, 0, 0]),
@@ -152,8 +152,14 @@ fn sound_states_pass() {
 /// Changes that leave the record and the memory sound.
 #[test]
 fn sound_changes_pass() {
-    // Another name, an order that the waiters allow, ticks, a FIFO priority.
+    // Another name, that of a partition or of a region, or one that differs from
+    // another in one bit.
     assert_eq!(set(region(1, NAME), u32::MAX), Ok(()));
+    assert_eq!(set(region(1, NAME), 8), Ok(()));
+    assert_eq!(set(partition(2, NAME), 5), Ok(()));
+    assert_eq!(set(region(1, NAME), 6 + 65_536), Ok(()));
+    assert_eq!(set(partition(2, NAME), 6 + (1 << 31)), Ok(()));
+    // An order that the waiters allow, ticks, a FIFO priority.
     assert_eq!(set(region(2, ORDER), 0), Ok(()));
     assert_eq!(set(waiter(1, TICKS), u32::MAX), Ok(()));
     assert_eq!(set(waiter(1, TICKS), 0), Ok(()));
@@ -362,6 +368,32 @@ fn broken() -> Vec<(Clause, Vec<Result<(), Clause>>)> {
                 set(partition(1, SIZE), 104),
                 set(partition(1, LENGTH), 23),
                 set(partition(1, LENGTH), 0),
+            ],
+        ),
+        (
+            RegionsOfOneName,
+            vec![
+                set(region(1, NAME), 6),
+                set(region(1, NAME), 7),
+                set(region(3, NAME), 5),
+                set(region(2, NAME), 7),
+                after(|state| (1..4).for_each(|id| state.record[region(id, NAME)] = 9)),
+                // An area that overlaps another does not hide it.
+                after(|state| {
+                    let slot = region(1, NAME)..region(2, NAME);
+                    state.record.copy_within(slot, region(8, NAME));
+                }),
+            ],
+        ),
+        (
+            PartitionsOfOneName,
+            vec![
+                set(partition(1, NAME), 8),
+                set(partition(2, NAME), 6),
+                after(|state| {
+                    let planted = [6, 0, 3_200, 8, 8, 0, 0, 0];
+                    state.record[partition(8, NAME)..][..PARTITION_WORDS].copy_from_slice(&planted);
+                }),
             ],
         ),
         (

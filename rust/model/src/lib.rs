@@ -189,7 +189,7 @@ impl Model {
                 page,
                 order,
             } => self.create_region(name, Area::new(start, length), page, order),
-            Call::IdentRegion { name } => self.regions.ident(name, |region| region.name),
+            Call::IdentRegion { name } => self.regions.ident(name),
             Call::DeleteRegion { id } => self.delete_region(id),
             Call::Get {
                 id,
@@ -212,7 +212,7 @@ impl Model {
                 length,
                 size,
             } => self.create_partition(name, Area::new(start, length), size),
-            Call::IdentPartition { name } => self.partitions.ident(name, |p| p.name),
+            Call::IdentPartition { name } => self.partitions.ident(name),
             Call::DeletePartition { id } => self.delete_partition(id),
             Call::GetBuffer { id } => self.get_buffer(id),
             Call::ReturnBuffer { id, address } => self.return_buffer(id, address),
@@ -234,7 +234,7 @@ impl Model {
         page: u32,
         order: u32,
     ) -> Result<Answer, Refusal> {
-        refuse_if(name == 0, status::INVALID_NAME)?;
+        self.regions.refuse_name(name)?;
         refuse_if(area.start == 0, status::INVALID_ADDRESS)?;
         refuse_if(self.is_past_memory(&area), status::INVALID_ADDRESS)?;
         refuse_if(page == 0 || page > MAX_PAGE, status::INVALID_SIZE)?;
@@ -327,7 +327,7 @@ impl Model {
     }
 
     fn create_partition(&mut self, name: u32, area: Area, size: u32) -> Result<Answer, Refusal> {
-        refuse_if(name == 0, status::INVALID_NAME)?;
+        self.partitions.refuse_name(name)?;
         refuse_if(area.start == 0, status::INVALID_ADDRESS)?;
         refuse_if(!area.start.is_multiple_of(4), status::INVALID_ADDRESS)?;
         refuse_if(self.is_past_memory(&area), status::INVALID_ADDRESS)?;
@@ -434,11 +434,24 @@ impl Model {
         live_ids(self.partition_slots())
     }
 
-    /// The names of the live regions, then of the live partitions.
-    pub fn names(&self) -> Vec<u32> {
-        let regions = self.regions.objects().map(|region| region.name);
-        let partitions = self.partitions.objects().map(|p| p.name);
-        regions.chain(partitions).collect()
+    /// The names of the live regions, by rising slot.
+    pub fn region_names(&self) -> Vec<u32> {
+        self.regions.names()
+    }
+
+    /// The names of the live partitions, by rising slot.
+    pub fn partition_names(&self) -> Vec<u32> {
+        self.partitions.names()
+    }
+
+    /// The names of regions that were deleted, of each slot the last.
+    pub fn old_region_names(&self) -> Vec<u32> {
+        self.regions.old_names()
+    }
+
+    /// The same of partitions.
+    pub fn old_partition_names(&self) -> Vec<u32> {
+        self.partitions.old_names()
     }
 
     /// The area of a live region.

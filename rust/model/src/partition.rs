@@ -1,5 +1,6 @@
 //! A partition: the queue of its free buffers.
 
+use crate::slots::Named;
 use crate::Area;
 use directives::words::PARTITION_WORDS;
 use std::collections::VecDeque;
@@ -11,6 +12,12 @@ pub struct Partition {
     pub size: u32,
     /// The addresses of the free buffers, the next one to be given in front.
     pub chain: VecDeque<u32>,
+}
+
+impl Named for Partition {
+    fn name(&self) -> u32 {
+        self.name
+    }
 }
 
 impl Partition {

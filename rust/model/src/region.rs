@@ -1,6 +1,7 @@
 //! A region: for each page which loan owns it, and the queue of waiters.
 
 use crate::kind::{is_free, Kind, NOBODY};
+use crate::slots::Named;
 use crate::{Area, WORD};
 use directives::words::{is_by_priority, status, REGION_WORDS, WAITER_WORDS};
 use directives::Notice;
@@ -52,6 +53,12 @@ pub struct Region {
     /// The highest number of a loan so far.
     loans: u32,
     pub queue: VecDeque<Waiter>,
+}
+
+impl Named for Region {
+    fn name(&self) -> u32 {
+        self.name
+    }
 }
 
 impl Region {

@@ -8,16 +8,27 @@ use crate::{refuse_if, Refusal};
 use directives::words::*;
 use directives::Answer;
 
+/// An object has a name.
+pub trait Named {
+    fn name(&self) -> u32;
+}
+
 #[derive(Clone, Debug)]
 pub struct Slot<T> {
     pub id: u32,
     pub object: Option<T>,
+    /// The name of the object that was deleted from it last, or 0. No rule asks
+    /// for it.
+    old_name: u32,
 }
 
 impl<T> Slot<T> {
     pub fn new(index: usize, generation: u32, object: Option<T>) -> Slot<T> {
-        let id = id_of(index, generation);
-        Slot { id, object }
+        Slot {
+            id: id_of(index, generation),
+            object,
+            old_name: 0,
+        }
     }
 
     pub fn generation(&self) -> u32 {
@@ -40,7 +51,7 @@ impl<T> Slot<T> {
 #[derive(Clone, Debug)]
 pub struct Slots<T>([Slot<T>; SLOTS]);
 
-impl<T> Slots<T> {
+impl<T: Named> Slots<T> {
     pub fn new(slot: impl FnMut(usize) -> Slot<T>) -> Slots<T> {
         Slots(std::array::from_fn(slot))
     }
@@ -77,22 +88,44 @@ impl<T> Slots<T> {
         slot.ok_or(status::TOO_MANY)
     }
 
-    /// Answers with the id of the lowest object with a name.
-    pub fn ident(&self, name: u32, name_of: impl Fn(&T) -> u32) -> Result<Answer, Refusal> {
-        refuse_if(name == 0, status::INVALID_NAME)?;
-        let has_name = |object: &T| name_of(object) == name;
+    /// The slot of the object with a name. No two objects have the same.
+    fn named(&self, name: u32) -> Option<&Slot<T>> {
+        let has_name = |object: &T| object.name() == name;
         let mut slots = self.0.iter();
-        let slot = slots.find(|slot| slot.object.as_ref().is_some_and(has_name));
-        let slot = slot.ok_or(status::INVALID_NAME)?;
+        slots.find(|slot| slot.object.as_ref().is_some_and(has_name))
+    }
+
+    /// Refuses what can be no name of a new object: 0, and the name of another.
+    pub fn refuse_name(&self, name: u32) -> Result<(), Refusal> {
+        refuse_if(name == 0, status::INVALID_NAME)?;
+        refuse_if(self.named(name).is_some(), status::INVALID_NAME)
+    }
+
+    /// Answers with the id of the object with a name.
+    pub fn ident(&self, name: u32) -> Result<Answer, Refusal> {
+        refuse_if(name == 0, status::INVALID_NAME)?;
+        let slot = self.named(name).ok_or(status::INVALID_NAME)?;
         Ok(Answer::value(slot.id))
     }
 
     /// Deletes the object that has an id; no other object ever has it again.
     pub fn delete(&mut self, id: u32) {
         for slot in self.0.iter_mut().filter(|slot| slot.id == id) {
-            slot.object = None;
+            let object = slot.object.take();
+            slot.old_name = object.map_or(0, |object| object.name());
             slot.id += ID_STEP;
         }
+    }
+
+    /// The names of the objects.
+    pub fn names(&self) -> Vec<u32> {
+        self.objects().map(T::name).collect()
+    }
+
+    /// The names of those that were deleted last, of each slot at most one.
+    pub fn old_names(&self) -> Vec<u32> {
+        let names = self.0.iter().map(|slot| slot.old_name);
+        names.filter(|name| *name != 0).collect()
     }
 
     /// The id of each slot, and whether an object has it.

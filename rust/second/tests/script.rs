@@ -139,11 +139,34 @@ fn too_many_and_wrong_sizes() {
         } else {
             "5 0".to_string()
         };
-        let start = 8 + 8 * index;
-        format!("create-partition name=1 start={start} length=8 size=8 -> {answer}\n")
+        let (name, start) = (index + 1, 8 + 8 * index);
+        format!("create-partition name={name} start={start} length=8 size=8 -> {answer}\n")
     };
     let lines: String = (0..9).map(create).collect();
-    assert_answers(&(lines + "create-partition name=1 start=800 length=8 size=9 -> 8 0"));
+    assert_answers(&(lines + "create-partition name=9 start=800 length=8 size=9 -> 8 0"));
+}
+
+#[test]
+fn names_of_live_objects_are_refused() {
+    assert_answers(
+        "create-region name=5 start=4 length=1020 page=64 order=0 -> 0 1
+         create-region name=6 start=1024 length=128 page=64 order=2 -> 0 2
+         create-region name=5 start=2048 length=128 page=64 order=0 -> 3 0
+         create-region name=6 start=0 length=0 page=0 order=1 -> 3 0
+         create-partition name=5 start=4096 length=16 size=8 -> 0 1
+         create-partition name=5 start=4112 length=16 size=8 -> 3 0
+         create-partition name=5 start=4097 length=16 size=0 -> 3 0
+         create-partition name=7 start=4112 length=16 size=8 -> 0 2
+         delete-region id=1 -> 0 0
+         create-region name=6 start=4 length=1020 page=64 order=0 -> 3 0
+         create-region name=5 start=4 length=1020 page=64 order=0 -> 0 17
+         delete-partition id=1 -> 0 0
+         create-partition name=7 start=4096 length=16 size=8 -> 3 0
+         create-partition name=6 start=4096 length=16 size=8 -> 0 17
+         ident-region name=6 -> 0 2
+         ident-partition name=6 -> 0 17
+         ident-partition name=5 -> 3 0",
+    );
 }
 
 #[test]
