@@ -183,7 +183,7 @@ typedef struct sc_manager {
 
 /* Makes a region of `length` bytes from `start` on, with pages of `page` bytes (1 to 4096, rounded
  * up to a multiple of 8), cut and with a wait queue as `order` says. A part of the area is its map.
- * Value: the id. SC_INVALID_NAME, whatever else is wrong: `name` is 0, or a live region has it.
+ * Value: the id. SC_INVALID_NAME, before the others below: `name` is 0, or a live region has it.
  * Statuses: SC_SUCCESSFUL, SC_INVALID_NAME, SC_TOO_MANY, SC_INVALID_SIZE, SC_INVALID_ADDRESS. */
 static inline uint32_t scm_region_create(sc_manager *m, uint32_t name, uint32_t start,
                                          uint32_t length, uint32_t page, uint32_t order)
@@ -253,7 +253,7 @@ static inline uint32_t scm_region_get_information(sc_manager *m, uint32_t id)
  */
 
 /* Makes a partition of `length` bytes from `start` (a multiple of 4) on, with buffers of `size`
- * bytes (a multiple of 4, at least 8). Value: the id. SC_INVALID_NAME, whatever else is wrong:
+ * bytes (a multiple of 4, at least 8). Value: the id. SC_INVALID_NAME, before the others below:
  * `name` is 0, or a live partition has it.
  * Statuses: SC_SUCCESSFUL, SC_INVALID_NAME, SC_TOO_MANY, SC_INVALID_SIZE, SC_INVALID_ADDRESS. */
 static inline uint32_t scm_partition_create(sc_manager *m, uint32_t name, uint32_t start,

@@ -51,7 +51,7 @@ pub extern "C" fn sc_region_create(
     )
 }
 
-// The id of the lowest region with a name.
+// The id of the region with a name.
 #[no_mangle]
 pub extern "C" fn sc_region_ident(
     state: &mut [u32],
@@ -206,7 +206,7 @@ pub extern "C" fn sc_partition_create(
     )
 }
 
-// The id of the lowest partition with a name.
+// The id of the partition with a name.
 #[no_mangle]
 pub extern "C" fn sc_partition_ident(
     state: &mut [u32],

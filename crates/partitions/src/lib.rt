@@ -27,7 +27,7 @@ pub fn create_partition(
     create::create(mem, d, name, start, length, size)
 }
 
-// The id of the lowest partition of a name.
+// The id of the partition with a name: no two have it.
 pub fn ident_partition(mem: &[u32], d: Manager, name: u32) -> Answer
     ensures { λ r. ⌜ Performs (identPartition (now (mem .entry)) d name) (now (mem .entry)) r ⌝ }
 {

@@ -29,7 +29,7 @@ pub fn create_region(
     create::create(mem, d, name, start, length, page, order)
 }
 
-// The id of the lowest region of a name. Ident: 3.
+// The id of the region with a name: no two have it. Ident: 3.
 pub fn ident_region(mem: &[u32], d: Manager, name: u32) -> Answer
     ensures { λ a. ⌜ Performs (identRegion (now (mem .entry)) d name) (now (mem .entry)) a ⌝ }
 {
