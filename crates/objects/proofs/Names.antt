@@ -2,11 +2,11 @@
 -- lower one has makes the test fail (`twice`). Assumes nothing.
 use mathlib.Core.Path.{_≡_, refl, sym, _∙_}
 use mathlib.Core.List.{List}
-use mathlib.Core.Bool.{Bool, true, false, not, _&&_}
+use mathlib.Core.Bool.{true, false}
 use mathlib.Core.Logic.{⊎-elim}
 use Prim.Native.Nat.{ℕ, _+_, _≤_, _<_}
 use native.Mathlib.Omega.{arith}
-use borrow.Author.Tests.{eq-eqb, eqb-true, not-true, not-false}
+use borrow.Author.Tests.{eq-eqb, eqb-true}
 use lib.Dec.{eqb}
 use lib.ListN.{length, getD}
 use Rattle.manager.specs.Record.{slots}
@@ -64,13 +64,3 @@ module _ {A : Type 0} (name : A → ℕ) (z : A) (l : List A) where
     differ-end h = sym (at-names name z l (λ j k u w. v .before j k u (omega (arith, v .size))))
 
 pub ruleset differing = (unmapped, differ-start, differ-bound, differ-empty, differ-first, differ-twice, differ-end)
-
--- the names of both kinds: a call's answer for the first, then for the second
-module _ (a b x : Bool) (e : x ≡ a) where
-  pub first-alike : not x ≡ true → false ≡ (a && b)
-  first-alike h = rw (← e, not-true x h)
-
-  pub second-tells : not x ≡ false → (y : Bool) → y ≡ b → y ≡ (a && b)
-  second-tells h y g = rw (← e, not-false x h) g
-
-pub ruleset telling = (first-alike, second-tells)

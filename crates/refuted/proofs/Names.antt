@@ -1,7 +1,7 @@
--- WRONG NAMES: the managers 76 to 82, by which two live objects of a kind have one name, a name that no other of its kind has is refused,
+-- WRONG NAMES: the managers 76 to 83, by which two live objects of a kind have one name, a name that no other of its kind has is refused,
 -- or the names of damaged records are not compared. Assumes nothing.
 use mathlib.Core.Path.{_≡_, refl}
-use mathlib.Core.Bool.{cond, not}
+use mathlib.Core.Bool.{cond, not, _&&_}
 use mathlib.Core.List.{List, [], _∷_, map}
 use Prim.Native.Nat.{ℕ, _+_}
 use native.Mathlib.Omega.{arith}
@@ -10,7 +10,7 @@ use lib.Dec.{eqb, ltb}
 use Rattle.manager.specs.Status.{numberOf}
 use Rattle.manager.specs.Record.{slots, noRegion, noPartition, withRegion, withPartition}
 use Rattle.manager.specs.Result.{Result, refused, done}
-use Rattle.manager.specs.Lists.{pairwise}
+use Rattle.manager.specs.Lists.{any, pairwise}
 use Rattle.manager.specs.Region.{dead}
 use Rattle.manager.specs.Regions.{unspentRegion, regionNamed, regionId, newRegion}
 use Rattle.manager.specs.Partition.{deadPartition}
@@ -141,3 +141,13 @@ unfolding everything
 not-onlyRegions h =
     let n : _≡_ {A = ℕ} 1 2 = claimed onlyRegions h (divide ∷ call (CreatePartition 1 64 48 16) ∷ []) .partition-names .differ 1 2 _ _ refl refl refl in
     omega arith
+
+-- 83. THE CHECK COMPARES ACROSS KINDS: where a region and a partition have one name, the records are called damaged
+abbrev checksBoth : Implementation
+checksBoth =
+    answering λ m d c a.
+    cond (any (λ r. not (dead r) && any (λ p. eqb (p .name) (r .name)) (d .partitions)) (d .regions)) (refused m d InternalError) a
+
+not-checksBoth : ¬ Demand3 checksBoth
+unfolding everything
+not-checksBoth = differs checksBoth (divide ∷ high 1 ∷ call (IdentRegion 1) ∷ []) refl

@@ -1,17 +1,15 @@
--- Tests in a row, all of which must hold: the first that fails answers, and after one that holds the others answer. The answer of a
--- call is told by what it ensures. Assumes nothing.
+-- What the tests of the check need: rows of tests, choices, and numbers that calls gave. The answer of a call is told by what it
+-- ensures. Assumes nothing.
 use Prim.Native.Nat.{ℕ, _≤_, _<_}
-use mathlib.Core.Path.{_≡_, refl, sym, ap, _∙_}
-use mathlib.Core.Bool.{Bool, true, false, cond, not, _&&_, _||_}
+use mathlib.Core.Path.{_≡_, refl, ap, _∙_}
+use mathlib.Core.Bool.{Bool, true, false, cond, not, _||_}
 use borrow.Author.Tests.{eq-eqb, ne-eqb, le-leb, lt-leb, lt-ltb, le-ltb, leb-true, leb-false, not-true, not-false}
 use lib.Dec.{leb, ltb}
+use Rattle.manager.proofs.Laws.Tests.{row}
 use Rattle.manager.proofs.Laws.Lists.{every-start, every-from, every-passed, every-failed, every-end}
 use Rattle.objects.proofs.Laws.{unmapped}
 
 module _ (a b : Bool) where
-  pub and-no : a ≡ false → false ≡ (a && b)
-  and-no e = rw e
-
   pub or-yes : a ≡ true → true ≡ (a || b)
   or-yes e = rw e
 
@@ -21,17 +19,7 @@ module _ (a b : Bool) where
   pub not-yes : a ≡ true → not a ≡ false
   not-yes e = rw e
 
-  -- a call's answer
-  pub told-no : b ≡ a → not b ≡ true → a ≡ false
-  told-no e g = sym e ∙ not-true b g
-
-  pub told-yes : b ≡ a → not b ≡ false → a ≡ true
-  told-yes e g = sym e ∙ not-false b g
-
 module _ (v a b : Bool) where
-  pub and-go : a ≡ true → v ≡ b → v ≡ (a && b)
-  and-go e g = rw e g
-
   pub or-go : a ≡ false → v ≡ b → v ≡ (a || b)
   or-go e g = rw e g
 
@@ -65,7 +53,7 @@ opposite a b false e = rw (lt-ltb a b (leb-false b a e))
 pub within-told : (v : Bool) (a b : ℕ) → v ≡ ltb a b → not v ≡ leb b a
 within-told v a b e = ap not e ∙ opposite a b (leb b a) refl
 
-pub ruleset tests = (and-no, and-go, not-no, not-yes, told-no, told-yes, eq-eqb, ne-eqb, le-leb, lt-leb)
+pub ruleset tests = (row, not-no, not-yes, eq-eqb, ne-eqb, le-leb, lt-leb)
 
 pub ruleset choices = (cond-yes, cond-no, or-yes, or-go)
 

@@ -1,7 +1,7 @@
 -- The names of a kind's slots, over what names a slot: of sound records the live one with a name is the only one; and an object put into a
 -- slot leaves the names different where no other slot has its name. Assumes nothing.
-use mathlib.Core.Path.{_≡_, refl, sym, _∙_}
-use mathlib.Core.Bool.{Bool, true, false, _||_}
+use mathlib.Core.Path.{_≡_, sym, _∙_}
+use mathlib.Core.Bool.{true, or-true, or-false}
 use mathlib.Core.List.{List}
 use mathlib.Core.Logic.{⊎-elim}
 use Prim.Native.Nat.{ℕ, _≤_, _<_}
@@ -20,11 +20,7 @@ use Rattle.manager.proofs.Laws.Distinct.{same-or-not}
 module _ {A : Type 0} (name : A → ℕ) where
   -- two slots of one name are empty
   one-name : (x y : A) → otherName name x y ≡ true → name x ≡ name y → name x ≡ 0
-  one-name x y e f = go (eqb (name x) 0) refl (rw (eq-eqb (name x) (name y) f) at e)
-    where
-      go : (b : Bool) → eqb (name x) 0 ≡ b → (b || false) ≡ true → name x ≡ 0
-      go true g h = eqb-true (name x) 0 g
-      go false g h = absurd (let z : _≡_ {A = ℕ} 0 1 = cc in omega arith)
+  one-name x y e f = eqb-true (name x) 0 (sym (or-false (eqb (name x) 0)) ∙ (rw (eq-eqb (name x) (name y) f) at e))
 
   other-name : (x y : A) → (name x ≡ name y → name x ≡ 0) → otherName name x y ≡ true
   other-name x y h =
@@ -32,10 +28,6 @@ module _ {A : Type 0} (name : A → ℕ) where
       (λ (e : name x ≡ name y). rw (eq-eqb (name x) 0 (h e)))
       (λ (n : name x ≡ name y → ⊥). rw (ne-eqb (name x) (name y) n) (or-true (eqb (name x) 0)))
       (same-or-not (name x) (name y))
-    where
-      or-true : (b : Bool) → (b || true) ≡ true
-      or-true true = refl
-      or-true false = refl
 
   module _ (z : A) (l : List A) where
     -- BY PLACES: a name that two slots have is no name

@@ -1,6 +1,6 @@
 -- `names_differ` meets its contract: the names of the regions differ, and those of the partitions. Assumes nothing.
 use Rattle.manager.specs.Sound.{soundNames}
-use Rattle.objects.proofs.Names.{telling}
+use Rattle.manager.proofs.Laws.Tests.{row}
 use borrow.Author.Needs.{needs}
 use Rattle.objects.proofs.names_differ.Statement.{statement}
 use Rattle.objects.proofs.names_differ.Tie as tie
@@ -11,6 +11,6 @@ names-differ-spec =
     tie.close
     (tie.spec
     (λ c κs. search needs)
-    (λ c. search (needs, telling))
+    (λ c. search (needs, row))
     (λ c κs. search needs)
-    (λ c. search (needs, telling)))
+    (λ c. search (needs, row)))

@@ -1,4 +1,4 @@
--- The slots of the record and of the receipts: the lowest empty one, the lowest of a name, and what areas meet. Assumes nothing.
+-- The slots of the record and of the receipts: the lowest empty one, the one with a name, and what areas meet. Assumes nothing.
 use mathlib.Core.Path.{_≡_, refl, sym, ap, _∙_}
 use mathlib.Core.Bool.{Bool, false, cond}
 use mathlib.Core.List.{List, [], _∷_}
