@@ -1,8 +1,8 @@
 // Numbers: roundings to whole pages, and the layout of an area of memory. Every function is total over 32-bit
 // inputs, and no sum wraps: sums are kept in 64 bits.
 ghost use mathlib.Core.Path.{_≡_};
-ghost use Prim.Native.Nat.{_<_};
-ghost use Rattle.arith.specs.Round.{roundUp, pagesFor};
+ghost use Prim.Native.Nat.{_-_, _<_};
+ghost use Rattle.arith.specs.Round.{roundUp, pagesFor, alignUp};
 ghost use Rattle.arith.specs.Power.{powerUp, isPower};
 ghost use Rattle.arith.specs.Layout.{largest, mostPages, anyNumber, layoutWith, layoutOf};
 
@@ -31,6 +31,21 @@ pub fn round_up(x: u32, p: u32) -> u64
     ensures { λ r. ⌜ r ≡ roundUp x p ⌝ }
 {
     multiples(x as u64, p) * p as u64
+}
+
+// How far it is from x up to the first multiple of `every`; 0 where that is 0, since any number will do.
+pub fn gap_to(every: u32, x: u64) -> u64
+    ensures { λ r. ⌜ r ≡ alignUp every x - x ⌝ }
+{
+    if every == 0 {
+        return 0;
+    }
+    let wide = every as u64;
+    let over = x % wide;
+    if over == 0 {
+        return 0;
+    }
+    wide - over
 }
 
 // How many whole pages hold the bytes; 0 where the page size is 0.

@@ -21,11 +21,12 @@ pub fn perform(mem: &mut [u32], d: Manager, call: Call) -> Answer
         Call::GetSegment {
             id,
             size,
+            alignment,
             wait,
             task,
             priority,
             ticks,
-        } => segments::get_segment(mem, d, id, size, wait, task, priority, ticks),
+        } => segments::get_segment(mem, d, id, size, alignment, wait, task, priority, ticks),
         Call::ReturnSegment { id, address } => segments::return_segment(mem, d, id, address),
         Call::SegmentSize { id, address } => segments::segment_size(mem, d, id, address),
         Call::ResizeSegment { id, address, size } => {

@@ -11,6 +11,7 @@ pub mod Paged
 pub mod Shift
 pub mod Halves
 pub mod Kinds
+pub mod Servable
 pub mod Sound
 pub mod Region
 pub mod Areas

@@ -97,10 +97,16 @@ abbrev pub divide : ℕ → Step
 divide id = step (CreatePartition 1 4 100 24) 0 id []
 
 abbrev pub get : ℕ → ℕ → ℕ → Step
-get size status value = step (GetSegment 1 size No 0 0 0) status value []
+get size status value = step (GetSegment 1 size 0 No 0 0 0) status value []
 
 abbrev pub waits : ℕ → ℕ → Step
-waits task size = step (GetSegment 1 size Yes task 1 0) 255 0 []
+waits task size = step (GetSegment 1 size 0 Yes task 1 0) 255 0 []
+
+abbrev pub getOn : ℕ → ℕ → ℕ → ℕ → Step
+getOn alignment size status value = step (GetSegment 1 size alignment No 0 0 0) status value []
+
+abbrev pub waitsOn : ℕ → ℕ → ℕ → Step
+waitsOn alignment task size = step (GetSegment 1 size alignment Yes task 1 0) 255 0 []
 
 abbrev pub return : ℕ → ℕ → List ℕ → Step
 return address status notices = step (ReturnSegment 1 address) status 0 notices
@@ -150,17 +156,17 @@ table =
     -- 10. A partition at start 1,020, length 24, size 24, beside A: 9.
     ∷ calls (a ∷ step (CreatePartition 1 1020 24 24) 9 0 [] ∷ [])
     -- Request 1. A, made again after its delete, has id 17; id 1 is 4, and ident answers 17.
-    ∷ calls (a ∷ remove 1 0 ∷ again 17 ∷ get 65 4 0 ∷ remove 1 4 ∷ step (IdentRegion 1) 0 17 [] ∷ step (GetSegment 17 65 No 0 0 0) 0 64 [] ∷ [])
+    ∷ calls (a ∷ remove 1 0 ∷ again 17 ∷ get 65 4 0 ∷ remove 1 4 ∷ step (IdentRegion 1) 0 17 [] ∷ step (GetSegment 17 65 0 No 0 0 0) 0 64 [] ∷ [])
     -- The notices of a tick go by slots: region 17 in slot 1 comes before region 2.
     ∷ calls
     (a
     ∷ remove 1 0
     ∷ again 17
     ∷ step (CreateRegion 2 1024 1020 64 Fifo) 0 2 []
-    ∷ step (GetSegment 17 960 No 0 0 0) 0 64 []
-    ∷ step (GetSegment 2 896 No 0 0 0) 0 1088 []
-    ∷ step (GetSegment 2 64 Yes 1 1 1) 255 0 []
-    ∷ step (GetSegment 17 64 Yes 2 1 1) 255 0 []
+    ∷ step (GetSegment 17 960 0 No 0 0 0) 0 64 []
+    ∷ step (GetSegment 2 896 0 No 0 0 0) 0 1088 []
+    ∷ step (GetSegment 2 64 0 Yes 1 1 1) 255 0 []
+    ∷ step (GetSegment 17 64 0 Yes 2 1 1) 255 0 []
     ∷ step Tick 0 0 (2 ∷ 6 ∷ 0 ∷ 1 ∷ 6 ∷ 0 ∷ [])
     ∷ [])
     -- The last generation of slot 1 is 65,535. Deleted then, the slot is spent, and the next create takes slot 2.
@@ -186,11 +192,11 @@ table =
     (a
     ∷ step (CreateRegion 2 1024 1020 64 Fifo) 0 2 []
     ∷ get 960 0 64
-    ∷ step (GetSegment 2 768 No 0 0 0) 0 1088 []
-    ∷ step (GetSegment 2 128 No 0 0 0) 0 1856 []
-    ∷ step (GetSegment 2 192 Yes 1 1 1) 255 0 []
-    ∷ step (GetSegment 2 128 Yes 4 1 0) 255 0 []
-    ∷ step (GetSegment 1 64 Yes 2 1 1) 255 0 []
+    ∷ step (GetSegment 2 768 0 No 0 0 0) 0 1088 []
+    ∷ step (GetSegment 2 128 0 No 0 0 0) 0 1856 []
+    ∷ step (GetSegment 2 192 0 Yes 1 1 1) 255 0 []
+    ∷ step (GetSegment 2 128 0 Yes 4 1 0) 255 0 []
+    ∷ step (GetSegment 1 64 0 Yes 2 1 1) 255 0 []
     ∷ step (ReturnSegment 2 1856) 0 0 []
     ∷ step Tick 0 0 (2 ∷ 6 ∷ 0 ∷ 1 ∷ 6 ∷ 0 ∷ 4 ∷ 0 ∷ 1856 ∷ [])
     ∷ [])
@@ -250,4 +256,29 @@ table =
     ++ (step (CreateRegion 9 1024 128 64 Fifo) 5 0 []
     ∷ step (CreateRegion 8 1024 128 64 Fifo) 3 0 []
     ∷ []))
+    -- Request 7. Alignment 256 gives 256: one free segment becomes three. A get of alignment 0 then takes the room before.
+    ∷ words (a ∷ getOn 256 64 0 256 ∷ []) (6 ∷ 0 ∷ 0 ∷ 3 ∷ 22 ∷ replicate 10 0)
+    ∷ words (a ∷ getOn 256 64 0 256 ∷ get 64 0 64 ∷ []) (3 ∷ 4 ∷ 0 ∷ 3 ∷ 22 ∷ replicate 10 0)
+    -- No page of A starts at a multiple of 1,024: 8. At multiples of 128 it has 14 pages in a row at most, from 128 on.
+    ∷ calls (a ∷ getOn 1024 1 8 0 ∷ getOn 128 897 8 0 ∷ getOn 128 896 0 128 ∷ get 1 0 64 ∷ [])
+    -- No multiple of the page size: 8, and not rounded; nor above 4,096. The id comes first. The page size itself is what 0 is.
+    ∷ calls (a ∷ getOn 96 64 8 0 ∷ getOn 1 64 8 0 ∷ getOn 4160 64 8 0 ∷ step (GetSegment 2 64 96 No 0 0 0) 4 0 [] ∷ getOn 64 64 0 64 ∷ [])
+    -- Multiples of 48 in pages of 24, from 144 on: 144, 192; the page at 168 is no such one.
+    ∷ calls (step (CreateRegion 1 4 1020 24 Fifo) 0 1 [] ∷ get 24 0 144 ∷ getOn 48 24 0 192 ∷ get 24 0 168 ∷ getOn 32 24 8 0 ∷ [])
+    -- What the region with nothing held could serve is 13 where there is no such run now, though a longer one starts elsewhere; the resize of a
+    -- segment asks for no alignment.
+    ∷ calls (a ∷ get 192 0 64 ∷ getOn 256 64 0 256 ∷ resize 256 768 0 64 [] ∷ return 64 0 [] ∷ getOn 256 64 13 0 ∷ getOn 128 128 0 128 ∷ [])
+    -- Task 3 waits for a multiple of 256 and is first: 192 bytes that start at 64 serve nobody. With 256 free both are served.
+    ∷ calls
+    (a
+    ∷ get 192 0 64
+    ∷ get 256 0 256
+    ∷ get 512 0 512
+    ∷ waitsOn 256 3 64
+    ∷ waits 5 64
+    ∷ return 64 0 []
+    ∷ return 256 0 (3 ∷ 0 ∷ 256 ∷ 5 ∷ 0 ∷ 64 ∷ [])
+    ∷ [])
+    -- By halves an alignment other than 0 is 11, whatever it is; 4 comes before it, and the size too large behind it.
+    ∷ calls (h ∷ getOn 256 64 11 0 ∷ getOn 96 64 11 0 ∷ getOn 64 4096 11 0 ∷ step (GetSegment 2 64 256 No 0 0 0) 4 0 [] ∷ getOn 256 0 8 0 ∷ getOn 0 64 0 128 ∷ [])
     ∷ []

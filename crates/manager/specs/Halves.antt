@@ -90,14 +90,15 @@ releaseBlock (suc j) p at s =
     (join (releaseBlock j p at (lowOf (2 ^ j) s)) (highOf (2 ^ j) s))
     (join (lowOf (2 ^ j) s) (releaseBlock j p (at + 2 ^ j) (highOf (2 ^ j) s))))
 
--- Resize: only where the size stays, and then nothing changes
+-- Get: it knows no alignment but 0. Resize: only where the size stays, and then nothing changes
 abbrev pub halves : Kind
 halves =
     record {
       rounded = powerUp;
       allowed = isPower;
+      aligns = λ alignment. eqb alignment 0;
       proper = λ s. halved (level (total s)) s;
-      place = placeBlock;
+      place = λ w. placeBlock (w .pages);
       occupy = occupyBlock;
       canHave = λ p k at s. eqb k (heldFrom p at s);
       change = λ p k at s. cond (eqb k 0) (releaseBlock (level (total s)) p at s) s;

@@ -1,12 +1,14 @@
 -- Rules 5.1 to 5.3: how a region of pages places, frees and resizes segments. Assumes nothing.
 use Prim.Native.Nat.{ℕ, zero, suc, _+_, _-_}
-use mathlib.Core.Bool.{Bool, cond, _&&_, _||_}
+use mathlib.Core.Bool.{Bool, true, cond, _&&_, _||_}
 use mathlib.Core.List.{List, [], _∷_}
 use lib.Dec.{eqb, leb}
 use Rattle.manager.specs.Lists.{adjacent}
+use Rattle.arith.specs.Round.{alignUp}
 use Rattle.arith.specs.Layout.{anyNumber}
 use Rattle.manager.specs.Map.{Segment, free, held, isHeldSegment}
 use Rattle.manager.specs.Kind.{Kind}
+use Rattle.manager.specs.declared.Need.{Need}
 use Rattle.manager.specs.declared.Place.{Place}
 use Rattle.manager.specs.declared.Place.the-variants.{At, Nowhere}
 
@@ -40,11 +42,18 @@ rest [] = []
 rest (free n ∷ s) = s
 rest (held n ∷ s) = held n ∷ s
 
--- Get: the free segment with the lowest address that has k pages or more. Its first page, where the map starts at page `at`
-unfoldable pub placeFrom : ℕ → ℕ → List Segment → Place
-placeFrom k at [] = Nowhere
-placeFrom k at (held n ∷ s) = placeFrom k (at + n) s
-placeFrom k at (free n ∷ s) = cond (leb k n) (At at) (placeFrom k (at + n) s)
+-- of n pages from page `at` on, so many from the first multiple of `every` on; all of them where that is 0
+abbrev pub roomFrom : ℕ → ℕ → ℕ → ℕ
+roomFrom zero at n = n
+roomFrom (suc every) at n = at + n - alignUp (suc every) at
+
+-- Get: "the lowest fitting address wins". The lowest page on the alignment from which on a free segment has the pages, where the map starts
+-- at page `at`
+unfoldable pub placeFrom : Need → ℕ → List Segment → Place
+placeFrom w at [] = Nowhere
+placeFrom w at (held n ∷ s) = placeFrom w (at + n) s
+placeFrom w at (free n ∷ s) =
+    cond (leb (w .pages) (roomFrom (w .every) at n)) (At (alignUp (w .every) at)) (placeFrom w (at + n) s)
 
 -- k pages from page p on are held, where they lie in a free segment: what it has before them and behind them stays free
 unfoldable pub occupyFrom : ℕ → ℕ → ℕ → List Segment → List Segment
@@ -71,6 +80,7 @@ paged =
     record {
       rounded = λ k. k;
       allowed = anyNumber;
+      aligns = λ alignment. true;
       proper = apart;
       place = placeFrom;
       occupy = occupyFrom;

@@ -13,7 +13,7 @@ unfoldable pub perform : List ℕ → Manager → Call → Result
 perform m d (CreateRegion name start bytes page order) = createRegion m d name start bytes page order
 perform m d (IdentRegion name) = identRegion m d name
 perform m d (DeleteRegion id) = deleteRegion m d id
-perform m d (GetSegment id size wait task priority ticks) = getSegment m d id size wait task priority ticks
+perform m d (GetSegment id size alignment wait task priority ticks) = getSegment m d id size alignment wait task priority ticks
 perform m d (ReturnSegment id address) = returnSegment m d id address
 perform m d (SegmentSize id address) = segmentSize m d id address
 perform m d (ResizeSegment id address size) = resizeSegment m d id address size
@@ -25,21 +25,22 @@ perform m d (GetBuffer id) = getBuffer m d id
 perform m d (ReturnBuffer id address) = returnBuffer m d id address
 perform m d Tick = tick m d
 
--- A CALL IN PARTS, which tell it from others: its directive's number, the id that it names, and its size, address or name; 0 for what it
--- has not. No statement and no contract rests on it: wrong managers are made by it
+-- A CALL IN PARTS, which tell it from others: its directive's number, the id that it names, its size, address or name, and its alignment; 0
+-- for what it has not. No statement and no contract rests on it: wrong managers are made by it
 pub record Asked : Type 0 where
   pub directive : ℕ
   pub id : ℕ
   pub number : ℕ
+  pub alignment : ℕ
 
 abbrev asks : ℕ → ℕ → ℕ → Asked
-asks directive id number = record { directive = directive; id = id; number = number }
+asks directive id number = record { directive = directive; id = id; number = number; alignment = 0 }
 
 abbrev pub asked : Call → Asked
 asked (CreateRegion name start bytes page order) = asks 1 0 name
 asked (IdentRegion name) = asks 2 0 name
 asked (DeleteRegion id) = asks 3 id 0
-asked (GetSegment id size wait task priority ticks) = asks 4 id size
+asked (GetSegment id size alignment wait task priority ticks) = record { directive = 4; id = id; number = size; alignment = alignment }
 asked (ReturnSegment id address) = asks 5 id address
 asked (SegmentSize id address) = asks 6 id address
 asked (ResizeSegment id address size) = asks 7 id size

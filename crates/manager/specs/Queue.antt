@@ -73,7 +73,8 @@ waiting d task = any (λ w. eqb (w .task) task) (d .waiters)
 
 -- Tick: each waiter with ticks left loses one; at 0 it leaves with status 6 and address 0. Ticks 0 waits for ever
 abbrev pub aged : Waiter → Waiter
-aged w = record { task = w .task; region = w .region; size = w .size; priority = w .priority; ticks = w .ticks - 1 }
+aged w =
+    record { task = w .task; region = w .region; size = w .size; alignment = w .alignment; priority = w .priority; ticks = w .ticks - 1 }
 
 abbrev pub expired : Waiter → Notice
 expired w = record { task = w .task; status = Timeout; address = 0 }

@@ -42,7 +42,7 @@ abbrev pub noPartition : Partition
 noPartition = emptiedPartition 0
 
 abbrev pub noWaiter : Waiter
-noWaiter = record { task = 0; region = 0; size = 0; priority = 0; ticks = 0 }
+noWaiter = record { task = 0; region = 0; size = 0; alignment = 0; priority = 0; ticks = 0 }
 
 abbrev pub noNotice : Notice
 noNotice = record { task = 0; status = Successful; address = 0 }

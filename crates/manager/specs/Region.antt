@@ -10,7 +10,7 @@ use Rattle.arith.specs.Layout.{layoutOf as layoutAt}
 use Rattle.arith.specs.declared.Layout.{Layout}
 use Rattle.manager.specs.Lists.{any}
 use Rattle.manager.specs.Map.{Segment, isHeldSegment, decode, draw, freeSizes, heldSizes}
-use Rattle.manager.specs.Kind.{Kind, allocate, heldFrom}
+use Rattle.manager.specs.Kind.{Kind, isPlace, allocate, heldFrom}
 use Rattle.manager.specs.Paged.{free+, paged}
 use Rattle.manager.specs.Halves.{halves}
 use Rattle.manager.specs.declared.Order.{Order}
@@ -19,6 +19,7 @@ use Rattle.manager.specs.declared.Region.{Region}
 use Rattle.manager.specs.declared.Partition.{Partition}
 use Rattle.manager.specs.declared.Manager.{Manager}
 use Rattle.manager.specs.declared.Area.{Area}
+use Rattle.manager.specs.declared.Need.{Need}
 use Rattle.manager.specs.declared.Place.{Place}
 
 -- a region of a name is live; an empty slot is not
@@ -108,16 +109,27 @@ helds m r = heldSizes (segments m r)
 abbrev pub pagesAsked : Region → ℕ → ℕ
 pagesAsked r size = kind r .rounded (pagesFor size (r .page))
 
--- whether it could serve k pages with nothing held
-abbrev pub servable : Region → ℕ → Bool
-servable r k = leb k (pagesOf r)
+-- "0 for the page size, else a multiple of the page size up to 4,096": 0 is a multiple of all
+abbrev pub isAlignment : ℕ → ℕ → Bool
+isAlignment page alignment = leb alignment 4096 && eqb (alignment % page) 0
 
--- where k pages of it are placed, and the memory after they are taken there
-abbrev pub placed : List ℕ → Region → ℕ → Place
-placed m r k = kind r .place k (firstPageOf r) (segments m r)
+-- so many bytes from an address on that is a multiple of the alignment: pages start at multiples of their size, so that is every so many-th
+abbrev pub needOf : Region → ℕ → ℕ → Need
+needOf r size alignment = record { pages = pagesAsked r size; every = alignment / r .page }
 
-abbrev pub taken : List ℕ → Region → ℕ → List ℕ
-taken m r k = withSegments m r (allocate (kind r) k (firstPageOf r) (segments m r))
+-- whether a region could serve a need with nothing held, by its kind and its layout, and by its own
+abbrev pub servableAt : Kind → Layout → Need → Bool
+servableAt K l w = isPlace (K .place w (l .first) (free+ (l .pages) []))
+
+abbrev pub servable : Region → Need → Bool
+servable r w = servableAt (kind r) (layoutOf r) w
+
+-- where the pages of a need are placed, and the memory after they are taken there
+abbrev pub placed : List ℕ → Region → Need → Place
+placed m r w = kind r .place w (firstPageOf r) (segments m r)
+
+abbrev pub taken : List ℕ → Region → Need → List ℕ
+taken m r w = withSegments m r (allocate (kind r) w (firstPageOf r) (segments m r))
 
 -- the areas of objects: the whole asked area counts. A region has one
 abbrev pub areasOf : Region → List Area

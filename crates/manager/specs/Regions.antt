@@ -9,7 +9,7 @@ use Rattle.manager.specs.Record.{slots, tasks, noRegion, emptiedRegion, 
 use Rattle.manager.specs.Result.{Result, Check, check, checked, refused, done, replied}
 use Rattle.manager.specs.Lists.{any, indexOf}
 use Rattle.manager.specs.Map.{largestOf, sumOf}
-use Rattle.manager.specs.Region.{dead, pagesOf, addressOf, opened, heldAt, canHave, changed, anyHeld, frees, helds, pagesAsked, servable, placed, taken, areas, overlap}
+use Rattle.manager.specs.Region.{dead, kind, pagesOf, addressOf, opened, heldAt, canHave, changed, anyHeld, frees, helds, pagesAsked, isAlignment, needOf, servable, placed, taken, areas, overlap}
 use Rattle.manager.specs.Queue.{enqueue, waiting, leaving, afterTick}
 use Rattle.manager.specs.Kind.{onPlace}
 use Rattle.manager.specs.Serve.{behind, serve, serveAfter, fromServed}
@@ -22,7 +22,7 @@ use Rattle.manager.specs.declared.Information.{Information}
 use Rattle.manager.specs.declared.Order.{Order}
 use Rattle.manager.specs.declared.Wait.{Wait}
 use Rattle.manager.specs.declared.Wait.the-variants.{No, Yes}
-use Rattle.manager.specs.declared.Status.the-variants.{Successful, InvalidName, InvalidId, TooMany, InvalidSize, InvalidAddress, InvalidNumber, ResourceInUse, Unsatisfied, IncorrectState, InvalidPriority, InternalError, Waiting}
+use Rattle.manager.specs.declared.Status.the-variants.{Successful, InvalidName, InvalidId, TooMany, InvalidSize, InvalidAddress, InvalidNumber, NotDefined, ResourceInUse, Unsatisfied, IncorrectState, InvalidPriority, InternalError, Waiting}
 
 -- "25 first always", where the records that the directive looks at are not sound; then its own checks, then what it does
 abbrev pub answered : Bool → List ℕ → Manager → List Check → Result → Result
@@ -91,7 +91,8 @@ deleteRegion m d id =
     ∷ [])
     (done m (withRegion d (slotOf id) (emptiedRegion (r .generation + 1))) 0)
 
--- get: size 0 (8), 4, size too large 8; if waiting is allowed 10, 19, 14; then the search
+-- get: size 0 (8), 4, an alignment that its kind does not know 11, any other that is not allowed 8, what the region with nothing held could
+-- not serve 8; if waiting is allowed 10, 19, 14; then the search
 abbrev pub waitChecks : Manager → Wait → ℕ → ℕ → List Check
 waitChecks d No task priority = []
 waitChecks d Yes task priority =
@@ -107,17 +108,19 @@ abbrev pub unplaced : List ℕ → Manager → Wait → Waiter → Result
 unplaced m d No w = refused m d Unsatisfied
 unplaced m d Yes w = replied m (enqueue d w) Waiting 0
 
-unfoldable pub getSegment : List ℕ → Manager → ℕ → ℕ → Wait → ℕ → ℕ → ℕ → Result
-getSegment m d id size wait task priority ticks =
+unfoldable pub getSegment : List ℕ → Manager → ℕ → ℕ → ℕ → Wait → ℕ → ℕ → ℕ → Result
+getSegment m d id size alignment wait task priority ticks =
     let r = regionOf d id in
-    let k = pagesAsked r size in
+    let n = needOf r size alignment in
     answered (sound m d) m d
     (check (eqb size 0) InvalidSize
     ∷ check (dead r) InvalidId
-    ∷ check (not (servable r k)) InvalidSize
+    ∷ check (not (kind r .aligns alignment)) NotDefined
+    ∷ check (not (isAlignment (r .page) alignment)) InvalidSize
+    ∷ check (not (servable r n)) InvalidSize
     ∷ waitChecks d wait task priority)
-    (onPlace (placed m r k) (λ p. done (taken m r k) d (addressOf r p))
-    (unplaced m d wait (record { task = task; region = id; size = size; priority = priority; ticks = ticks })))
+    (onPlace (placed m r n) (λ p. done (taken m r n) d (addressOf r p))
+    (unplaced m d wait (record { task = task; region = id; size = size; alignment = alignment; priority = priority; ticks = ticks })))
 
 -- return: 4, 9; the segment joins its free neighbours, then the queue is served
 unfoldable pub returnSegment : List ℕ → Manager → ℕ → ℕ → Result

@@ -8,7 +8,7 @@ use lib.Dec.{ltb}
 use Rattle.manager.specs.Record.{slots, tasks, noRegion, noWaiter, noInformation, regionOf, idOf}
 use Rattle.manager.specs.Result.{Result}
 use Rattle.manager.specs.Kind.{onPlace}
-use Rattle.manager.specs.Region.{dead, addressOf, pagesAsked, placed, taken}
+use Rattle.manager.specs.Region.{dead, addressOf, needOf, placed, taken}
 use Rattle.manager.specs.Queue.{firstOf, dequeue}
 use Rattle.manager.specs.declared.Manager.{Manager}
 use Rattle.manager.specs.declared.Waiter.{Waiter}
@@ -41,9 +41,9 @@ serveUpTo (suc f) m d id =
     let r = regionOf d id in
     let i = firstOf id (d .waiters) in
     let w = getD (d .waiters) i noWaiter in
-    let k = pagesAsked r (w .size) in
+    let n = needOf r (w .size) (w .alignment) in
     cond (ltb i tasks)
-    (onPlace (placed m r k) (λ p. telling (granted w (addressOf r p)) (serveUpTo f (taken m r k) (dequeue d i) id)) (quiet m d))
+    (onPlace (placed m r n) (λ p. telling (granted w (addressOf r p)) (serveUpTo f (taken m r n) (dequeue d i) id)) (quiet m d))
     (quiet m d)
 
 -- the queue of a region: as many grants as there are places

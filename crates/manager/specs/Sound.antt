@@ -8,7 +8,7 @@ use lib.Dec.{eqb, leb}
 use Rattle.manager.specs.Record.{slots, tasks, mostWords, generations, noRegion, regionOf}
 use Rattle.manager.specs.Lists.{every, pairwise, adjacent}
 use Rattle.manager.specs.Map.{soundMap}
-use Rattle.manager.specs.Region.{dead, kind, pagesOf, mapWords, anyHeld, pagesAsked, servable, areas, overlap}
+use Rattle.manager.specs.Region.{dead, kind, pagesOf, mapWords, anyHeld, isAlignment, needOf, servable, areas, overlap}
 use Rattle.manager.specs.Partition.{deadPartition, soundChain}
 use Rattle.manager.specs.Queue.{goesBefore}
 use Rattle.manager.specs.declared.Manager.{Manager}
@@ -86,10 +86,10 @@ unused w = eqb (w .task) 0
 -- "unused queue places zero", and behind the used ones
 abbrev pub emptyWaiter : Waiter → Bool
 emptyWaiter w =
-    eqb (w .task) 0 && (eqb (w .region) 0 && (eqb (w .size) 0 && (eqb (w .priority) 0 && eqb (w .ticks) 0)))
+    eqb (w .task) 0 && (eqb (w .region) 0 && (eqb (w .size) 0 && (eqb (w .alignment) 0 && (eqb (w .priority) 0 && eqb (w .ticks) 0))))
 
 -- "each waiting task of 1 to 16, in a live region with something held, with a size from 1 that region can hold, a priority from 1 to
--- 255"
+-- 255"; and with an alignment that a get of it allows, on which the region with nothing held could serve it
 unfoldable pub soundWaiter : List ℕ → Manager → Waiter → Bool
 soundWaiter m d w =
     let r = regionOf d (w .region) in
@@ -97,8 +97,10 @@ soundWaiter m d w =
     && (not (dead r)
     && (anyHeld m r
     && (leb 1 (w .size)
-    && (servable r (pagesAsked r (w .size))
-    && (leb 1 (w .priority) && leb (w .priority) 255)))))
+    && (kind r .aligns (w .alignment)
+    && (isAlignment (r .page) (w .alignment)
+    && (servable r (needOf r (w .size) (w .alignment))
+    && (leb 1 (w .priority) && leb (w .priority) 255)))))))
 
 unfoldable pub soundPlace : List ℕ → Manager → Waiter → Bool
 soundPlace m d w = cond (unused w) (emptyWaiter w) (soundWaiter m d w)

@@ -28,6 +28,7 @@ pub enum Status {
     InvalidSize,
     InvalidAddress,
     InvalidNumber,
+    NotDefined,
     ResourceInUse,
     Unsatisfied,
     IncorrectState,
@@ -63,6 +64,7 @@ pub struct Waiter {
     pub task: u32,
     pub region: u32,
     pub size: u32,
+    pub alignment: u32,
     pub priority: u32,
     pub ticks: u32,
 }
@@ -88,6 +90,12 @@ pub struct Information {
 pub struct Area {
     pub start: u32,
     pub length: u32,
+}
+
+// What a search for pages looks for: so many, from a page on whose number is a multiple of `every`; from any page where that is 0.
+pub struct Need {
+    pub pages: u64,
+    pub every: u32,
 }
 
 // Where a search for pages ends: at a page, or nowhere.
@@ -130,6 +138,7 @@ pub enum Call {
     GetSegment {
         id: u32,
         size: u32,
+        alignment: u32,
         wait: Wait,
         task: u32,
         priority: u32,
@@ -226,6 +235,7 @@ impl Manager {
             task: 0,
             region: 0,
             size: 0,
+            alignment: 0,
             priority: 0,
             ticks: 0,
         };
@@ -250,6 +260,7 @@ pub fn number(s: Status) -> u32
         Status::InvalidSize => 8,
         Status::InvalidAddress => 9,
         Status::InvalidNumber => 10,
+        Status::NotDefined => 11,
         Status::ResourceInUse => 12,
         Status::Unsatisfied => 13,
         Status::IncorrectState => 14,

@@ -1,5 +1,6 @@
 pub mod Scan
 pub mod Order
+pub mod Alignment
 pub mod Check
 pub mod Block
 pub mod Part

@@ -2,14 +2,15 @@
 mod halves;
 
 use arith::Layout;
+use manager::Need;
 use manager::Order;
 use manager::Region;
 ghost use mathlib.Core.Path.{_≡_};
 ghost use Prim.Native.Nat.{_-_, _/_};
 ghost use Rattle.manager.specs.Lists.{any};
 ghost use Rattle.manager.specs.Map.{decode, soundMap, isHeldSegment};
-ghost use Rattle.manager.specs.Paged.{apart};
-ghost use Rattle.manager.specs.Region.{byHalves, kindOf, layoutOf, wordsAt, pagesAsked};
+ghost use Rattle.manager.specs.Paged.{apart, roomFrom};
+ghost use Rattle.manager.specs.Region.{byHalves, kindOf, layoutOf, wordsAt, pagesAsked, isAlignment, needOf, servableAt};
 ghost use Rattle.map.specs.Word.{heldWord, heldWordAt, oneFree};
 
 // Whether a region of an order is one by halves; else it is of pages.
@@ -45,6 +46,67 @@ pub fn pages_asked(r: Region, size: u32) -> u64
         return arith::power_up(n);
     }
     n as u64
+}
+
+// Whether a region of an order knows an alignment: by halves only 0.
+pub fn aligns(o: Order, alignment: u32) -> bool
+    ensures { λ b. ⌜ b ≡ kindOf o .aligns alignment ⌝ }
+{
+    if by_halves(o) {
+        return alignment == 0;
+    }
+    true
+}
+
+// Whether an alignment is 0, for the page size, or a multiple of the page size up to 4,096.
+pub fn is_alignment(page: u32, alignment: u32) -> bool
+    ensures { λ b. ⌜ b ≡ isAlignment page alignment ⌝ }
+{
+    if 4096 < alignment {
+        return false;
+    }
+    if page == 0 {
+        return alignment == 0;
+    }
+    alignment % page == 0
+}
+
+// What a request for so many bytes on an alignment needs: its pages, and from which ones on.
+pub fn need_of(r: Region, size: u32, alignment: u32) -> Need
+    ensures { λ n. ⌜ n ≡ needOf r size alignment ⌝ }
+{
+    let pages = pages_asked(r, size);
+    let page = r.page;
+    if page == 0 {
+        return Need { pages, every: 0 };
+    }
+    let every = alignment / page;
+    Need { pages, every }
+}
+
+// Of n pages from page `at` on, how many there are from the first multiple of `every` on.
+pub fn room_from(every: u32, at: u64, n: u32) -> u32
+    ensures { λ r. ⌜ r ≡ roomFrom every at n ⌝ }
+{
+    let gap = arith::gap_to(every, at);
+    if n as u64 <= gap {
+        return 0;
+    }
+    n - gap as u32
+}
+
+// Whether a region of an order and a layout could serve a need with nothing held.
+pub fn servable(o: Order, l: Layout, n: Need) -> bool
+    ensures { λ b. ⌜ b ≡ servableAt (kindOf o) l n ⌝ }
+{
+    let pages = l.pages;
+    if pages == 0 {
+        return false;
+    }
+    if by_halves(o) {
+        return n.pages <= pages as u64;
+    }
+    n.pages <= room_from(n.every, l.first, pages) as u64
 }
 
 // The words of a map: fewer where the memory ends before them.

@@ -72,6 +72,7 @@ fn unused() -> Waiter
         task: 0,
         region: 0,
         size: 0,
+        alignment: 0,
         priority: 0,
         ticks: 0,
     }

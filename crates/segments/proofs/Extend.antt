@@ -13,8 +13,8 @@ use Rattle.manager.proofs.Laws.Apart.{Well, well-sized, well-decoded, well-draw
 use Rattle.manager.specs.Kind.{heldFrom}
 use Rattle.manager.specs.Paged.{apart, free+, lead, rest, reachFrom, changeFrom}
 use Rattle.manager.proofs.Laws.Paged.{well-rest, lead-none, rest-none, well-change}
-use Rattle.segments.specs.MapWords.{holding, Extends}
-use Rattle.segments.proofs.Words.{holding-words}
+use Rattle.segments.specs.MapWords.{cutting, Extends}
+use Rattle.segments.proofs.Words.{cutting-words}
 use Rattle.segments.proofs.Take.{draw-free}
 use Rattle.segments.proofs.Stands.{Follower, none, kept, joins, Stands, stands, some, post-well, pre-long, word-is, within, held-is, reach-is, change-is, resize-is, grown, behind, alone, takes-in}
 
@@ -91,7 +91,7 @@ pub record Extended (p : ℕ) (ws : List ℕ) (k : ℕ) (out : List ℕ) : Type 
   pub reach : reachFrom p 0 (decode out) ≡ k
   pub room : p + k ≤ length out
   pub freed : changeFrom p 0 0 (decode out) ≡ changeFrom p 0 0 (decode ws)
-  pub cut : (j : ℕ) → 1 ≤ j → j ≤ k → holding p k j out ≡ draw (changeFrom p j 0 (decode ws))
+  pub cut : (j : ℕ) → 1 ≤ j → j ≤ k → cutting p k j 1 out ≡ draw (changeFrom p j 0 (decode ws))
 
 module _ (p : ℕ) (ws : List ℕ) (ok : soundMap apart ws ≡ true) (l : 1 ≤ heldFrom p 0 (decode ws)) (k : ℕ) (out : List ℕ) (x : Extends p ws k out) where
   was : Stands p ws
@@ -140,7 +140,7 @@ module _ (p : ℕ) (ws : List ℕ) (ok : soundMap apart ws ≡ true) (l : 1 ≤ 
         room = omega (arith, within p out now-stands);
         freed = change-is p out now-stands 0 ∙ rw (z, y, add-zero k) (sym (change-is p ws was 0 ∙ rw (← k-is)));
         cut = λ j o h.
-            holding-words (draw (was .pre)) (draw (rest (was .post))) out k 1 p (now-stands .words) (pre-long p ws was) j o h
+            cutting-words (draw (was .pre)) (draw (rest (was .post))) out k 1 p (now-stands .words) (pre-long p ws was) j 1 o h
             ∙ sym (ap draw (resize-is p ws was j o ∙ rw (← k-is))
             ∙ draw-append (was .pre) (held j ∷ free+ (k - j) (rest (was .post)))
             ∙ ap (λ (u : List ℕ). draw (was .pre) ++ u) (draw-cons (held j) (free+ (k - j) (rest (was .post))) ∙ ap (λ (u : List ℕ). wordsOf j 1 ++ u) (draw-free (k - j) (rest (was .post)) rest-well)));
@@ -169,7 +169,7 @@ module _ (p : ℕ) (ws : List ℕ) (ok : soundMap apart ws ≡ true) (l : 1 ≤ 
   pub reach-out : reachFrom p 0 (decode out) ≡ k
   reach-out = extended p ws ok l k out x .reach
 
-  pub resized : (j : ℕ) → 1 ≤ j → j ≤ reachFrom p 0 (decode ws) → (last : List ℕ) → last ≡ holding p k j out → last ≡ draw (changeFrom p j 0 (decode ws))
+  pub resized : (j : ℕ) → 1 ≤ j → j ≤ reachFrom p 0 (decode ws) → (last : List ℕ) → last ≡ cutting p k j 1 out → last ≡ draw (changeFrom p j 0 (decode ws))
   resized j o h last e = e ∙ extended p ws ok l k out x .cut j o (within-reach j h)
 
   pub returned : (last : List ℕ) → last ≡ draw (changeFrom p 0 0 (decode out)) → last ≡ draw (changeFrom p 0 0 (decode ws))

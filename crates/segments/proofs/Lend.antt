@@ -15,12 +15,13 @@ use Rattle.manager.specs.Map.{Segment, decode, draw, soundMap, total}
 use Rattle.manager.specs.Kind.{allocate, heldFrom}
 use Rattle.manager.proofs.Laws.Kinds.{Stands, keeps}
 use Rattle.manager.proofs.Laws.Paged.{spot}
-use Rattle.manager.proofs.Laws.Shift.{shifted, held-shift}
+use Rattle.manager.proofs.Laws.Shift.{held-shift}
 use Rattle.manager.specs.Region.{kind, layoutOf, pagesOf, firstPageOf, addressOf, startsPage, pageAt, wordsAt, mapWords, segments, withSegments, heldAt, canHave, placed}
 use Rattle.manager.proofs.Laws.Region.{lent, putBack, lent-in, lent-fits, lent-bytes, put-back}
 use Rattle.manager.specs.Sound.{Sited}
 use Rattle.manager.proofs.Laws.Sound.{map-long, pages-few, address-in, sited-with, sized-segments, proper-segments, total-segments, same-segments}
 use Rattle.manager.specs.declared.Region.{Region}
+use Rattle.manager.specs.declared.Need.{Need}
 use Rattle.manager.specs.declared.Place.{Place}
 use Rattle.manager.specs.declared.Place.the-variants.{At, Nowhere}
 use Rattle.map.proofs.Part.{words-whole}
@@ -46,21 +47,21 @@ held-page m r a h = go (startsPage r a) h
 
 -- ---- what is placed in a region
 
-module _ (m : List ℕ) (r : Region) (s : Sited m r) (k : ℕ) (o : 1 ≤ k) where
-  placed-in : (p : ℕ) → placed m r k ≡ At p → p + k ≤ firstPageOf r + pagesOf r
-  placed-in p e = omega (arith, keeps (r .order) .place-in k (firstPageOf r) (segments m r) p o e .1, total-segments m r s)
+module _ (m : List ℕ) (r : Region) (s : Sited m r) (n : Need) (o : 1 ≤ n .pages) where
+  placed-in : (p : ℕ) → placed m r n ≡ At p → p + n .pages ≤ firstPageOf r + pagesOf r
+  placed-in p e = omega (arith, keeps (r .order) .place-in n (firstPageOf r) (segments m r) p o e .1, total-segments m r s)
 
-  placed-address : (p : ℕ) → placed m r k ≡ At p → addressOf r p ≤ 65536
-  placed-address p e = omega (arith, address-in m r (s .laid) p k (placed-in p e))
+  placed-address : (p : ℕ) → placed m r n ≡ At p → addressOf r p ≤ 65536
+  placed-address p e = omega (arith, address-in m r (s .laid) p (n .pages) (placed-in p e))
 
-pub taken-address : (m : List ℕ) (r : Region) (k : ℕ) (out : List ℕ) (q : Place) → Takes r k m out q → (p : ℕ) → q ≡ At p → addressOf r p ≤ 65536
-taken-address m r k out q t p e = t .within p e
+pub taken-address : (m : List ℕ) (r : Region) (n : Need) (out : List ℕ) (q : Place) → Takes r n m out q → (p : ℕ) → q ≡ At p → addressOf r p ≤ 65536
+taken-address m r n out q t p e = t .within p e
 
 -- nothing is taken where nothing is found
-pub none-taken : (m : List ℕ) (r : Region) → Sited m r → (k : ℕ) (out : List ℕ) (q : Place) → Takes r k m out q → q ≡ Nowhere → out ≡ m
-none-taken m r s k out q t e =
-    let n : placed m r k ≡ Nowhere = sym (t .place) ∙ e in
-    t .memory ∙ ap (withSegments m r) (rw n) ∙ same-segments m r s
+pub none-taken : (m : List ℕ) (r : Region) → Sited m r → (n : Need) (out : List ℕ) (q : Place) → Takes r n m out q → q ≡ Nowhere → out ≡ m
+none-taken m r s n out q t e =
+    let z : placed m r n ≡ Nowhere = sym (t .place) ∙ e in
+    t .memory ∙ ap (withSegments m r) (rw z) ∙ same-segments m r s
 
 -- ---- the words of the map: sound, few, and at a place of theirs what the region has at an address
 
@@ -76,15 +77,6 @@ module _ (m : List ℕ) (r : Region) (s : Sited m r) (l : Layout) (el : l ≡ la
 
   pub words-few : length ws ≤ 16384
   words-few = rw words-are (omega (arith, map-long m r (s .laid), pages-few m r (s .laid)))
-
-  words-placed : (k : ℕ) → shifted (l .first) (kind r .place k 0 (decode ws)) ≡ placed m r k
-  words-placed k = rw (words-are, first-is) (sym (rw (add-zero (firstPageOf r)) at (keeps (r .order) .place-shift (firstPageOf r) k 0 (segments m r))))
-
-  pub page-fits : (k : ℕ) → 1 ≤ k → (i : ℕ) (q : Place) → q ≡ kind r .place k 0 (decode ws) → q ≡ At i → Fits w64 (l .first + i)
-  page-fits k o i q eq e =
-      let x : placed m r k ≡ At (l .first + i) = sym (words-placed k) ∙ rw (← eq, e) in
-      fits-under w64 (l .first + i) 65537
-      (omega (arith, placed-address m r s k o (l .first + i) x, le-mul-of-pos-right {m = r .page} (l .first + i) (omega (arith, s .laid .page-low)))) tt
 
   module _ (a : ℕ) (h : 1 ≤ heldAt m r a) (i : ℕ) (ei : i ≡ a / r .page - l .first) where
     index-is : i ≡ pageAt r a - firstPageOf r
@@ -137,6 +129,12 @@ module _ (m : List ℕ) (r : Region) (s : Sited m r) (l : Layout) (el : l ≡ la
   pub start-fits : Fits w64 (l .map * 4)
   start-fits = lent-bytes r l el m (s .laid)
 
+  -- the number of the first page is no more than its address
+  pub first-low : l .first ≤ 65536
+  first-low =
+      rw (first-is m r s l el part (words-whole m l))
+      (omega (arith, address-in m r (s .laid) (firstPageOf r) (pagesOf r) (omega arith), le-mul-of-pos-right {m = r .page} (firstPageOf r) (omega (arith, s .laid .page-low))))
+
   -- its segments stand as its kind has them
   stands : Stands (kind r) (segments m r)
   stands = record { sized = sized-segments m r s; proper = proper-segments m r s }
@@ -149,28 +147,23 @@ module _ (m : List ℕ) (r : Region) (s : Sited m r) (l : Layout) (el : l ≡ la
     drawn-sited : Sited (after ws) r
     drawn-sited = rw drawn (sited-with m r (s .laid) t e (w .sized) (w .proper))
 
-  module _ (k : ℕ) (o : 1 ≤ k) (q : Place) (eq : q ≡ kind r .place k 0 (decode part)) (ws : List ℕ) (ew : ws ≡ draw (allocate (kind r) k 0 (decode part))) where
-    takes : Takes r k m (after ws) (shifted (l .first) q)
-    takes =
-        let first = firstPageOf r in
-        let t = allocate (kind r) k first (segments m r) in
-        let c : allocate (kind r) k 0 (segments m r) ≡ t = sym (rw (add-zero first) at (keeps (r .order) .take-shift first k 0 (segments m r))) in
-        let x : ws ≡ draw t = ew ∙ ap (λ (w : List ℕ). draw (allocate (kind r) k 0 (decode w))) (words-are m r s l el part (words-whole m l)) ∙ ap draw c in
-        let n = keeps (r .order) .total-take k first (segments m r) ∙ total-segments m r s in
-        let w = keeps (r .order) .stands-take k first (segments m r) o stands in
-        let place = ap (shifted (l .first)) eq ∙ words-placed m r s l el part (words-whole m l) k in
-        record {
-          place = place;
-          within = λ p e. placed-address m r s k o p (sym place ∙ e);
-          memory = drawn t n w ws x;
-          sited = drawn-sited t n w ws x;
-        }
-
-    pub takes-none : q ≡ Nowhere → Takes r k m (after ws) Nowhere
-    takes-none e = rw e at takes
-
-    pub takes-at : (i : ℕ) → q ≡ At i → Takes r k m (after ws) (At (l .first + i))
-    takes-at i e = rw e at takes
+  pub takes : (n : Need) → 1 ≤ n .pages → (q : Place) (ws : List ℕ)
+      → (q ≡ kind r .place n (l .first) (decode part)) × (ws ≡ draw (allocate (kind r) n (l .first) (decode part)))
+      → Takes r n m (after ws) q
+  takes n o q ws h =
+      let first = firstPageOf r in
+      let is = words-are m r s l el part (words-whole m l) in
+      let t = allocate (kind r) n first (segments m r) in
+      let x : ws ≡ draw t = h .1 ∙ rw (is, first-is m r s l el part (words-whole m l)) in
+      let c = keeps (r .order) .total-take n first (segments m r) ∙ total-segments m r s in
+      let w = keeps (r .order) .stands-take n first (segments m r) o stands in
+      let place : q ≡ placed m r n = h .0 ∙ rw (is, first-is m r s l el part (words-whole m l)) in
+      record {
+        place = place;
+        within = λ p e. placed-address m r s n o p (sym place ∙ e);
+        memory = drawn t c w ws x;
+        sited = drawn-sited t c w ws x;
+      }
 
   module _ (a : ℕ) (h : 1 ≤ heldAt m r a) (i : ℕ) (ei : i ≡ a / r .page - l .first) where
     put-change : (k : ℕ) → total (kind r .change (pageAt r a) k (firstPageOf r) (segments m r)) ≡ total (segments m r)
@@ -192,4 +185,4 @@ module _ (m : List ℕ) (r : Region) (s : Sited m r) (l : Layout) (el : l ≡ la
         put-change 0 (keeps (r .order) .total-return (pageAt r a) (firstPageOf r) (segments m r))
         (keeps (r .order) .stands-return (pageAt r a) (firstPageOf r) (segments m r) (held-page m r a h) stands)
 
-pub ruleset drawing = (words-whole, words-sound, words-few, words-held, words-can, page-fits, have-fits, part-in, part-fits, start-fits, takes-none, takes-at, changes, releases)
+pub ruleset drawing = (words-whole, words-sound, words-few, words-held, words-can, first-low, have-fits, part-in, part-fits, start-fits, takes, changes, releases)

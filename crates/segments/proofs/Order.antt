@@ -1,26 +1,31 @@
 -- The stores by the kind of a region, where code has asked which it is: what its own functions need and leave is what the kind's do. Assumes
 -- nothing.
-use Prim.Native.Nat.{ℕ, _+_, _≤_, _<_}
-use mathlib.Core.Path.{_≡_, refl, sym, ap, _∙_}
+use Prim.Native.Nat.{ℕ, _+_, _≤_}
+use mathlib.Core.Path.{_≡_, sym, ap, _∙_}
 use mathlib.Core.Bool.{Bool, true, false}
 use mathlib.Core.List.{List}
+use native.Mathlib.Nat.{add-zero}
 use native.Mathlib.Omega.{arith}
 use lib.Dec.{eqb, leb}
 use lib.ListN.{length}
-use mir.Syntax.{w32}
+use mir.Syntax.{w64}
 use mir.Val.{Fits}
 use borrow.Author.Needs.{fits-under}
 use borrow.Author.Tests.{leb-true, ne-eqb}
 use Rattle.arith.specs.Power.{level}
-use Rattle.manager.specs.Kind.{Kind, onPlace, allocate, heldFrom}
+use Rattle.manager.specs.Kind.{Kind, allocate, heldFrom}
 use Rattle.manager.specs.Map.{decode, draw, soundMap, total}
 use Rattle.manager.specs.Paged.{apart, placeFrom, paged, reachFrom, changeFrom}
 use Rattle.manager.specs.Halves.{placeBlock, releaseBlock, halves}
 use Rattle.manager.specs.Region.{byHalves, kindOf}
+use Rattle.manager.specs.declared.Need.{Need}
 use Rattle.manager.specs.declared.Order.{Order}
+use Rattle.manager.specs.declared.Order.the-variants.{HalvesFifo}
 use Rattle.manager.specs.declared.Place.{Place}
 use Rattle.manager.specs.declared.Place.the-variants.{At, Nowhere}
 use Rattle.manager.proofs.Laws.Kinds.{keeps}
+use Rattle.manager.proofs.Laws.Shift.{shifted}
+use Rattle.manager.proofs.Laws.Halves.Shift.{place-shift, take-shift}
 use Rattle.manager.proofs.Laws.Map.{sound-tiled, redraw, total-decoded}
 use Rattle.map.specs.Word.{heldWord}
 use Rattle.map.proofs.Word.{one-word}
@@ -35,9 +40,27 @@ module _ (o : Order) (b : Bool) (e : b ≡ byHalves o) (ws : List ℕ) (ok : sou
     pub halves-sound : soundMap (halves .proper) ws ≡ true
     halves-sound = rw (kind-halves o b e h) at ok
 
-    pub halves-takes : (k : ℕ) (q : Place) (out : List ℕ) → (q ≡ placeBlock k 0 (decode ws)) × (out ≡ draw (allocate halves k 0 (decode ws)))
-        → (q ≡ kindOf o .place k 0 (decode ws)) × (out ≡ draw (allocate (kindOf o) k 0 (decode ws)))
-    halves-takes k q out x = rw (kind-halves o b e h) x
+    -- what is taken by the places of words is taken by the numbers of pages
+    module _ (n : Need) (first : ℕ) (q : Place) (out : List ℕ)
+        (x : (q ≡ placeBlock (n .pages) 0 (decode ws)) × (out ≡ draw (allocate halves n 0 (decode ws)))) where
+      takes : (shifted first q ≡ kindOf o .place n first (decode ws)) × (out ≡ draw (allocate (kindOf o) n first (decode ws)))
+      takes =
+          rw (kind-halves o b e h) (
+            ap (shifted first) (x .0) ∙ sym (rw (add-zero first) at (place-shift first (n .pages) 0 (decode ws))),
+            x .1 ∙ ap draw (sym (rw (add-zero first) at (take-shift first n 0 (decode ws)))),
+          )
+
+      pub halves-none : q ≡ Nowhere → (Nowhere ≡ kindOf o .place n first (decode ws)) × (out ≡ draw (allocate (kindOf o) n first (decode ws)))
+      halves-none z = rw z at takes
+
+      pub halves-at : (i : ℕ) → q ≡ At i → (At (first + i) ≡ kindOf o .place n first (decode ws)) × (out ≡ draw (allocate (kindOf o) n first (decode ws)))
+      halves-at i z = rw z at takes
+
+      -- the number of the page fits
+      pub page-fits : first ≤ 65536 → length ws ≤ 16384 → 1 ≤ n .pages → (i : ℕ) → q ≡ At i → Fits w64 (first + i)
+      page-fits low few some i z =
+          fits-under w64 (first + i) 81921
+          (omega (arith, keeps HalvesFifo .place-in n 0 (decode ws) i some (sym (x .0) ∙ z) .1, tiles)) tt
 
     pub halves-releases : (p : ℕ) (out : List ℕ) → out ≡ draw (releaseBlock (level (length ws)) p 0 (decode ws)) → out ≡ draw (kindOf o .change p 0 0 (decode ws))
     halves-releases p out x = rw (kind-halves o b e h, tiles) x
@@ -58,22 +81,10 @@ module _ (o : Order) (b : Bool) (e : b ≡ byHalves o) (ws : List ℕ) (ok : sou
     pub pages-sound : soundMap apart ws ≡ true
     pages-sound = rw (kind-pages o b e h) at ok
 
-    pub pages-takes : (k : ℕ) (q : Place) (out : List ℕ) → (q ≡ placeFrom k 0 (decode ws)) × (out ≡ draw (allocate paged k 0 (decode ws)))
-        → (q ≡ kindOf o .place k 0 (decode ws)) × (out ≡ draw (allocate (kindOf o) k 0 (decode ws)))
-    pages-takes k q out x = rw (kind-pages o b e h) x
-
-    -- more pages than there are words have no place
-    pub pages-none : (k : ℕ) → 1 ≤ k → length ws < k → (Nowhere ≡ kindOf o .place k 0 (decode ws)) × (ws ≡ draw (allocate (kindOf o) k 0 (decode ws)))
-    pages-none k l n =
-        let none = go (kindOf o .place k 0 (decode ws)) refl in
-        (sym none, sym (ap (λ (q : Place). draw (onPlace q (λ p. kindOf o .occupy p k 0 (decode ws)) (decode ws))) none ∙ redraw ws (sound-tiled (kindOf o .proper) ws ok)))
-      where
-        go : (q : Place) → kindOf o .place k 0 (decode ws) ≡ q → kindOf o .place k 0 (decode ws) ≡ Nowhere
-        go Nowhere x = x
-        go (At p) x = absurd (omega (arith, keeps o .place-in k 0 (decode ws) p l x .1, tiles))
-
-    pub pages-fits : (k : ℕ) → length ws ≤ 16384 → k ≤ length ws → Fits w32 k
-    pages-fits k few l = fits-under w32 k 16385 (omega arith) tt
+    pub pages-takes : (n : Need) (first : ℕ) (q : Place) (out : List ℕ)
+        → (q ≡ placeFrom n first (decode ws)) × (out ≡ draw (allocate paged n first (decode ws)))
+        → (q ≡ kindOf o .place n first (decode ws)) × (out ≡ draw (allocate (kindOf o) n first (decode ws)))
+    pages-takes n first q out x = rw (kind-pages o b e h) x
 
     pub pages-changes : (p k : ℕ) (out : List ℕ) → out ≡ draw (changeFrom p k 0 (decode ws)) → out ≡ draw (kindOf o .change p k 0 (decode ws))
     pages-changes p k out x = rw (kind-pages o b e h) x
@@ -84,4 +95,4 @@ module _ (o : Order) (b : Bool) (e : b ≡ byHalves o) (ws : List ℕ) (ok : sou
     pub pages-room : (p k : ℕ) → kindOf o .canHave p k 0 (decode ws) ≡ true → k ≤ reachFrom p 0 (decode ws)
     pages-room p k x = leb-true k (reachFrom p 0 (decode ws)) (ap (λ (K : Kind). K .canHave p k 0 (decode ws)) (sym (kind-pages o b e h)) ∙ x)
 
-pub ruleset kinds = (pages-fits, halves-sound, halves-releases, halves-have, halves-stays, pages-sound, pages-changes, pages-have, pages-room)
+pub ruleset kinds = (halves-sound, halves-releases, halves-have, halves-stays, pages-sound, pages-changes, pages-have, pages-room)

@@ -13,7 +13,7 @@ use Rattle.manager.proofs.Laws.Region as region
 use Rattle.manager.specs.Record.{tasks, noWaiter, noNotice, regionOf}
 use Rattle.manager.specs.Lists.{count, indexOf}
 use Rattle.manager.proofs.Laws.Lists.{and-first, and-second, every-at, index-passes}
-use Rattle.manager.specs.Region.{anyHeld, addressOf, pagesAsked, placed, taken}
+use Rattle.manager.specs.Region.{anyHeld, addressOf, pagesAsked, needOf, placed, taken}
 use Rattle.manager.specs.Queue.{firstOf, waitsFor, dequeue}
 use Rattle.manager.proofs.Laws.Queue.{dequeue-every, count-remove, length-remove, sound-every}
 use Rattle.manager.proofs.Laws.Appended.{every-imp, by-case, count-most}
@@ -27,6 +27,7 @@ use Rattle.manager.specs.declared.Manager.{Manager}
 use Rattle.manager.specs.declared.Region.{Region}
 use Rattle.manager.specs.declared.Waiter.{Waiter}
 use Rattle.manager.specs.declared.Notice.{Notice}
+use Rattle.manager.specs.declared.Need.{Need}
 use Rattle.manager.specs.declared.Place.{Place}
 use Rattle.manager.specs.declared.Place.the-variants.{At, Nowhere}
 use Rattle.objects.proofs.Laws.{unmapped}
@@ -38,7 +39,7 @@ use Rattle.reply.specs.declared.Noticed.{Noticed}
 use Rattle.reply.proofs.Laws.{notices-told, performs-noticed}
 use Rattle.segments.specs.Lending.{Takes}
 use Rattle.segments.proofs.Lend.{taken-address, none-taken}
-use Rattle.segments.specs.Serving.{asks, Asking, onTurn, pagesFirst, turnOf, Turns, used, Ready, Serves}
+use Rattle.segments.specs.Serving.{asks, Asking, onTurn, needFirst, turnOf, Turns, used, Ready, Serves}
 use Rattle.segments.specs.declared.serving.Turn.{Turn}
 use Rattle.segments.specs.declared.serving.Turn.the-variants.{Stop, Serve}
 
@@ -93,15 +94,17 @@ module _ (m : List ℕ) (d : Manager) (id : ℕ) (r : Region) (s : Sited m r) (e
   unfolding turnOf
   turn-none h = record { turn = rw (← q, le-ltb i tasks h); memory = refl; sited = s }
 
-  pub turn-asks : Asking d → i < tasks → length (d .waiters) ≡ tasks → (k : ℕ) → k ≡ pagesAsked r (getD (d .waiters) i noWaiter .size) → 1 ≤ k
-  turn-asks a h l k e = asked-some m r d id i k s a q (omega arith) e
+  pub turn-asks : Asking d → i < tasks → length (d .waiters) ≡ tasks → (n : Need) (alignment : ℕ)
+      → n ≡ needOf r (getD (d .waiters) i noWaiter .size) alignment → 1 ≤ n .pages
+  turn-asks a h l n alignment e = asked-some m r d id i (n .pages) s a q (omega arith) (ap (λ (w : Need). w .pages) e)
 
-  module _ (h : i < tasks) (k : ℕ) (ek : k ≡ pagesAsked r (getD (d .waiters) i noWaiter .size)) (out : List ℕ) (p : Place) (t : Takes r k m out p) where
-    pages-first : k ≡ pagesFirst d id
-    pages-first = ek ∙ rw (er, q)
+  module _ (h : i < tasks) (n : Need) (en : n ≡ needOf r (getD (d .waiters) i noWaiter .size) (getD (d .waiters) i noWaiter .alignment)) (out : List ℕ) (p : Place)
+      (t : Takes r n m out p) where
+    need-first : n ≡ needFirst d id
+    need-first = en ∙ rw (er, q)
 
-    placed-is : p ≡ placed m (regionOf d id) (pagesFirst d id)
-    placed-is = t .place ∙ rw (er, pages-first)
+    placed-is : p ≡ placed m (regionOf d id) (needFirst d id)
+    placed-is = t .place ∙ rw (er, need-first)
 
     -- the first finds no room
     pub turn-no : p ≡ Nowhere → Turns m d id r out Stop
@@ -109,7 +112,7 @@ module _ (m : List ℕ) (d : Manager) (id : ℕ) (r : Region) (s : Sited m r) (e
     turn-no e =
         record {
           turn = rw (← placed-is, e, ← q, lt-ltb i tasks h);
-          memory = none-taken m r s k out p t e;
+          memory = none-taken m r s n out p t e;
           sited = t .sited;
         }
 
@@ -118,7 +121,7 @@ module _ (m : List ℕ) (d : Manager) (id : ℕ) (r : Region) (s : Sited m r) (e
     turn-yes j e a ea =
         record {
           turn = rw (← placed-is, e, ← q, lt-ltb i tasks h, ea, er);
-          memory = t .memory ∙ rw (er, pages-first);
+          memory = t .memory ∙ rw (er, need-first);
           sited = t .sited;
         }
 
@@ -127,14 +130,14 @@ pub ruleset turning = (unmapped, turn-none, turn-asks, turn-no, taken-address, t
 -- ---- one turn of the definition, by what it comes to
 
 module _ (f : ℕ) (m : List ℕ) (d : Manager) (id : ℕ) where
-  up-turn : serveUpTo (suc f) m d id ≡ onTurn (turnOf m d id) (λ i n. telling n (serveUpTo f (taken m (regionOf d id) (pagesFirst d id)) (dequeue d i) id)) (quiet m d)
+  up-turn : serveUpTo (suc f) m d id ≡ onTurn (turnOf m d id) (λ i n. telling n (serveUpTo f (taken m (regionOf d id) (needFirst d id)) (dequeue d i) id)) (quiet m d)
   unfolding serveUpTo turnOf
-  up-turn = go (ltb (firstOf id (d .waiters)) tasks) (placed m (regionOf d id) (pagesFirst d id))
+  up-turn = go (ltb (firstOf id (d .waiters)) tasks) (placed m (regionOf d id) (needFirst d id))
     where
       go : (b : Bool) (p : Place) →
-          cond b (onPlace p (λ j. telling (granted (getD (d .waiters) (firstOf id (d .waiters)) noWaiter) (addressOf (regionOf d id) j)) (serveUpTo f (taken m (regionOf d id) (pagesFirst d id)) (dequeue d (firstOf id (d .waiters))) id)) (quiet m d)) (quiet m d)
+          cond b (onPlace p (λ j. telling (granted (getD (d .waiters) (firstOf id (d .waiters)) noWaiter) (addressOf (regionOf d id) j)) (serveUpTo f (taken m (regionOf d id) (needFirst d id)) (dequeue d (firstOf id (d .waiters))) id)) (quiet m d)) (quiet m d)
           ≡ onTurn (cond b (onPlace p (λ j. Serve (firstOf id (d .waiters)) (granted (getD (d .waiters) (firstOf id (d .waiters)) noWaiter) (addressOf (regionOf d id) j))) Stop) Stop)
-          (λ i n. telling n (serveUpTo f (taken m (regionOf d id) (pagesFirst d id)) (dequeue d i) id)) (quiet m d)
+          (λ i n. telling n (serveUpTo f (taken m (regionOf d id) (needFirst d id)) (dequeue d i) id)) (quiet m d)
       go true (At j) = refl
       go true Nowhere = refl
       go false p = refl
@@ -168,7 +171,7 @@ ready-told d ns n x a f =
 turn-place : (m : List ℕ) (d : Manager) (id i : ℕ) (n : Notice) → turnOf m d id ≡ Serve i n → (i ≡ firstOf id (d .waiters)) × (i < tasks)
 unfolding turnOf
 turn-place m d id i n e =
-    go (ltb (firstOf id (d .waiters)) tasks) refl (placed m (regionOf d id) (pagesFirst d id)) e
+    go (ltb (firstOf id (d .waiters)) tasks) refl (placed m (regionOf d id) (needFirst d id)) e
   where
     go : (b : Bool) → ltb (firstOf id (d .waiters)) tasks ≡ b → (g : Place)
         → cond b (onPlace g (λ p. Serve (firstOf id (d .waiters)) (granted (getD (d .waiters) (firstOf id (d .waiters)) noWaiter) (addressOf (regionOf d id) p))) Stop) Stop ≡ Serve i n
@@ -249,7 +252,7 @@ module _ (m₀ : List ℕ) (id : ℕ) (r : Region) (d₀ : Manager) (ns₀ : Lis
         → Serving m₀ id r d₀ (take k ns₀) k out d′ (set ns n notice) (n + 1)
     serve-more i notice e len d′ x =
         let z : tasks + k - n ≡ suc (tasks + k - (n + 1)) = omega arith in
-        let o : out ≡ taken m (regionOf d id) (pagesFirst d id) = u .memory ∙ rw e in
+        let o : out ≡ taken m (regionOf d id) (needFirst d id) = u .memory ∙ rw e in
         let y : serveUpTo (tasks + k - n) m d id ≡ telling notice (serveUpTo (tasks + k - (n + 1)) out d′ id) =
         rw (z, x, o) (up-turn (tasks + k - (n + 1)) m d id ∙ rw (← (u .turn), e)) in
         let w = turn-place m d id i notice (sym (u .turn) ∙ e) in

@@ -1,8 +1,8 @@
 -- A list of checks by its verdict: a test that fails gives its status, one that passes hands on to the next. Assumes nothing.
 use Prim.Native.Nat.{ℕ}
-use mathlib.Core.Path.{_≡_, refl}
-use mathlib.Core.Bool.{Bool, true, false, cond}
-use mathlib.Core.List.{List, [], _∷_}
+use mathlib.Core.Path.{_≡_, refl, sym, ap, _∙_}
+use mathlib.Core.Bool.{Bool, true, false, cond, not}
+use mathlib.Core.List.{List, [], _∷_, _++_, append-nil}
 use borrow.Author.Tests.{eq-eqb, ne-eqb, lt-ltb, le-ltb}
 use Rattle.manager.specs.Result.{Result, Check, check, checked}
 use Rattle.manager.proofs.Laws.Result.{outcome}
@@ -40,13 +40,28 @@ module _ (d : Manager) (wait : Wait) (task priority : ℕ) (v : Verdict) where
 
 pub ruleset judging = (verdict-bad, verdict-next, verdict-good, outcome, no-wait, may-wait, eq-eqb, ne-eqb, lt-ltb, le-ltb)
 
--- a chain of checks by its verdict
-pub checked-all : (cs : List Check) (refuse : Status → Result) (act : Result) → checked cs refuse act ≡ onVerdict (verdictOf cs) refuse act
+-- a chain of checks by the verdict of its first ones, and of all
+pub checked-first : (cs ds : List Check) (refuse : Status → Result) (act : Result)
+    → checked (cs ++ ds) refuse act ≡ onVerdict (verdictOf cs) refuse (checked ds refuse act)
 unfolding checked verdictOf
-checked-all [] refuse act = refl
-checked-all (c ∷ cs) refuse act = go (c .fails) (checked-all cs refuse act)
+checked-first [] ds refuse act = refl
+checked-first (c ∷ cs) ds refuse act = go (c .fails) (checked-first cs ds refuse act)
   where
-    go : (b : Bool) → checked cs refuse act ≡ onVerdict (verdictOf cs) refuse act
-        → cond b (refuse (c .status)) (checked cs refuse act) ≡ onVerdict (cond b (Bad (c .status)) (verdictOf cs)) refuse act
+    go : (b : Bool) → checked (cs ++ ds) refuse act ≡ onVerdict (verdictOf cs) refuse (checked ds refuse act)
+        → cond b (refuse (c .status)) (checked (cs ++ ds) refuse act) ≡ onVerdict (cond b (Bad (c .status)) (verdictOf cs)) refuse (checked ds refuse act)
     go true h = refl
     go false h = h
+
+pub checked-all : (cs : List Check) (refuse : Status → Result) (act : Result) → checked cs refuse act ≡ onVerdict (verdictOf cs) refuse act
+unfolding checked
+checked-all cs refuse act = ap (λ (ds : List Check). checked ds refuse act) (sym (append-nil cs)) ∙ checked-first cs [] refuse act
+
+-- the checks of a get by its region, as calls of other crates told them
+module _ (b a : Bool) (s : Status) (cs : List Check) (e : b ≡ a) where
+  pub verdict-told-bad : not b ≡ true → Bad s ≡ verdictOf (check (not a) s ∷ cs)
+  verdict-told-bad h = verdict-bad (not a) s cs (rw (← e) h)
+
+  pub verdict-told-next : not b ≡ false → (v : Verdict) → v ≡ verdictOf cs → v ≡ verdictOf (check (not a) s ∷ cs)
+  verdict-told-next h = verdict-next (not a) s cs (rw (← e) h)
+
+pub ruleset telling = (verdict-told-bad, verdict-told-next, verdict-good)

@@ -7,39 +7,41 @@ use lib.ListN.{length, getD, drop}
 use borrow.Author.Tests.{le-leb, lt-leb, eq-eqb, ne-eqb}
 use Rattle.manager.specs.Map.{decode, tiled}
 use Rattle.manager.proofs.Laws.Map.{size-of, Here, walk-start, walk-step, walk-end, says-free, says-held, next-here}
-use Rattle.manager.specs.Paged.{placeFrom}
-use Rattle.segments.specs.MapWords.{beforeFrom}
+use Rattle.manager.specs.Paged.{roomFrom}
+use Rattle.segments.specs.MapWords.{segmentFrom, beforeFrom}
+use Rattle.manager.specs.declared.Need.{Need}
 use Rattle.manager.specs.declared.Place.the-variants.{At, Nowhere}
 
 -- the search has come to page i
-pub record Placing (ws : List ℕ) (k i : ℕ) : Type 0 where
+pub record Placing (ws : List ℕ) (first : ℕ) (n : Need) (i : ℕ) : Type 0 where
   pub here : Here ws i
-  pub left : placeFrom k i (decode (drop i ws)) ≡ placeFrom k 0 (decode ws)
+  pub left : segmentFrom n first i (decode (drop i ws)) ≡ segmentFrom n first 0 (decode ws)
 
-pub place-start : (ws : List ℕ) (k : ℕ) → tiled ws ≡ true → Placing ws k 0
-place-start ws k ok = record { here = walk-start ws ok; left = refl }
+pub place-start : (ws : List ℕ) (first : ℕ) (n : Need) → tiled ws ≡ true → Placing ws first n 0
+place-start ws first n ok = record { here = walk-start ws ok; left = refl }
 
-module _ (ws : List ℕ) (k i : ℕ) (p : Placing ws k i) where
-  pub place-end : length ws ≤ i → Nowhere ≡ placeFrom k 0 (decode ws)
-  unfolding placeFrom
-  place-end l = sym (ap (placeFrom k i) (walk-end ws i (p .here) l)) ∙ p .left
+module _ (ws : List ℕ) (first : ℕ) (n : Need) (i : ℕ) (p : Placing ws first n i) where
+  pub place-end : length ws ≤ i → Nowhere ≡ segmentFrom n first 0 (decode ws)
+  unfolding segmentFrom
+  place-end l = sym (ap (segmentFrom n first i) (walk-end ws i (p .here) l)) ∙ p .left
 
   module _ (l : i < length ws) where
-    pub place-held : (getD ws i 0 % 2 ≡ 0 → ⊥) → Placing ws k (i + getD ws i 0 / 2)
-    unfolding placeFrom
-    place-held ne = record { here = next-here ws i (p .here) l; left = sym (ap (placeFrom k i) (says-held ws i (p .here) l ne)) ∙ p .left }
+    pub place-held : (getD ws i 0 % 2 ≡ 0 → ⊥) → Placing ws first n (i + getD ws i 0 / 2)
+    unfolding segmentFrom
+    place-held ne = record { here = next-here ws i (p .here) l; left = sym (ap (segmentFrom n first i) (says-held ws i (p .here) l ne)) ∙ p .left }
 
-    pub place-small : getD ws i 0 % 2 ≡ 0 → getD ws i 0 / 2 < k → Placing ws k (i + getD ws i 0 / 2)
-    unfolding placeFrom
-    place-small e lt =
-        record {
-          here = next-here ws i (p .here) l;
-          left = sym (ap (placeFrom k i) (says-free ws i (p .here) l e) ∙ rw (lt-leb k (getD ws i 0 / 2) lt)) ∙ p .left;
-        }
+    module _ (e : getD ws i 0 % 2 ≡ 0) (r : ℕ) (er : r ≡ roomFrom (n .every) (first + i) (getD ws i 0 / 2)) where
+      pub place-small : r < n .pages → Placing ws first n (i + getD ws i 0 / 2)
+      unfolding segmentFrom
+      place-small lt =
+          record {
+            here = next-here ws i (p .here) l;
+            left = sym (ap (segmentFrom n first i) (says-free ws i (p .here) l e) ∙ rw (← er, lt-leb (n .pages) r lt)) ∙ p .left;
+          }
 
-    pub place-here : getD ws i 0 % 2 ≡ 0 → k ≤ getD ws i 0 / 2 → At i ≡ placeFrom k 0 (decode ws)
-    unfolding placeFrom
-    place-here e le = sym (ap (placeFrom k i) (says-free ws i (p .here) l e) ∙ rw (le-leb k (getD ws i 0 / 2) le)) ∙ p .left
+      pub place-here : n .pages ≤ r → At i ≡ segmentFrom n first 0 (decode ws)
+      unfolding segmentFrom
+      place-here le = sym (ap (segmentFrom n first i) (says-free ws i (p .here) l e) ∙ rw (← er, le-leb (n .pages) r le)) ∙ p .left
 
 pub ruleset placing = (place-start, place-end, place-held, place-small, place-here)
 

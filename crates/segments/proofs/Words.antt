@@ -11,7 +11,7 @@ use lib.Seq.{set-at, getD-at}
 use borrow.Author.Tests.{lt-ltb, le-ltb}
 use Rattle.manager.specs.Map.{wordsOf}
 use Rattle.manager.proofs.Laws.Map.{length-words}
-use Rattle.segments.specs.MapWords.{holding}
+use Rattle.segments.specs.MapWords.{cutting}
 
 -- a store past a prefix
 pub set-past : (p q : List ℕ) (j m v : ℕ) → m ≡ length p + j → set (p ++ q) m v ≡ p ++ set q j v
@@ -28,12 +28,12 @@ pub set-mark : (n a b : ℕ) (t : List ℕ) → 1 ≤ n → set (wordsOf n a ++ 
 set-mark zero a b t o = absurd (omega arith)
 set-mark (suc n) a b t o = refl
 
--- a segment cut in two
-cut-words : (k m n a : ℕ) (t : List ℕ) → 1 ≤ k → 1 ≤ m → n ≡ k + m
-    → set (set (wordsOf n a ++ t) 0 (k * 2 + 1)) k (m * 2) ≡ wordsOf k 1 ++ (wordsOf m 0 ++ t)
-cut-words zero m n a t hk hm e = absurd (omega arith)
-cut-words (suc k) zero n a t hk hm e = absurd (omega arith)
-cut-words (suc k) (suc m) n a t hk hm e =
+-- a segment cut in two, of which the second is free
+cut-words : (k m n a c : ℕ) (t : List ℕ) → 1 ≤ k → 1 ≤ m → n ≡ k + m
+    → set (set (wordsOf n a ++ t) 0 (k * 2 + c)) k (m * 2) ≡ wordsOf k c ++ (wordsOf m 0 ++ t)
+cut-words zero m n a c t hk hm e = absurd (omega arith)
+cut-words (suc k) zero n a c t hk hm e = absurd (omega arith)
+cut-words (suc k) (suc m) n a c t hk hm e =
     let z : n ≡ suc (k + suc m) = omega arith in
     rw (z, set-zero k m (k + suc m) (suc m * 2) t refl, add-zero (suc m * 2))
 
@@ -45,15 +45,15 @@ join-words (suc n) (suc m) a b c t hn hm =
     let z : suc n + suc m ≡ suc (n + suc m) = omega arith in
     rw (z, set-at (replicate n 0) (suc m * 2 + b) (replicate m 0 ++ t) 0 n (length-replicate n 0), ← replicate-append-replicate {A = ℕ} n (suc m) 0, append-assoc (replicate n 0) (replicate (suc m) 0) t)
 
--- the stores of `hold`
-module _ (i pages k : ℕ) (ws : List ℕ) where
-  pub holding-part : k < pages → set (set ws i (k * 2 + 1)) (i + k) ((pages - k) * 2) ≡ holding i pages k ws
-  unfolding holding
-  holding-part l = rw (lt-ltb k pages l)
+-- the stores of `cut`
+module _ (i pages k mark : ℕ) (ws : List ℕ) where
+  pub cutting-part : k < pages → set (set ws i (k * 2 + mark)) (i + k) ((pages - k) * 2) ≡ cutting i pages k mark ws
+  unfolding cutting
+  cutting-part l = rw (lt-ltb k pages l)
 
-  pub holding-whole : pages ≤ k → set ws i (k * 2 + 1) ≡ holding i pages k ws
-  unfolding holding
-  holding-whole l = rw (le-ltb k pages l)
+  pub cutting-whole : pages ≤ k → set ws i (k * 2 + mark) ≡ cutting i pages k mark ws
+  unfolding cutting
+  cutting-whole l = rw (le-ltb k pages l)
 
 -- words that have a segment of n pages, marked or not, behind a prefix
 module _ (p t ws : List ℕ) (n mark i : ℕ) (x : ws ≡ p ++ (wordsOf n mark ++ t)) (e : length p ≡ i) where
@@ -67,22 +67,22 @@ module _ (p t ws : List ℕ) (n mark i : ℕ) (x : ws ≡ p ++ (wordsOf n mark +
   pub words-in : i + (n + length t) ≡ length ws
   words-in = rw x (simp (length-append, length-words) (omega arith))
 
-  -- the first k of its pages are held, and the others free
-  pub holding-words : (k : ℕ) → 1 ≤ k → k ≤ n → holding i n k ws ≡ p ++ (wordsOf k 1 ++ (wordsOf (n - k) 0 ++ t))
-  holding-words k o l = ⊎-elim whole part (eq-or-lt-of-le l)
+  -- the first k of its pages are a segment of their own, and the others a free one
+  pub cutting-words : (k c : ℕ) → 1 ≤ k → k ≤ n → cutting i n k c ws ≡ p ++ (wordsOf k c ++ (wordsOf (n - k) 0 ++ t))
+  cutting-words k c o l = ⊎-elim whole part (eq-or-lt-of-le l)
     where
-      whole : k ≡ n → holding i n k ws ≡ p ++ (wordsOf k 1 ++ (wordsOf (n - k) 0 ++ t))
+      whole : k ≡ n → cutting i n k c ws ≡ p ++ (wordsOf k c ++ (wordsOf (n - k) 0 ++ t))
       whole q =
           let z : k - k ≡ 0 = omega arith in
-          sym (holding-whole i n k ws (omega arith))
-          ∙ rw (x, ← q, z, set-past p (wordsOf k mark ++ t) 0 i (k * 2 + 1) (omega arith), set-mark k mark 1 t o)
+          sym (cutting-whole i n k c ws (omega arith))
+          ∙ rw (x, ← q, z, set-past p (wordsOf k mark ++ t) 0 i (k * 2 + c) (omega arith), set-mark k mark c t o)
 
-      part : k < n → holding i n k ws ≡ p ++ (wordsOf k 1 ++ (wordsOf (n - k) 0 ++ t))
+      part : k < n → cutting i n k c ws ≡ p ++ (wordsOf k c ++ (wordsOf (n - k) 0 ++ t))
       part q =
-          sym (holding-part i n k ws q)
+          sym (cutting-part i n k c ws q)
           ∙ rw (
             x,
-            set-past p (wordsOf n mark ++ t) 0 i (k * 2 + 1) (omega arith),
-            set-past p (set (wordsOf n mark ++ t) 0 (k * 2 + 1)) k (i + k) ((n - k) * 2) (omega arith),
-            cut-words k (n - k) n mark t o (omega arith) (omega arith),
+            set-past p (wordsOf n mark ++ t) 0 i (k * 2 + c) (omega arith),
+            set-past p (set (wordsOf n mark ++ t) 0 (k * 2 + c)) k (i + k) ((n - k) * 2) (omega arith),
+            cut-words k (n - k) n mark c t o (omega arith) (omega arith),
           )

@@ -5,6 +5,7 @@ use mathlib.Core.List.{List}
 use Rattle.manager.specs.Region.{addressOf, changed, placed, taken}
 use Rattle.manager.specs.Sound.{Sited}
 use Rattle.manager.specs.declared.Region.{Region}
+use Rattle.manager.specs.declared.Need.{Need}
 use Rattle.manager.specs.declared.Place.{Place}
 use Rattle.manager.specs.declared.Place.the-variants.{At}
 
@@ -13,9 +14,9 @@ pub record Changes (r : Region) (address k : ℕ) (m out : List ℕ) : Type 0 wh
   pub memory : out ≡ changed m r address k
   pub sited : Sited out r
 
--- k pages are taken, where there is room, and start at an address below 65,536
-pub record Takes (r : Region) (k : ℕ) (m out : List ℕ) (p : Place) : Type 0 where
-  pub place : p ≡ placed m r k
+-- the pages of a need are taken, where there is room, and start at an address below 65,536
+pub record Takes (r : Region) (n : Need) (m out : List ℕ) (p : Place) : Type 0 where
+  pub place : p ≡ placed m r n
   pub within : (i : ℕ) → p ≡ At i → addressOf r i ≤ 65536
-  pub memory : out ≡ taken m r k
+  pub memory : out ≡ taken m r n
   pub sited : Sited out r

@@ -7,7 +7,7 @@ use lib.Dec.{eqb, leb, ltb}
 use lib.ListN.{getD}
 use Rattle.manager.specs.Record.{tasks, noWaiter, regionOf}
 use Rattle.manager.specs.Lists.{every, count}
-use Rattle.manager.specs.Region.{addressOf, pagesAsked, placed, taken}
+use Rattle.manager.specs.Region.{addressOf, needOf, placed, taken}
 use Rattle.manager.specs.Queue.{firstOf}
 use Rattle.manager.specs.Kind.{onPlace}
 use Rattle.manager.specs.Serve.{granted, Served}
@@ -15,6 +15,7 @@ use Rattle.manager.specs.Sound.{Sited}
 use Rattle.manager.specs.declared.Manager.{Manager}
 use Rattle.manager.specs.declared.Region.{Region}
 use Rattle.manager.specs.declared.Waiter.{Waiter}
+use Rattle.manager.specs.declared.Need.{Need}
 use Rattle.manager.specs.declared.Notice.{Notice}
 use Rattle.reply.specs.Notices.{Notices, told}
 use Rattle.reply.specs.declared.Noticed.{Noticed}
@@ -34,19 +35,21 @@ onTurn Stop f z = z
 onTurn (Serve i n) f z = f i n
 
 -- the turn of the first waiter of a region, and the memory after it
-abbrev pub pagesFirst : Manager → ℕ → ℕ
-pagesFirst d id = pagesAsked (regionOf d id) (getD (d .waiters) (firstOf id (d .waiters)) noWaiter .size)
+abbrev pub needFirst : Manager → ℕ → Need
+needFirst d id =
+    let w = getD (d .waiters) (firstOf id (d .waiters)) noWaiter in
+    needOf (regionOf d id) (w .size) (w .alignment)
 
 unfoldable pub turnOf : List ℕ → Manager → ℕ → Turn
 turnOf m d id =
     let i = firstOf id (d .waiters) in
     cond (ltb i tasks)
-    (onPlace (placed m (regionOf d id) (pagesFirst d id)) (λ p. Serve i (granted (getD (d .waiters) i noWaiter) (addressOf (regionOf d id) p))) Stop)
+    (onPlace (placed m (regionOf d id) (needFirst d id)) (λ p. Serve i (granted (getD (d .waiters) i noWaiter) (addressOf (regionOf d id) p))) Stop)
     Stop
 
 pub record Turns (m : List ℕ) (d : Manager) (id : ℕ) (r : Region) (out : List ℕ) (t : Turn) : Type 0 where
   pub turn : t ≡ turnOf m d id
-  pub memory : out ≡ onTurn t (λ i n. taken m (regionOf d id) (pagesFirst d id)) m
+  pub memory : out ≡ onTurn t (λ i n. taken m (regionOf d id) (needFirst d id)) m
   pub sited : Sited out r
 
 -- how many places of the queue are used

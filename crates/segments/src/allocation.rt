@@ -4,6 +4,7 @@ use crate::serving;
 use arith::Layout;
 use manager::Answer;
 use manager::Manager;
+use manager::Need;
 use manager::Place;
 use manager::Region;
 use manager::Status;
@@ -28,14 +29,14 @@ pub(crate) fn take_or_wait(
     d: Manager,
     r: Region,
     l: Layout,
-    k: u64,
+    n: Need,
     wait: Wait,
     w: Waiter,
 ) -> Answer
-    requires { ⌜ (Sited (now mem) r) × (l ≡ layoutOf r) × (1 ≤ k) ⌝ }
-    ensures { λ a. ⌜ Performs (onPlace (placed (now (mem .entry)) r k) (λ p. done (taken (now (mem .entry)) r k) d (addressOf r p)) (unplaced (now (mem .entry)) d wait w)) (now (mem .exit)) a ⌝ }
+    requires { ⌜ (Sited (now mem) r) × (l ≡ layoutOf r) × (1 ≤ n .pages) ⌝ }
+    ensures { λ a. ⌜ Performs (onPlace (placed (now (mem .entry)) r n) (λ p. done (taken (now (mem .entry)) r n) d (addressOf r p)) (unplaced (now (mem .entry)) d wait w)) (now (mem .exit)) a ⌝ }
 {
-    if let Place::At(p) = lending::take_pages(mem, r, l, k) {
+    if let Place::At(p) = lending::take_pages(mem, r, l, n) {
         return reply::reply(d, Status::Successful, serving::address_of(r, p));
     }
     match wait {

@@ -1,5 +1,6 @@
 // Stores in the map of a region by halves: these functions have exactly its words, or those of one block of it. `allocate` and `release` need
 // them sound, and those that only read need them tiled.
+use manager::Need;
 use manager::Place;
 ghost use mathlib.Core.Path.{_≡_};
 ghost use mathlib.Core.Bool.{true};
@@ -8,7 +9,7 @@ ghost use lib.ListN.{length, take, drop, replicate};
 ghost use Rattle.arith.specs.Power.{level, isPower};
 ghost use Rattle.manager.specs.Kind.{allocate, heldFrom};
 ghost use Rattle.manager.specs.Map.{tiled, soundMap, decode, draw};
-ghost use Rattle.manager.specs.Halves.{lesser, smallest, lowestFree, placeBlock, carve, join, releaseBlock, halves};
+ghost use Rattle.manager.specs.Halves.{lesser, smallest, lowestFree, carve, join, releaseBlock, halves};
 
 // The smaller of two sizes, of which the second is 0 where there is none.
 fn lesser(n: u32, m: u32) -> u32
@@ -78,12 +79,13 @@ fn carve(map: &mut [u32], k: u32)
     carve(&mut map[low..high], k);
 }
 
-// Takes k pages where there is room, and says where.
-pub(crate) fn allocate(map: &mut [u32], k: u64) -> Place
+// Takes the pages where there is room, and says where: the place of their word.
+pub(crate) fn allocate(map: &mut [u32], n: Need) -> Place
     requires { ⌜ (soundMap (halves .proper) (now map) ≡ true) × (length (now map) ≤ 16384) ⌝ }
-    requires { ⌜ 1 ≤ k ⌝ }
-    ensures { λ r. ⌜ (r ≡ placeBlock k 0 (decode (now (map .entry)))) × (now (map .exit) ≡ draw (allocate halves k 0 (decode (now (map .entry))))) ⌝ }
+    requires { ⌜ 1 ≤ n .pages ⌝ }
+    ensures { λ r. ⌜ (r ≡ halves .place n 0 (decode (now (map .entry)))) × (now (map .exit) ≡ draw (allocate halves n 0 (decode (now (map .entry))))) ⌝ }
 {
+    let k = n.pages;
     let b = smallest(map, k);
     if b == 0 {
         return Place::Nowhere;

@@ -2,6 +2,7 @@
 // have exactly the map's words, and need them sound.
 use crate::halves;
 use crate::pages;
+use manager::Need;
 use manager::Order;
 use manager::Place;
 ghost use mathlib.Core.Path.{_≡_};
@@ -12,19 +13,22 @@ ghost use Rattle.manager.specs.Kind.{allocate, heldFrom};
 ghost use Rattle.manager.specs.Map.{soundMap, decode, draw};
 ghost use Rattle.manager.specs.Region.{kindOf};
 
-// Takes k pages where there is room, and says where.
-pub(crate) fn allocate(map: &mut [u32], o: Order, k: u64) -> Place
+// Takes the pages where there is room, and says where: the number of the first one. The map's first page is page `first`.
+pub(crate) fn allocate(map: &mut [u32], o: Order, first: u64, n: Need) -> Place
     requires { ⌜ (soundMap (kindOf o .proper) (now map) ≡ true) × (length (now map) ≤ 16384) ⌝ }
-    requires { ⌜ 1 ≤ k ⌝ }
-    ensures { λ r. ⌜ (r ≡ kindOf o .place k 0 (decode (now (map .entry)))) × (now (map .exit) ≡ draw (allocate (kindOf o) k 0 (decode (now (map .entry))))) ⌝ }
+    requires { ⌜ (1 ≤ n .pages) × (first ≤ 65536) ⌝ }
+    ensures { λ r. ⌜ (r ≡ kindOf o .place n first (decode (now (map .entry)))) × (now (map .exit) ≡ draw (allocate (kindOf o) n first (decode (now (map .entry))))) ⌝ }
 {
-    if map::by_halves(o) {
-        return halves::allocate(map, k);
+    if !map::by_halves(o) {
+        return pages::allocate(map, first, n);
     }
-    if (map.len() as u64) < k {
-        return Place::Nowhere;
+    match halves::allocate(map, n) {
+        Place::Nowhere => Place::Nowhere,
+        Place::At(i) => {
+            let page = first as usize + i;
+            Place::At(page)
+        }
     }
-    pages::allocate(map, k as u32)
 }
 
 // Frees the held segment at page p.

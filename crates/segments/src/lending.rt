@@ -2,6 +2,7 @@
 // place of their word: these functions need a live region of sound records, and its layout.
 use crate::kinds;
 use arith::Layout;
+use manager::Need;
 use manager::Place;
 use manager::Region;
 ghost use mathlib.Core.Path.{_≡_};
@@ -11,18 +12,15 @@ ghost use Rattle.manager.specs.Region.{layoutOf, heldAt, canHave};
 ghost use Rattle.manager.specs.Sound.{Sited};
 ghost use Rattle.segments.specs.Lending.{Changes, Takes};
 
-// Takes k pages of the region where there is room, and says where.
-pub(crate) fn take_pages(mem: &mut [u32], r: Region, l: Layout, k: u64) -> Place
-    requires { ⌜ (Sited (now mem) r) × (l ≡ layoutOf r) × (1 ≤ k) ⌝ }
-    ensures { λ p. ⌜ Takes r k (now (mem .entry)) (now (mem .exit)) p ⌝ }
+// Takes the pages of a need from the region where there is room, and says where.
+pub(crate) fn take_pages(mem: &mut [u32], r: Region, l: Layout, n: Need) -> Place
+    requires { ⌜ (Sited (now mem) r) × (l ≡ layoutOf r) × (1 ≤ n .pages) ⌝ }
+    ensures { λ p. ⌜ Takes r n (now (mem .entry)) (now (mem .exit)) p ⌝ }
 {
     let at = l.map;
     let end = at + l.pages as usize;
     let order = r.order;
-    match kinds::allocate(&mut mem[at..end], order, k) {
-        Place::Nowhere => Place::Nowhere,
-        Place::At(i) => Place::At(l.first as usize + i),
-    }
+    kinds::allocate(&mut mem[at..end], order, l.first, n)
 }
 
 // Frees the held segment at an address.

@@ -17,18 +17,20 @@ use manager::Waiter;
 ghost use Rattle.manager.specs.Result.{Performs};
 ghost use Rattle.manager.specs.Regions.{getSegment, returnSegment, segmentSize, resizeSegment, tick};
 
-// Get: size 0 (8), 4, size too large 8; if waiting is allowed 10, 19, 14; then the search. The value is the segment's address.
+// Get: size 0 (8), 4, an alignment by halves 11, any other that is not allowed 8, what the region with nothing held could not serve 8; if
+// waiting is allowed 10, 19, 14; then the search. The value is the segment's address.
 pub fn get_segment(
     mem: &mut [u32],
     d: Manager,
     id: u32,
     size: u32,
+    alignment: u32,
     wait: Wait,
     task: u32,
     priority: u32,
     ticks: u32,
 ) -> Answer
-    ensures { λ a. ⌜ Performs (getSegment (now (mem .entry)) d id size wait task priority ticks) (now (mem .exit)) a ⌝ }
+    ensures { λ a. ⌜ Performs (getSegment (now (mem .entry)) d id size alignment wait task priority ticks) (now (mem .exit)) a ⌝ }
 {
     if !soundness::is_sound(mem, d) {
         return reply::reply(d, Status::InternalError, 0);
@@ -41,9 +43,9 @@ pub fn get_segment(
         return reply::reply(d, Status::InvalidId, 0);
     }
     let l = map::layout_of(r);
-    let k = map::pages_asked(r, size);
-    if (l.pages as u64) < k {
-        return reply::reply(d, Status::InvalidSize, 0);
+    let n = map::need_of(r, size, alignment);
+    if let Verdict::Bad(s) = checks::may_ask(r, l, n, alignment) {
+        return reply::reply(d, s, 0);
     }
     if let Verdict::Bad(s) = checks::may_wait(d, wait, task, priority) {
         return reply::reply(d, s, 0);
@@ -52,10 +54,11 @@ pub fn get_segment(
         task,
         region: id,
         size,
+        alignment,
         priority,
         ticks,
     };
-    allocation::take_or_wait(mem, d, r, l, k, wait, w)
+    allocation::take_or_wait(mem, d, r, l, n, wait, w)
 }
 
 // Return: 4, 9. The segment is freed and the region's queue served; the notices say who got what.

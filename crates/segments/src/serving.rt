@@ -41,8 +41,8 @@ fn try_first(mem: &mut [u32], d: Manager, id: u32, r: Region, l: Layout) -> Turn
         return Turn::Stop;
     }
     let w = d.waiters[i];
-    let k = map::pages_asked(r, w.size);
-    match lending::take_pages(mem, r, l, k) {
+    let n = map::need_of(r, w.size, w.alignment);
+    match lending::take_pages(mem, r, l, n) {
         Place::Nowhere => Turn::Stop,
         Place::At(p) => {
             let notice = Notice {

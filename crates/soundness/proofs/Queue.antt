@@ -17,7 +17,9 @@ use Rattle.manager.proofs.Laws.Lists.{and-first, and-second, getD-any, rest-con
 use Rattle.manager.proofs.Laws.Ids.{first-slot, no-slot, object-there, object-none, object-beyond}
 use Rattle.manager.specs.Queue.{byPriority, urgent, goesBefore}
 use Rattle.manager.specs.Record.{slots, tasks, slotOf, hasId, noRegion, regionOf}
-use Rattle.manager.specs.Region.{layoutOf, dead, anyHeld}
+use Rattle.manager.specs.Kind.{Kind}
+use Rattle.manager.specs.Region.{kind, layoutOf, dead, anyHeld, isAlignment, needOf, servableAt, servable}
+use Rattle.manager.specs.declared.Need.{Need}
 use Rattle.arith.specs.declared.Layout.{Layout}
 use Rattle.manager.specs.Sound.{unused, emptyWaiter, soundWaiter, soundPlace, otherTask, inOrder, soundQueue}
 use Rattle.manager.specs.declared.Manager.{Manager}
@@ -206,7 +208,18 @@ module _ (m : List ℕ) (d : Manager) (w : Waiter) where
 
   facts-by : (b : Bool) → its ≡ b → soundIn (factsOf m (w .region) found) w ≡ soundWaiter m d w
   unfolding soundWaiter
-  facts-by true e = rw (object-there (λ r. r .name) (λ r. r .generation) noRegion (d .regions) (w .region) e, e, and-first (not (dead found)) _ e)
+  facts-by true e =
+      let a = kind found .aligns (w .alignment) in
+      let b = isAlignment (found .page) (w .alignment) in
+      let c = servable found (needOf found (w .size) (w .alignment)) in
+      let p = leb 1 (w .priority) && leb (w .priority) 255 in
+      rw (
+        object-there (λ r. r .name) (λ r. r .generation) noRegion (d .regions) (w .region) e,
+        e,
+        and-first (not (dead found)) _ e,
+        and-assoc a (b && c) p,
+        and-assoc b c p,
+      )
   facts-by false e = rw (object-none (λ r. r .name) (λ r. r .generation) noRegion (d .regions) (w .region) e, e)
 
   by-facts : soundIn (factsOf m (w .region) found) w ≡ soundWaiter m d w
@@ -227,8 +240,12 @@ facts-kept m kept id r e = rw (eq-eqb (kept .id) id e)
 
 pub facts-new : (m : List ℕ) (kept : Facts) (id : ℕ) (r : Region) (l : Layout) (b : Bool) → (kept .id ≡ id → ⊥) → l ≡ layoutOf r
     → b ≡ (hasId (r .name) (r .generation) id && anyHeld m r)
-    → record { id = id; region = r; pages = l .pages; held = b } ≡ cond (eqb (kept .id) id) kept (factsOf m id r)
+    → record { id = id; region = r; layout = l; held = b } ≡ cond (eqb (kept .id) id) kept (factsOf m id r)
 facts-new m kept id r l b e el eb = rw (ne-eqb (kept .id) id e, el, eb)
+
+-- what a call gave as the need
+pub serving-told : (K : Kind) (l : Layout) (n w : Need) (b : Bool) → n ≡ w → b ≡ servableAt K l n → b ≡ servableAt K l w
+serving-told K l n w b e x = x ∙ ap (servableAt K l) e
 
 no-region : (rs : List Region) (id : ℕ) → length rs ≡ slots → slots ≤ slotOf id → inSlot rs id ≡ noRegion
 no-region rs id h g = List·getD-eq-default rs noRegion (omega arith)

@@ -13,7 +13,7 @@ ghost use Rattle.manager.specs.Lists.{every};
 ghost use Rattle.manager.specs.Record.{tasks, hasId};
 ghost use Rattle.manager.specs.Region.{layoutOf, anyHeld};
 ghost use Rattle.manager.specs.Sound.{emptyWaiter, soundQueue};
-ghost use Rattle.soundness.specs.Waiters.{factsOf, noFacts, frontWaiter, soundRequest, soundIn, queueOf};
+ghost use Rattle.soundness.specs.Waiters.{factsOf, noFacts, frontWaiter, soundAlignment, soundRequest, soundIn, queueOf};
 
 // Tasks are numbered from 1 to this.
 const LAST_TASK: u32 = Manager::TASKS as u32;
@@ -31,18 +31,21 @@ fn empty_waiter(w: Waiter) -> bool
     if w.size != 0 {
         return false;
     }
+    if w.alignment != 0 {
+        return false;
+    }
     if w.priority != 0 {
         return false;
     }
     w.ticks == 0
 }
 
-// What the check of a waiter asks of what is in its region's slot, worked out once for the waiters that stand together: how many pages it
-// has, and whether it is the region, live with something held.
+// What the check of a waiter asks of what is in its region's slot, worked out once for the waiters that stand together: where its pages
+// lie, and whether it is the region, live with something held.
 struct Facts {
     id: u32,
     region: Region,
-    pages: u32,
+    layout: Layout,
     held: bool,
 }
 
@@ -70,9 +73,25 @@ fn facts_of(mem: &[u32], kept: Facts, id: u32, r: Region) -> Facts
     Facts {
         id,
         region: r,
-        pages: l.pages,
+        layout: l,
         held,
     }
+}
+
+// Whether a waiter asks for an alignment that its region allows, on which that could serve it with nothing held.
+fn sound_alignment(f: Facts, w: Waiter) -> bool
+    ensures { λ b. ⌜ b ≡ soundAlignment f w ⌝ }
+{
+    let r = f.region;
+    let order = r.order;
+    if !map::aligns(order, w.alignment) {
+        return false;
+    }
+    if !map::is_alignment(r.page, w.alignment) {
+        return false;
+    }
+    let need = map::need_of(r, w.size, w.alignment);
+    map::servable(order, f.layout, need)
 }
 
 // Whether a waiter asks for a size from 1 that its region can hold, with a priority from 1 to 255.
@@ -82,8 +101,7 @@ fn sound_request(f: Facts, w: Waiter) -> bool
     if w.size < 1 {
         return false;
     }
-    let r = f.region;
-    if (f.pages as u64) < map::pages_asked(r, w.size) {
+    if !sound_alignment(f, w) {
         return false;
     }
     if w.priority < 1 {
@@ -112,7 +130,11 @@ fn no_facts() -> Facts
     Facts {
         id: 0,
         region: Region::emptied(0),
-        pages: 0,
+        layout: Layout {
+            map: 0,
+            pages: 0,
+            first: 0,
+        },
         held: false,
     }
 }
@@ -125,6 +147,7 @@ fn in_front() -> Waiter
         task: 1,
         region: 1,
         size: 0,
+        alignment: 0,
         priority: 0,
         ticks: 0,
     }

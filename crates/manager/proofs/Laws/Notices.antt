@@ -12,13 +12,13 @@ use lib.Dec.{eqb}
 use borrow.Author.Tests.{eqb-true, eqb-false, eq-eqb, ne-eqb, not-true}
 use Rattle.manager.specs.Lists.{every, count, pairwise, In, Distinct}
 use Rattle.manager.specs.Record.{tasks, noWaiter, regionOf}
-use Rattle.manager.specs.Result.{Result, Check, check, tasksTold, done, replied}
-use Rattle.manager.specs.Region.{dead, servable, heldAt, canHave, changed, pagesAsked, placed, taken, addressOf}
+use Rattle.manager.specs.Result.{Result, Check, tasksTold, done, replied}
+use Rattle.manager.specs.Region.{heldAt, canHave, changed, pagesAsked, needOf, placed, taken, addressOf}
 use Rattle.manager.specs.Kind.{onPlace}
 use Rattle.manager.specs.Queue.{firstOf, waitsFor, removeAt, dequeue, staying, leaving, aged, expired, afterTick}
 use Rattle.manager.specs.Serve.{Served, quiet, granted, telling, behind, serve, serveAfter, fromServed}
 use Rattle.manager.specs.Sound.{sound, soundQueue, soundWaiter, soundPlace, emptyWaiter, otherTask}
-use Rattle.manager.specs.Regions.{answered, waitChecks, unplaced, createRegion, identRegion, deleteRegion, getSegment, returnSegment, segmentSize, resizeSegment, regionInformation, tick}
+use Rattle.manager.specs.Regions.{answered, unplaced, createRegion, identRegion, deleteRegion, getSegment, returnSegment, segmentSize, resizeSegment, regionInformation, tick}
 use Rattle.manager.specs.Partitions.{createPartition, identPartition, deletePartition, getBuffer, returnBuffer}
 use Rattle.manager.specs.Perform.{perform}
 use Rattle.manager.specs.declared.Manager.{Manager}
@@ -26,7 +26,7 @@ use Rattle.manager.specs.declared.Call.{Call}
 use Rattle.manager.specs.declared.Call.the-variants.{CreateRegion, IdentRegion, DeleteRegion, GetSegment, ReturnSegment, SegmentSize, ResizeSegment, RegionInformation, CreatePartition, IdentPartition, DeletePartition, GetBuffer, ReturnBuffer, Tick}
 use Rattle.manager.specs.declared.Wait.{Wait}
 use Rattle.manager.specs.declared.Wait.the-variants.{No, Yes}
-use Rattle.manager.specs.declared.Status.the-variants.{InvalidId, InvalidSize, Unsatisfied}
+use Rattle.manager.specs.declared.Status.the-variants.{Unsatisfied}
 use Rattle.manager.specs.declared.Waiter.{Waiter}
 use Rattle.manager.specs.declared.Notice.{Notice}
 use Rattle.manager.specs.declared.Place.{Place}
@@ -282,16 +282,16 @@ module _ (m : List ℕ) (d : Manager) (n : length (d .waiters) ≡ tasks) where
       tick-places = length-pad tasks (staying (d .waiters)) (omega (arith, stay-length (d .waiters)))
 
   -- a get tells nobody: its task waits, or has its answer
-  get-once : (id size : ℕ) (wait : Wait) (task priority ticks : ℕ) → Once (getSegment m d id size wait task priority ticks)
+  get-once : (id size alignment : ℕ) (wait : Wait) (task priority ticks : ℕ) → Once (getSegment m d id size alignment wait task priority ticks)
   unfolding getSegment
-  get-once id size wait task priority ticks =
+  get-once id size alignment wait task priority ticks =
       let r = regionOf d id in
-      let k = pagesAsked r size in
-      let w : Waiter = record { task = task; region = id; size = size; priority = priority; ticks = ticks } in
+      let n = needOf r size alignment in
+      let w : Waiter = record { task = task; region = id; size = size; alignment = alignment; priority = priority; ticks = ticks } in
       by-notices m d
-      (check (eqb size 0) InvalidSize ∷ check (dead r) InvalidId ∷ check (not (servable r k)) InvalidSize ∷ waitChecks d wait task priority)
-      (onPlace (placed m r k) (λ p. done (taken m r k) d (addressOf r p)) (unplaced m d wait w))
-      (λ ok. on-place (placed m r k) (λ p. done (taken m r k) d (addressOf r p)) (unplaced m d wait w) (λ p. no-notices _ refl) (waits wait w))
+      _
+      (onPlace (placed m r n) (λ p. done (taken m r n) d (addressOf r p)) (unplaced m d wait w))
+      (λ ok. on-place (placed m r n) (λ p. done (taken m r n) d (addressOf r p)) (unplaced m d wait w) (λ p. no-notices _ refl) (waits wait w))
     where
       waits : (wait : Wait) (w : Waiter) → Once (unplaced m d wait w)
       waits No w = no-notices _ refl
@@ -303,7 +303,7 @@ module _ (m : List ℕ) (d : Manager) (n : length (d .waiters) ≡ tasks) where
   told-once (CreateRegion name start bytes page order) = by-notices m d _ _ (λ ok. no-notices _ refl)
   told-once (IdentRegion name) = by-notices m d _ _ (λ ok. no-notices _ refl)
   told-once (DeleteRegion id) = by-notices m d _ _ (λ ok. no-notices _ refl)
-  told-once (GetSegment id size wait task priority ticks) = get-once id size wait task priority ticks
+  told-once (GetSegment id size alignment wait task priority ticks) = get-once id size alignment wait task priority ticks
   told-once (ReturnSegment id address) = return-once id address
   told-once (SegmentSize id address) = by-notices m d _ _ (λ ok. no-notices _ refl)
   told-once (ResizeSegment id address size) = resize-once id address size

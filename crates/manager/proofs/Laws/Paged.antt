@@ -7,14 +7,17 @@ use mathlib.Core.List.{List, [], _∷_, _++_}
 use native.Mathlib.Nat.{add-zero}
 use native.Mathlib.Omega.{arith}
 use lib.Dec.{eqb, leb}
-use borrow.Author.Tests.{leb-true, leb-false, le-leb, lt-leb, eqb-true, eq-eqb, ne-eqb}
+use borrow.Author.Tests.{leb-true, le-leb, lt-leb, eqb-true, eq-eqb, ne-eqb}
 use Rattle.manager.specs.Map.{Segment, free, held, isHeldSegment, total}
 use Rattle.manager.specs.Map.{sizeOf}
+use Rattle.arith.specs.Round.{alignUp}
+use Rattle.arith.proofs.Laws.Round.{align-ge}
 use Rattle.arith.proofs.Laws.Layout.{both-true}
 use Rattle.manager.proofs.Laws.Map.{Sized, total-cons}
 use Rattle.manager.proofs.Laws.Apart.{Well, well-after}
 use Rattle.manager.specs.Kind.{onPlace, allocate, heldFrom}
-use Rattle.manager.specs.Paged.{free+, held+, lead, rest, placeFrom, occupyFrom, paged, reachFrom, changeFrom}
+use Rattle.manager.specs.Paged.{free+, held+, lead, rest, roomFrom, placeFrom, occupyFrom, paged, reachFrom, changeFrom}
+use Rattle.manager.specs.declared.Need.{Need}
 use Rattle.manager.specs.declared.Place.{Place}
 use Rattle.manager.specs.declared.Place.the-variants.{At, Nowhere}
 
@@ -120,114 +123,115 @@ total-occupy p k at (free n ∷ s) = go (leb at p && leb (p + k) (at + n)) refl 
         )
     go false e ih = omega arith
 
--- its map in one walk: the first free segment with room serves from its low end
-unfoldable pub firstFit : ℕ → List Segment → List Segment
-firstFit k [] = []
-firstFit k (held n ∷ s) = held n ∷ firstFit k s
-firstFit k (free n ∷ s) = cond (leb k n) (held k ∷ free+ (n - k) s) (free n ∷ firstFit k s)
+-- OF ALIGNMENT 0 A GET TAKES THE LOW END OF THE LOWEST SEGMENT THAT HAS THE PAGES, by computing
+pub anywhere : (k at n : ℕ) (s : List Segment)
+    → let w : Need = record { pages = k; every = 0 } in placeFrom w at (free n ∷ s) ≡ cond (leb k n) (At at) (placeFrom w (at + n) s)
+unfolding placeFrom
+anywhere k at n s = refl
+
+-- k pages from the first page on the alignment on lie in n pages from page `at` on exactly where so many are left
+pub room-in : (every at n k : ℕ) → 1 ≤ k → k ≤ roomFrom every at n → alignUp every at + k ≤ at + n
+room-in zero at n k o h = omega arith
+room-in (suc every) at n k o h = omega arith
+
+pub room-out : (every at n k : ℕ) → roomFrom every at n < k → at + n < alignUp every at + k
+room-out zero at n k h = omega arith
+room-out (suc every) at n k h = omega arith
+
+-- its map in one walk: the first free segment with room serves from the first page on the alignment on
+unfoldable pub firstFit : Need → ℕ → List Segment → List Segment
+firstFit w at [] = []
+firstFit w at (held n ∷ s) = held n ∷ firstFit w (at + n) s
+firstFit w at (free n ∷ s) =
+    cond (leb (w .pages) (roomFrom (w .every) at n))
+    (free+ (alignUp (w .every) at - at) (held (w .pages) ∷ free+ (at + n - (alignUp (w .every) at + w .pages)) s))
+    (free n ∷ firstFit w (at + n) s)
 
 -- where nothing is placed, nothing is taken
-fit-none : (k at : ℕ) (s : List Segment) → placeFrom k at s ≡ Nowhere → firstFit k s ≡ s
+fit-none : (w : Need) (at : ℕ) (s : List Segment) → placeFrom w at s ≡ Nowhere → firstFit w at s ≡ s
 unfolding placeFrom firstFit
-fit-none k at [] e = refl
-fit-none k at (held n ∷ s) e = ap (λ (t : List Segment). held n ∷ t) (fit-none k (at + n) s e)
-fit-none k at (free n ∷ s) e = go (leb k n) refl (λ e′. fit-none k (at + n) s e′)
+fit-none w at [] e = refl
+fit-none w at (held n ∷ s) e = ap (λ (t : List Segment). held n ∷ t) (fit-none w (at + n) s e)
+fit-none w at (free n ∷ s) e = go (leb (w .pages) (roomFrom (w .every) at n)) refl (λ e′. fit-none w (at + n) s e′)
   where
-    go : (b : Bool) → leb k n ≡ b → (placeFrom k (at + n) s ≡ Nowhere → firstFit k s ≡ s) → cond (leb k n) (held k ∷ free+ (n - k) s) (free n ∷ firstFit k s) ≡ free n ∷ s
+    go : (b : Bool) → leb (w .pages) (roomFrom (w .every) at n) ≡ b → (placeFrom w (at + n) s ≡ Nowhere → firstFit w (at + n) s ≡ s)
+        → firstFit w at (free n ∷ s) ≡ free n ∷ s
     go true f ih =
-        let a : At at ≡ Nowhere = rw f at e in
+        let a : At (alignUp (w .every) at) ≡ Nowhere = rw f at e in
         absurd (let z : _≡_ {A = ℕ} 0 1 = cc in omega arith)
     go false f ih = rw f (ap (λ (t : List Segment). free n ∷ t) (ih (rw f at e)))
 
--- where k pages are placed at page p, no free segment before it has room for them there, so those from p on are the ones that are held
+-- where pages are placed at page p, no free segment before it has them there, so those from p on are the ones that are held
 within : (p k at n : ℕ) → at ≤ p → p + k ≤ at + n → (leb at p && leb (p + k) (at + n)) ≡ true
 within p k at n h l = rw (le-leb at p h, le-leb (p + k) (at + n) l)
 
 beyond : (p k at n : ℕ) → at + n < p + k → (leb at p && leb (p + k) (at + n)) ≡ false
 beyond p k at n l = rw (lt-leb (p + k) (at + n) l) (and-false (leb at p))
 
-fit-at : (k at : ℕ) (s : List Segment) (p : ℕ) → placeFrom k at s ≡ At p → (at ≤ p) × (occupyFrom p k at s ≡ firstFit k s)
+fit-at : (w : Need) (at : ℕ) (s : List Segment) (p : ℕ) → 1 ≤ w .pages → placeFrom w at s ≡ At p
+    → (at ≤ p) × (occupyFrom p (w .pages) at s ≡ firstFit w at s)
 unfolding placeFrom firstFit occupyFrom free+
-fit-at k at [] p e = absurd (let z : _≡_ {A = ℕ} 0 1 = cc in omega arith)
-fit-at k at (held n ∷ s) p e =
-    let h = fit-at k (at + n) s p e in
+fit-at w at [] p o e = absurd (let z : _≡_ {A = ℕ} 0 1 = cc in omega arith)
+fit-at w at (held n ∷ s) p o e =
+    let h = fit-at w (at + n) s p o e in
     (omega (arith, h .0), ap (λ (t : List Segment). held n ∷ t) (h .1))
-fit-at k at (free n ∷ s) p e = go (leb k n) refl (λ e′. fit-at k (at + n) s p e′)
+fit-at w at (free n ∷ s) p o e = go (leb (w .pages) (roomFrom (w .every) at n)) refl (λ e′. fit-at w (at + n) s p o e′)
   where
-    go : (b : Bool) → leb k n ≡ b → (placeFrom k (at + n) s ≡ At p → (at + n ≤ p) × (occupyFrom p k (at + n) s ≡ firstFit k s))
-        → (at ≤ p) × (occupyFrom p k at (free n ∷ s) ≡ firstFit k (free n ∷ s))
+    go : (b : Bool) → leb (w .pages) (roomFrom (w .every) at n) ≡ b
+        → (placeFrom w (at + n) s ≡ At p → (at + n ≤ p) × (occupyFrom p (w .pages) (at + n) s ≡ firstFit w (at + n) s))
+        → (at ≤ p) × (occupyFrom p (w .pages) at (free n ∷ s) ≡ firstFit w at (free n ∷ s))
     go true f ih =
-        let a : At at ≡ At p = rw f at e in
-        let ap′ : at ≡ p = cc in
-        let l : k ≤ n = leb-true k n f in
-        let z : p - at ≡ 0 = omega arith in
-        let y : at + n - (p + k) ≡ n - k = omega arith in
-        (omega arith, rw (within p k at n (omega arith) (omega arith), f, z, y))
+        let a : At (alignUp (w .every) at) ≡ At p = rw f at e in
+        let q : alignUp (w .every) at ≡ p = cc in
+        let l = room-in (w .every) at n (w .pages) o (leb-true (w .pages) (roomFrom (w .every) at n) f) in
+        let h : at ≤ p = omega (arith, align-ge (w .every) at) in
+        (h, rw (within p (w .pages) at n h (omega arith), f, q))
     go false f ih =
         let h = ih (rw f at e) in
-        let l : n < k = leb-false k n f in
-        (omega (arith, h .0), rw (beyond p k at n (omega (arith, h .0)), f) (ap (λ (t : List Segment). free n ∷ t) (h .1)))
+        (omega (arith, h .0), rw (beyond p (w .pages) at n (omega (arith, h .0)), f) (ap (λ (t : List Segment). free n ∷ t) (h .1)))
 
 -- A GET IS FIRST FIT
-pub fit-is : (k at : ℕ) (s : List Segment) → allocate paged k at s ≡ firstFit k s
-fit-is k at s = go (placeFrom k at s) refl
+pub fit-is : (w : Need) (at : ℕ) (s : List Segment) → 1 ≤ w .pages → allocate paged w at s ≡ firstFit w at s
+fit-is w at s o = go (placeFrom w at s) refl
   where
-    go : (q : Place) → placeFrom k at s ≡ q → onPlace q (λ p. occupyFrom p k at s) s ≡ firstFit k s
-    go (At p) e = fit-at k at s p e .1
-    go Nowhere e = sym (fit-none k at s e)
+    go : (q : Place) → placeFrom w at s ≡ q → onPlace q (λ p. occupyFrom p (w .pages) at s) s ≡ firstFit w at s
+    go (At p) e = fit-at w at s p o e .1
+    go Nowhere e = sym (fit-none w at s e)
 
 -- it keeps a map well formed and its pages in number
-pub well-take : (k at : ℕ) (s : List Segment) → 1 ≤ k → Well true s → Well true (allocate paged k at s)
-well-take k at s o w = go (placeFrom k at s)
+pub well-take : (w : Need) (at : ℕ) (s : List Segment) → 1 ≤ w .pages → Well true s → Well true (allocate paged w at s)
+well-take w at s o h = go (placeFrom w at s)
   where
-    go : (q : Place) → Well true (onPlace q (λ p. occupyFrom p k at s) s)
-    go (At p) = well-occupy p k at true s o w
-    go Nowhere = w
+    go : (q : Place) → Well true (onPlace q (λ p. occupyFrom p (w .pages) at s) s)
+    go (At p) = well-occupy p (w .pages) at true s o h
+    go Nowhere = h
 
-pub total-take : (k at : ℕ) (s : List Segment) → total (allocate paged k at s) ≡ total s
-total-take k at s = go (placeFrom k at s)
+pub total-take : (w : Need) (at : ℕ) (s : List Segment) → total (allocate paged w at s) ≡ total s
+total-take w at s = go (placeFrom w at s)
   where
-    go : (q : Place) → total (onPlace q (λ p. occupyFrom p k at s) s) ≡ total s
-    go (At p) = total-occupy p k at s
+    go : (q : Place) → total (onPlace q (λ p. occupyFrom p (w .pages) at s) s) ≡ total s
+    go (At p) = total-occupy p (w .pages) at s
     go Nowhere = refl
 
-pub take-none : (k at : ℕ) (s : List Segment) → placeFrom k at s ≡ Nowhere → allocate paged k at s ≡ s
-take-none k at s e = rw e
+pub take-none : (w : Need) (at : ℕ) (s : List Segment) → placeFrom w at s ≡ Nowhere → allocate paged w at s ≡ s
+take-none w at s e = rw e
 
--- where k pages are placed at page i: the map before, a free segment with room, and the map behind
-pub record Hit (k at i : ℕ) (s : List Segment) : Type 0 where
-  pub pre : List Segment
-  pub pages : ℕ
-  pub post : List Segment
-  pub is : s ≡ pre ++ (free pages ∷ post)
-  pub page : at + total pre ≡ i
-  pub room : k ≤ pages
-  pub gives : firstFit k s ≡ pre ++ (held k ∷ free+ (pages - k) post)
-
-hit-past : {k at i : ℕ} {s : List Segment} (g : Segment) → firstFit k (g ∷ s) ≡ g ∷ firstFit k s → Hit k (at + sizeOf g) i s → Hit k at i (g ∷ s)
-hit-past {k} {at} {i} {s} g e h =
-    record {
-      pre = g ∷ h .pre;
-      pages = h .pages;
-      post = h .post;
-      is = ap (λ (t : List Segment). g ∷ t) (h .is);
-      page = omega (arith, h .page, total-cons g (h .pre));
-      room = h .room;
-      gives = e ∙ ap (λ (t : List Segment). g ∷ t) (h .gives);
-    }
-
-pub hit : (k at : ℕ) (s : List Segment) (i : ℕ) → placeFrom k at s ≡ At i → Hit k at i s
-unfolding placeFrom firstFit total
-hit k at [] i e = absurd (let z : _≡_ {A = ℕ} 0 1 = cc in omega arith)
-hit k at (held n ∷ s) i e = hit-past (held n) refl (hit k (at + n) s i e)
-hit k at (free n ∷ s) i e = go (leb k n) refl (λ e′. hit k (at + n) s i e′)
+-- a get has its pages in the map
+pub place-within : (w : Need) (at : ℕ) (s : List Segment) (p : ℕ) → 1 ≤ w .pages → placeFrom w at s ≡ At p
+    → (at ≤ p) × (p + w .pages ≤ at + total s)
+unfolding placeFrom total
+place-within w at [] p o e = absurd (let z : _≡_ {A = ℕ} 0 1 = cc in omega arith)
+place-within w at (held n ∷ s) p o e = let h = place-within w (at + n) s p o e in (omega (arith, h .0), omega (arith, h .1))
+place-within w at (free n ∷ s) p o e = go (leb (w .pages) (roomFrom (w .every) at n)) refl (λ e′. place-within w (at + n) s p o e′)
   where
-    go : (b : Bool) → leb k n ≡ b → (placeFrom k (at + n) s ≡ At i → Hit k (at + n) i s) → Hit k at i (free n ∷ s)
+    go : (b : Bool) → leb (w .pages) (roomFrom (w .every) at n) ≡ b
+        → (placeFrom w (at + n) s ≡ At p → (at + n ≤ p) × (p + w .pages ≤ at + n + total s)) → (at ≤ p) × (p + w .pages ≤ at + (n + total s))
     go true f ih =
-        let a : At at ≡ At i = rw f at e in
-        let ai : at ≡ i = cc in
-        record { pre = []; pages = n; post = s; is = refl; page = add-zero at ∙ ai; room = leb-true k n f; gives = rw f }
-    go false f ih = hit-past (free n) (rw f) (ih (rw f at e))
+        let a : At (alignUp (w .every) at) ≡ At p = rw f at e in
+        let q : alignUp (w .every) at ≡ p = cc in
+        let l = room-in (w .every) at n (w .pages) o (leb-true (w .pages) (roomFrom (w .every) at n) f) in
+        (omega (arith, align-ge (w .every) at), omega arith)
+    go false f ih = let h = ih (rw f at e) in (omega (arith, h .0), omega (arith, h .1))
 
 -- ---- return and resize
 

@@ -156,13 +156,15 @@ pub length-pad : (n : ℕ) (ws : List Waiter) → length ws ≤ n → length (pa
 length-pad n ws h = length-append ws _ ∙ rw (length-replicate (n - length ws) noWaiter) (omega arith)
 
 -- AN UNUSED PLACE IS ALL ZEROS
-made : (a b c d e : ℕ) → a ≡ 0 → b ≡ 0 → c ≡ 0 → d ≡ 0 → e ≡ 0 → record { task = a; region = b; size = c; priority = d; ticks = e } ≡ noWaiter
-made a b c d e p q r s t = rw (p, q, r, s, t)
+made : (a b c d e f : ℕ) → a ≡ 0 → b ≡ 0 → c ≡ 0 → d ≡ 0 → e ≡ 0 → f ≡ 0
+    → record { task = a; region = b; size = c; alignment = d; priority = e; ticks = f } ≡ noWaiter
+made a b c d e f p q r s t u = rw (p, q, r, s, t, u)
 
 pub empty-waiter : (w : Waiter) → emptyWaiter w ≡ true → w ≡ noWaiter
 empty-waiter w e =
     let r = and-second (eqb (w .task) 0) _ e in
     let s = and-second (eqb (w .region) 0) _ r in
-    let p = and-second (eqb (w .size) 0) _ s in
-    made _ _ _ _ _ (eqb-true _ _ (and-first (eqb (w .task) 0) _ e)) (eqb-true _ _ (and-first (eqb (w .region) 0) _ r))
-    (eqb-true _ _ (and-first (eqb (w .size) 0) _ s)) (eqb-true _ _ (and-first (eqb (w .priority) 0) _ p)) (eqb-true _ _ (and-second (eqb (w .priority) 0) _ p))
+    let t = and-second (eqb (w .size) 0) _ s in
+    let p = and-second (eqb (w .alignment) 0) _ t in
+    made _ _ _ _ _ _ (eqb-true _ _ (and-first (eqb (w .task) 0) _ e)) (eqb-true _ _ (and-first (eqb (w .region) 0) _ r))
+    (eqb-true _ _ (and-first (eqb (w .size) 0) _ s)) (eqb-true _ _ (and-first (eqb (w .alignment) 0) _ t)) (eqb-true _ _ (and-first (eqb (w .priority) 0) _ p)) (eqb-true _ _ (and-second (eqb (w .priority) 0) _ p))

@@ -4,6 +4,7 @@ use Prim.Native.Nat.{ℕ, _+_, _-_, _*_, _≤_}
 use mathlib.Core.Path.{_≡_, ap, sym, _∙_}
 use mathlib.Core.Bool.{Bool, true, false, cond}
 use mathlib.Core.List.{List, _++_}
+use native.Mathlib.Nat.{zero-div}
 use native.Mathlib.Omega.{arith}
 use lib.ListN.{length, take, drop}
 use lib.Seq.{drop-drop}
@@ -14,7 +15,7 @@ use mir.Val.{Fits}
 use Rattle.manager.specs.Map.{Segment, draw, total}
 use Rattle.manager.specs.Kind.{heldFrom}
 use Rattle.manager.proofs.Laws.Paged.{held-within}
-use Rattle.manager.specs.Region.{layoutOf, pagesOf, firstPageOf, mapAt, mapWords, segments, withSegments, startsPage, pageAt, heldAt, pagesAsked}
+use Rattle.manager.specs.Region.{layoutOf, pagesOf, firstPageOf, mapAt, mapWords, segments, withSegments, startsPage, pageAt, heldAt, pagesAsked, needOf}
 use Rattle.arith.proofs.Laws.Round.{pages-some}
 use Rattle.manager.proofs.Laws.Kinds.{keeps}
 use Rattle.manager.specs.Sound.{Laid, Sited}
@@ -28,6 +29,10 @@ lent l m = take (l .map + l .pages - l .map) (drop (l .map) m)
 
 abbrev pub putBack : Layout → List ℕ → List ℕ → List ℕ
 putBack l m ws = putMid (l .map) (l .map + l .pages - l .map) m ws
+
+-- alignment 0 asks for pages anywhere
+pub need-anywhere : (r : Region) (size : ℕ) → needOf r size 0 ≡ record { pages = pagesAsked r size; every = 0 }
+need-anywhere r size = rw (zero-div (r .page))
 
 module _ (r : Region) (l : Layout) (el : l ≡ layoutOf r) (m : List ℕ) where
   lent-is : lent l m ≡ mapWords m r

@@ -8,23 +8,27 @@ use lib.ListN.{getD}
 use lib.Dec.{ltb}
 use borrow.Author.Tests.{ltb-true}
 use Rattle.manager.specs.Record.{slots, tasks, noRegion, noWaiter, regionOf, idOf, withQueue}
-use Rattle.manager.specs.Region.{dead, addressOf, pagesAsked, placed, taken}
+use Rattle.manager.specs.Region.{dead, addressOf, needOf, placed, taken}
 use Rattle.manager.specs.Kind.{onPlace}
 use Rattle.manager.specs.Queue.{firstOf, dequeue}
 use Rattle.manager.specs.Serve.{Served, quiet, granted, telling, behind, serveUpTo, serve, serveSlot, serveSlots, serveAll, serveAfter}
 use Rattle.manager.specs.declared.Manager.{Manager}
 use Rattle.manager.specs.declared.Waiter.{Waiter}
 use Rattle.manager.specs.declared.Notice.{Notice}
+use Rattle.manager.specs.declared.Need.{Need}
 use Rattle.manager.specs.declared.Place.{Place}
 use Rattle.manager.specs.declared.Place.the-variants.{At, Nowhere}
 use Rattle.manager.proofs.Laws.Appended.{by-case}
 
--- the first waiter of a region, and the memory after he has his pages
+-- the first waiter of a region, what he needs, and the memory after he has his pages
 abbrev pub firstWaiter : Manager → ℕ → Waiter
 firstWaiter d id = getD (d .waiters) (firstOf id (d .waiters)) noWaiter
 
+abbrev pub firstNeed : Manager → ℕ → Need
+firstNeed d id = needOf (regionOf d id) (firstWaiter d id .size) (firstWaiter d id .alignment)
+
 abbrev pub afterFirst : List ℕ → Manager → ℕ → List ℕ
-afterFirst m d id = taken m (regionOf d id) (pagesAsked (regionOf d id) (firstWaiter d id .size))
+afterFirst m d id = taken m (regionOf d id) (firstNeed d id)
 
 -- ONE QUEUE
 module _ (id : ℕ) (P : List ℕ → Manager → Served → Type 0) (nobody : (m : List ℕ) (d : Manager) → P m d (quiet m d))
@@ -37,7 +41,7 @@ module _ (id : ℕ) (P : List ℕ → Manager → Served → Type 0) (nobody : (
       let i = firstOf id (d .waiters) in
       let s = serveUpTo f (afterFirst m d id) (dequeue d i) id in
       let next : (p : ℕ) → Served = λ p. telling (granted (firstWaiter d id) (addressOf (regionOf d id) p)) s in
-      let g = placed m (regionOf d id) (pagesAsked (regionOf d id) (firstWaiter d id .size)) in
+      let g = placed m (regionOf d id) (firstNeed d id) in
       by-case (ltb i tasks) (λ b. P m d (cond b (onPlace g next (quiet m d)) (quiet m d)))
       (λ h. on-place g next (λ p. first m d (ltb-true i tasks h) (addressOf (regionOf d id) p) s (by-turns f (afterFirst m d id) (dequeue d i)))) (λ h. nobody m d)
     where

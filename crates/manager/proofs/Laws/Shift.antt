@@ -2,14 +2,14 @@
 -- places of words in the map is what the rules say by the numbers of pages. Assumes nothing.
 use Prim.Native.Nat.{ℕ, _+_}
 use mathlib.Core.Path.{_≡_, refl}
-use mathlib.Core.Bool.{Bool, true, false, cond}
+use mathlib.Core.Bool.{Bool, true, false}
 use mathlib.Core.List.{List, [], _∷_}
 use native.Mathlib.Omega.{arith}
-use lib.Dec.{eqb, leb}
+use lib.Dec.{eqb}
 use borrow.Author.Tests.{eqb-true, eqb-false, eq-eqb, ne-eqb}
 use Rattle.manager.specs.Map.{Segment, free, held}
 use Rattle.manager.specs.Kind.{heldFrom}
-use Rattle.manager.specs.Paged.{placeFrom, reachFrom, changeFrom}
+use Rattle.manager.specs.Paged.{reachFrom, changeFrom}
 use Rattle.manager.specs.declared.Place.{Place}
 use Rattle.manager.specs.declared.Place.the-variants.{At, Nowhere}
 
@@ -24,19 +24,6 @@ module _ (by : ℕ) where
 
   pub shift-at : (at p : ℕ) → eqb (by + at) (by + p) ≡ eqb at p
   shift-at at p = shift-test at p (eqb at p) refl
-
-  pub place-shift : (k at : ℕ) (s : List Segment) → placeFrom k (by + at) s ≡ shifted by (placeFrom k at s)
-  unfolding placeFrom
-  place-shift k at [] = refl
-  place-shift k at (held n ∷ s) = let e : by + at + n ≡ by + (at + n) = omega arith in rw e (place-shift k (at + n) s)
-  place-shift k at (free n ∷ s) =
-      let e : by + at + n ≡ by + (at + n) = omega arith in
-      rw e (go (leb k n) (place-shift k (at + n) s))
-    where
-      go : (b : Bool) → placeFrom k (by + (at + n)) s ≡ shifted by (placeFrom k (at + n) s)
-          → cond b (At (by + at)) (placeFrom k (by + (at + n)) s) ≡ shifted by (cond b (At at) (placeFrom k (at + n) s))
-      go true h = refl
-      go false h = h
 
   pub held-shift : (p at : ℕ) (s : List Segment) → heldFrom (by + p) (by + at) s ≡ heldFrom p at s
   unfolding heldFrom

@@ -18,13 +18,13 @@ use Rattle.manager.specs.Kind.{allocate}
 use Rattle.manager.proofs.Laws.Kinds.{keeps}
 use Rattle.manager.specs.Queue.{dequeue}
 use Rattle.manager.proofs.Laws.Appended.{by-case}
-use Rattle.manager.specs.Region.{kind, pagesOf, firstPageOf, mapAt, mapWords, segments, withSegments, pagesAsked}
+use Rattle.manager.specs.Region.{kind, pagesOf, firstPageOf, mapAt, mapWords, segments, withSegments}
 use Rattle.manager.specs.Serve.{serve}
 use Rattle.manager.specs.Sound.{Laid, Sited}
 use Rattle.manager.specs.Words.{OneOf, MapWord, Only}
 use Rattle.manager.proofs.Laws.Sound.{read-with, total-segments}
 use Rattle.manager.proofs.Laws.Areas.{Clear, areaFor}
-use Rattle.manager.proofs.Laws.Serve.{firstWaiter, by-queue}
+use Rattle.manager.proofs.Laws.Serve.{firstNeed, by-queue}
 use Rattle.manager.specs.declared.Manager.{Manager}
 use Rattle.manager.specs.declared.Region.{Region}
 
@@ -110,9 +110,8 @@ served-only m d id =
     by-queue id (λ m d s. Mapped m (regionOf d id) → Only (MapWord (regionOf d id)) m (s .memory)) (λ m d v. unchanged)
     (λ m d h a s next v.
     let r = regionOf d id in
-    let k = pagesAsked r (firstWaiter d id .size) in
-    let g = allocate (kind r) k (firstPageOf r) (segments m r) in
-    let t : total g ≡ pagesOf r = keeps (r .order) .total-take k (firstPageOf r) (segments m r) ∙ v .pages in
+    let g = allocate (kind r) (firstNeed d id) (firstPageOf r) (segments m r) in
+    let t : total g ≡ pagesOf r = keeps (r .order) .total-take (firstNeed d id) (firstPageOf r) (segments m r) ∙ v .pages in
     only-then (drawn-only m r g t) (next (drawn-mapped m r v g t)))
     m d
 

@@ -16,6 +16,7 @@ use Rattle.arith.proofs.Laws.Power.{is-power}
 use Rattle.manager.specs.Map.{Segment, free, held, wordsOf, draw, decode, tiled, soundMap, total}
 use Rattle.manager.specs.Kind.{allocate}
 use Rattle.manager.specs.Halves.{FreeAt, smallest, lowestFree, placeBlock, carve, occupyBlock, halves}
+use Rattle.manager.specs.declared.Need.{Need}
 use Rattle.manager.specs.declared.Place.the-variants.{At, Nowhere}
 use Rattle.manager.proofs.Laws.Map.{Sized, sound-tiled, sound-proper, redraw, sized-decoded, draw-append, draw-cons, length-draw, length-words}
 use Rattle.manager.proofs.Laws.Map.{total-decoded}
@@ -93,16 +94,19 @@ module _ (p m t ws : List ℕ) (i n : ℕ) (x : ws ≡ p ++ (m ++ t)) (ep : leng
 abbrev part : List ℕ → ℕ → ℕ → List ℕ
 part ws i b = take (i + b - i) (drop i ws)
 
-pub record Took (k b i : ℕ) (ws : List ℕ) : Type 0 where
+pub record Took (n : Need) (b i : ℕ) (ws : List ℕ) : Type 0 where
   pub within : i + b ≤ length ws
-  pub room : k ≤ b
+  pub room : n .pages ≤ b
   pub long : length (part ws i b) ≡ b
-  pub blank : Blank (part ws i b) k
-  pub place : At i ≡ placeBlock k 0 (decode ws)
-  pub words : (out : List ℕ) → out ≡ draw (carve (level (length (part ws i b))) k (length (part ws i b)))
-      → take i ws ++ (out ++ drop (i + b - i) (drop i ws)) ≡ draw (allocate halves k 0 (decode ws))
+  pub blank : Blank (part ws i b) (n .pages)
+  pub place : At i ≡ placeBlock (n .pages) 0 (decode ws)
+  pub words : (out : List ℕ) → out ≡ draw (carve (level (length (part ws i b))) (n .pages) (length (part ws i b)))
+      → take i ws ++ (out ++ drop (i + b - i) (drop i ws)) ≡ draw (allocate halves n 0 (decode ws))
 
-module _ (ws : List ℕ) (k : ℕ) (ok : soundMap (halves .proper) ws ≡ true) where
+module _ (ws : List ℕ) (n : Need) (ok : soundMap (halves .proper) ws ≡ true) where
+  abbrev k : ℕ
+  k = n .pages
+
   tiles : tiled ws ≡ true
   tiles = sound-tiled (halves .proper) ws ok
 
@@ -116,7 +120,7 @@ module _ (ws : List ℕ) (k : ℕ) (ok : soundMap (halves .proper) ws ≡ true) 
     unfolding placeBlock
     place-is ne = rw (← eb, ne-eqb b 0 ne)
 
-  pub untaken : placeBlock k 0 (decode ws) ≡ Nowhere → (Nowhere ≡ placeBlock k 0 (decode ws)) × (ws ≡ draw (allocate halves k 0 (decode ws)))
+  pub untaken : placeBlock k 0 (decode ws) ≡ Nowhere → (Nowhere ≡ placeBlock k 0 (decode ws)) × (ws ≡ draw (allocate halves n 0 (decode ws)))
   untaken e = (sym e, rw e (sym (redraw ws tiles)))
 
   module _ (b i : ℕ) (o : 1 ≤ k) (eb : b ≡ smallest k (decode ws)) (ne : b ≡ 0 → ⊥) (ei : lowestFree b 0 (decode ws) ≡ At i) where
@@ -129,7 +133,7 @@ module _ (ws : List ℕ) (k : ℕ) (ok : soundMap (halves .proper) ws ≡ true) 
     place : placeBlock k 0 s ≡ At i
     place = place-is b eb ne ∙ ei
 
-    pub took : Took k b i ws
+    pub took : Took n b i ws
     took =
         let h = spot 0 i b s there in
         let p = draw (h .pre) in
@@ -148,7 +152,7 @@ module _ (ws : List ℕ) (k : ℕ) (ok : soundMap (halves .proper) ws ≡ true) 
         ap draw (occupy-spot 0 i b k s h (sized-decoded ws tiles))
         ∙ draw-append (h .pre) (g ++ h .post)
         ∙ ap (λ (u : List ℕ). p ++ u) (draw-append g (h .post)) in
-        let v : draw (allocate halves k 0 s) ≡ draw (occupyBlock i k 0 s) = rw place in
+        let v : draw (allocate halves n 0 s) ≡ draw (occupyBlock i k 0 s) = rw place in
         record {
           within = omega (arith, free-within s 0 i b there .1, total-decoded ws tiles);
           room = rw eb (smallest-there k s 0 o (omega (arith, eb)) .2);

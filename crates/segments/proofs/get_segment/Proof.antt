@@ -1,9 +1,11 @@
 -- `get_segment` meets its contract: each exit is one of the definition. Behind many calls the places on the way are named. Assumes nothing.
+use mathlib.Core.Path.{ap}
 use borrow.Author.Needs.{needs}
 use borrow.Author.Tests.{not-false}
+use Rattle.manager.specs.declared.Need.{Need}
 use Rattle.manager.proofs.Laws.Result.{performs-by, performs-replied}
 use Rattle.segments.proofs.Address.{live, some-asked}
-use Rattle.segments.proofs.Get.{getting, get-refused, get-placed}
+use Rattle.segments.proofs.Get.{getting, get-unasked, get-refused, get-placed}
 use Rattle.segments.proofs.get_segment.Statement.{statement}
 use Rattle.segments.proofs.get_segment.Tie as tie
 
@@ -43,11 +45,14 @@ returns-3 c = search (needs, getting)
 layout-of-requires : tie.Need-layout-of-requires
 layout-of-requires c κs = search needs
 
-pages-asked-requires : tie.Need-pages-asked-requires
-pages-asked-requires c κs = search needs
+need-of-requires : tie.Need-need-of-requires
+need-of-requires c κs = search needs
 
-cast-if4 : tie.Need-cast-if4
-cast-if4 c = search needs
+may-ask-requires : tie.Need-may-ask-requires
+may-ask-requires c κs = search needs
+
+enum-known-s : tie.Need-enum-known-s
+enum-known-s c = search needs
 
 reply-requires-4 : tie.Need-reply-requires-4
 reply-requires-4 c κs = search needs
@@ -56,13 +61,26 @@ same-length-4 : tie.Need-same-length-4
 same-length-4 c = search needs
 
 returns-4 : tie.Need-returns-4
-returns-4 c = search (needs, getting)
+returns-4 c =
+    let asked = c .before .before .before .before in
+    let needed = asked .before in
+    let laid = needed .before in
+    let named = laid .before in
+    let found = named .before .before in
+    let some = found .before in
+    let passed = some .before in
+    performs-replied _ _ _ _ _ _ (c .reply4 .ensures)
+    (get-unasked _ _ _ _ _ _ _ _ _ _ (passed .before .is-sound .ensures) (not-false _ (passed .if1 .left)) (some .if2 .left) _ (found .region-of .ensures) (named .if3 .left) _
+    (laid .layout-of .ensures) _ (needed .need-of .ensures) _ (asked .may-ask .ensures) _ (c .before .before .s .given .1))
+
+enum-told : tie.Need-enum-told
+enum-told c = search needs
 
 may-wait-requires : tie.Need-may-wait-requires
 may-wait-requires c κs = search needs
 
-enum-known-s : tie.Need-enum-known-s
-enum-known-s c = search needs
+enum-known-s-2 : tie.Need-enum-known-s-2
+enum-known-s-2 c = search needs
 
 reply-requires-5 : tie.Need-reply-requires-5
 reply-requires-5 c κs = search needs
@@ -73,24 +91,26 @@ same-length-5 c = search needs
 returns-5 : tie.Need-returns-5
 returns-5 c =
     let judged = c .before .before .before .before in
-    let roomy = judged .before in
-    let asked = roomy .before .before in
-    let laid = asked .before in
+    let fine = judged .before in
+    let asked = fine .before .before in
+    let needed = asked .before in
+    let laid = needed .before in
     let named = laid .before in
     let found = named .before .before in
     let some = found .before in
     let passed = some .before in
     performs-replied _ _ _ _ _ _ (c .reply5 .ensures)
-    (get-refused _ _ _ _ _ _ _ _ _ (passed .before .is-sound .ensures) (not-false _ (passed .if1 .left)) (some .if2 .left) _ (found .region-of .ensures) (named .if3 .left) _
-    (laid .layout-of .ensures) _ (asked .pages-asked .ensures) (search needs) _ (judged .may-wait .ensures) _ (c .before .before .s .given .1))
+    (get-refused _ _ _ _ _ _ _ _ _ _ (passed .before .is-sound .ensures) (not-false _ (passed .if1 .left)) (some .if2 .left) _ (found .region-of .ensures) (named .if3 .left) _
+    (laid .layout-of .ensures) _ (needed .need-of .ensures) _ (asked .may-ask .ensures) (fine .enum-told .given .1) _ (judged .may-wait .ensures) _
+    (c .before .before .s2 .given .1))
 
-enum-told : tie.Need-enum-told
-enum-told c = search needs
+enum-told-2 : tie.Need-enum-told-2
+enum-told-2 c = search needs
 
 take-or-wait-requires : tie.Need-take-or-wait-requires
 take-or-wait-requires c κs =
-    let asked = c .before .before .before .before .before .before in
-    let laid = asked .before in
+    let needed = c .before .before .before .before .before .before .before in
+    let laid = needed .before in
     let named = laid .before in
     let found = named .before .before in
     let some = found .before in
@@ -101,7 +121,7 @@ take-or-wait-requires c κs =
     let er = found .region-of .ensures in (
       live _ _ _ eb ok (args .id) _ er (named .if3 .left),
       laid .layout-of .ensures,
-      some-asked _ _ _ eb ok (args .id) _ er (named .if3 .left) (args .size) (some .if2 .left) _ (asked .pages-asked .ensures),
+      some-asked _ _ _ eb ok (args .id) _ er (named .if3 .left) (args .size) (some .if2 .left) _ (ap (λ (n : Need). n .pages) (needed .need-of .ensures)),
     )
 
 same-length-6 : tie.Need-same-length-6
@@ -112,16 +132,18 @@ returns-6 c =
     let taken = c .before .before in
     let good = taken .before .before in
     let judged = good .before .before in
-    let roomy = judged .before in
-    let asked = roomy .before .before in
-    let laid = asked .before in
+    let fine = judged .before in
+    let asked = fine .before .before in
+    let needed = asked .before in
+    let laid = needed .before in
     let named = laid .before in
     let found = named .before .before in
     let some = found .before in
     let passed = some .before in
     performs-by _ _ _ _
-    (get-placed _ _ _ _ _ _ _ _ _ (passed .before .is-sound .ensures) (not-false _ (passed .if1 .left)) (some .if2 .left) _ (found .region-of .ensures) (named .if3 .left) _
-    (laid .layout-of .ensures) _ (asked .pages-asked .ensures) (search needs) _ (judged .may-wait .ensures) (good .enum-told .given .1))
+    (get-placed _ _ _ _ _ _ _ _ _ _ (passed .before .is-sound .ensures) (not-false _ (passed .if1 .left)) (some .if2 .left) _ (found .region-of .ensures) (named .if3 .left) _
+    (laid .layout-of .ensures) _ (needed .need-of .ensures) _ (asked .may-ask .ensures) (fine .enum-told .given .1) _ (judged .may-wait .ensures)
+    (good .enum-told2 .given .1))
     (taken .take-or-wait .ensures)
 
 pub get-segment-spec : {M : Type 1} → statement M
@@ -140,17 +162,19 @@ get-segment-spec =
     same-length-3
     returns-3
     layout-of-requires
-    pages-asked-requires
-    cast-if4
+    need-of-requires
+    may-ask-requires
+    enum-known-s
     reply-requires-4
     same-length-4
     returns-4
+    enum-told
     may-wait-requires
-    enum-known-s
+    enum-known-s-2
     reply-requires-5
     same-length-5
     returns-5
-    enum-told
+    enum-told-2
     take-or-wait-requires
     same-length-6
     returns-6)

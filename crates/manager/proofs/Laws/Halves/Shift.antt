@@ -7,7 +7,10 @@ use native.Mathlib.Omega.{arith}
 use lib.Dec.{eqb, ltb}
 use borrow.Author.Tests.{ltb-true, ltb-false, lt-ltb, le-ltb}
 use Rattle.manager.specs.Map.{Segment, free, held}
-use Rattle.manager.specs.Halves.{lowOf, highOf, smallest, lowestFree, placeBlock, occupyBlock, releaseBlock}
+use Rattle.manager.specs.Kind.{onPlace, allocate}
+use Rattle.manager.specs.Halves.{lowOf, highOf, smallest, lowestFree, placeBlock, occupyBlock, releaseBlock, halves}
+use Rattle.manager.specs.declared.Need.{Need}
+use Rattle.manager.specs.declared.Place.{Place}
 use Rattle.manager.specs.declared.Place.the-variants.{At, Nowhere}
 use Rattle.manager.proofs.Laws.Shift.{shifted, shift-at}
 
@@ -36,6 +39,13 @@ module _ (by : ℕ) where
   occupy-shift p k at [] = refl
   occupy-shift p k at (held n ∷ s) = let e : by + at + n ≡ by + (at + n) = omega arith in rw (e, occupy-shift p k (at + n) s)
   occupy-shift p k at (free n ∷ s) = let e : by + at + n ≡ by + (at + n) = omega arith in rw (shift-at by at p, e, occupy-shift p k (at + n) s)
+
+  pub take-shift : (w : Need) (at : ℕ) (s : List Segment) → allocate halves w (by + at) s ≡ allocate halves w at s
+  take-shift w at s = rw (place-shift (w .pages) at s) (go (placeBlock (w .pages) at s))
+    where
+      go : (q : Place) → onPlace (shifted by q) (λ p. occupyBlock p (w .pages) (by + at) s) s ≡ onPlace q (λ p. occupyBlock p (w .pages) at s) s
+      go (At p) = occupy-shift p (w .pages) at s
+      go Nowhere = refl
 
   shift-under : (p q : ℕ) → ltb (by + p) (by + q) ≡ ltb p q
   shift-under p q = go (ltb p q) refl

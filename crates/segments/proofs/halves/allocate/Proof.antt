@@ -11,7 +11,7 @@ use Rattle.segments.proofs.halves.allocate.Tie as tie
 found :
     (c : tie.After-known-told)
     → Took
-    (c .before .before .before .before .before .before .before .before .before .args .k)
+    (c .before .before .before .before .before .before .before .before .before .args .n)
     (c .before .before .before .before .before .before .smallest .result)
     (c .before .i .given .0 .0)
     (c .before .before .before .before .before .before .before .before .before .args .map .now)
@@ -19,7 +19,7 @@ found c =
     let s = c .before .before .before .before .before .before .before .before .before in
     let b = c .before .before .before .before .before .before .smallest in
     let e = sym (c .before .before .before .lowest-free .ensures) ∙ c .before .i .given .1 in
-    took _ _ (s .pre .0 .0) _ _ (s .pre .1) (b .ensures) (c .before .before .before .before .before .if1 .left) e
+    took _ (s .args .n) (s .pre .0 .0) _ _ (s .pre .1) (b .ensures) (c .before .before .before .before .before .if1 .left) e
 
 smallest-requires : tie.Need-smallest-requires
 smallest-requires c κs = search (needs, sound-tiled)
@@ -30,7 +30,7 @@ same-length c = search needs
 returns : tie.Need-returns
 returns c =
     let s = c .before .before .before .before in
-    untaken _ _ (s .pre .0 .0) (none-large _ _ (s .pre .0 .0) _ (c .before .smallest .ensures) (c .if1 .taken))
+    untaken _ (s .args .n) (s .pre .0 .0) (none-large _ (s .args .n) (s .pre .0 .0) _ (c .before .smallest .ensures) (c .if1 .taken))
 
 lowest-free-requires : tie.Need-lowest-free-requires
 lowest-free-requires c κs = search (needs, sound-tiled)
@@ -76,7 +76,7 @@ returns-2 c =
     let s = c .before .before .before .before .before .before .before .before in
     let b = c .before .before .before .before .before .smallest in
     let e = sym (c .before .before .lowest-free .ensures) ∙ c .enum-told .given .1 in
-    untaken _ _ (s .pre .0 .0) (place-is _ _ (s .pre .0 .0) _ (b .ensures) (c .before .before .before .before .if1 .left) ∙ e)
+    untaken _ (s .args .n) (s .pre .0 .0) (place-is _ (s .args .n) (s .pre .0 .0) _ (b .ensures) (c .before .before .before .before .if1 .left) ∙ e)
 
 same-length-3 : tie.Need-same-length-3
 same-length-3 c = search needs

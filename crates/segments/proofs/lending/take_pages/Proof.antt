@@ -8,17 +8,12 @@ pub take-pages-spec : {M : Type 1} → statement M
 take-pages-spec =
     tie.close
     (tie.spec
-    (λ c. search needs)
     (λ c. search (needs, drawing))
     (λ c. search (needs, drawing))
-    (λ c. search needs)
-    (λ c. search needs)
+    (λ c. search (needs, drawing))
+    (λ c. search (needs, drawing))
+    (λ c. search (needs, drawing))
     (λ c. search (needs, drawing))
     (λ c κs. search (needs, drawing))
-    (λ c. search needs)
-    (λ c. search needs)
     (λ c. search (needs, drawing))
-    (λ c. search needs)
-    (λ c. search (needs, drawing))
-    (λ c. search needs)
     (λ c. search (needs, drawing)))

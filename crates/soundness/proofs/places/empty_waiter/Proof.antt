@@ -12,4 +12,5 @@ empty-waiter-spec =
     (λ c. search (needs, tests))
     (λ c. search (needs, tests))
     (λ c. search (needs, tests))
+    (λ c. search (needs, tests))
     (λ c. search (needs, tests)))

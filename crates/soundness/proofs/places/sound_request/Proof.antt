@@ -9,8 +9,7 @@ sound-request-spec =
     tie.close
     (tie.spec
     (λ c. search (needs, tests, numbers))
-    (λ c. search needs)
-    (λ c κs. search (needs, tests, numbers))
+    (λ c κs. search needs)
     (λ c. search (needs, tests, numbers))
     (λ c. search (needs, tests, numbers))
     (λ c. search (needs, tests, numbers)))

@@ -1,10 +1,10 @@
--- `hold` meets its contract: its stores are those of the definition, with a second one where pages are left. Assumes nothing.
+-- `cut` meets its contract: its stores are those of the definition, with a second one where pages are left. Assumes nothing.
 use native.Mathlib.Omega.{arith}
 use lib.ListN.{length-set}
-use Rattle.segments.proofs.Words.{holding-part, holding-whole}
+use Rattle.segments.proofs.Words.{cutting-part, cutting-whole}
 use borrow.Author.Needs.{needs}
-use Rattle.segments.proofs.pages.hold.Statement.{statement}
-use Rattle.segments.proofs.pages.hold.Tie as tie
+use Rattle.segments.proofs.pages.cut.Statement.{statement}
+use Rattle.segments.proofs.pages.cut.Tie as tie
 
 mul-map : tie.Need-mul-map
 mul-map c = search needs
@@ -37,16 +37,16 @@ same-length : tie.Need-same-length
 same-length c = search needs
 
 returns : tie.Need-returns
-returns c = search (needs, holding-part)
+returns c = search (needs, cutting-part)
 
 same-length-2 : tie.Need-same-length-2
 same-length-2 c = search needs
 
 returns-2 : tie.Need-returns-2
-returns-2 c = search (needs, holding-whole)
+returns-2 c = search (needs, cutting-whole)
 
-pub hold-spec : {M : Type 1} → statement M
-hold-spec =
+pub cut-spec : {M : Type 1} → statement M
+cut-spec =
     tie.close
     (tie.spec
     mul-map
