@@ -18,7 +18,7 @@ use Rattle.manager.proofs.Laws.Paged.{total-free}
 use Rattle.manager.proofs.Laws.Kinds.{keeps}
 use Rattle.manager.specs.Queue.{enqueue, leaving}
 use Rattle.manager.proofs.Laws.Appended.{by-case, some-append}
-use Rattle.manager.specs.Region.{kind, canHave, dead, pagesOf, firstPageOf, pageAt, addressOf, segments, withSegments, heldAt, pagesAsked, placed, taken}
+use Rattle.manager.specs.Region.{kind, canHave, dead, pagesOf, firstPageOf, pageAt, addressOf, segments, withSegments, heldAt, pagesAsked, needOf, placed, taken}
 use Rattle.manager.specs.Serve.{serve, fromServed}
 use Rattle.manager.specs.Sound.{sound, LaidPartition}
 use Rattle.manager.proofs.Laws.Sound.{sited}
@@ -27,6 +27,7 @@ use Rattle.manager.specs.declared.Manager.{Manager}
 use Rattle.manager.specs.declared.Region.{Region}
 use Rattle.manager.specs.declared.Waiter.{Waiter}
 use Rattle.manager.specs.declared.Order.{Order}
+use Rattle.manager.specs.declared.Need.{Need}
 use Rattle.manager.specs.declared.Place.{Place}
 use Rattle.manager.specs.declared.Place.the-variants.{At, Nowhere}
 use Rattle.manager.specs.declared.Wait.{Wait}
@@ -107,20 +108,22 @@ module _ (m : List ℕ) (d : Manager) where
   clock-tick = effects m d Tick _ _ refl refl (λ ok p. acts m d Tick ok _ refl refl (λ w. after-only (leaving (d .waiters)) m d ok w))
 
   -- a get: pages taken, or a refusal, or the task waits
-  module _ (id size task priority ticks : ℕ) where
+  module _ (id size alignment task priority ticks : ℕ) where
+    abbrev need : Need
+    need = needOf (regionOf d id) size alignment
+
     abbrev found : Wait → Place → Result
     found wait g =
         let r = regionOf d id in
-        onPlace g (λ p. done (taken m r (pagesAsked r size)) d (addressOf r p))
-        (unplaced m d wait (record { task = task; region = id; size = size; priority = priority; ticks = ticks }))
+        onPlace g (λ p. done (taken m r need) d (addressOf r p))
+        (unplaced m d wait (record { task = task; region = id; size = size; alignment = alignment; priority = priority; ticks = ticks }))
 
-    taken-only : sound m d ≡ true → dead (regionOf d id) ≡ false → Only (MapWord (regionOf d id)) m (taken m (regionOf d id) (pagesAsked (regionOf d id) size))
+    taken-only : sound m d ≡ true → dead (regionOf d id) ≡ false → Only (MapWord (regionOf d id)) m (taken m (regionOf d id) need)
     taken-only ok live =
         let r = regionOf d id in
-        let k = pagesAsked r size in
-        drawn-only m r (allocate (kind r) k (firstPageOf r) (segments m r)) (keeps (r .order) .total-take k (firstPageOf r) (segments m r) ∙ mapped id ok live .pages)
+        drawn-only m r (allocate (kind r) need (firstPageOf r) (segments m r)) (keeps (r .order) .total-take need (firstPageOf r) (segments m r) ∙ mapped id ok live .pages)
 
-    waits : (w : Waiter) → sound m d ≡ true → CallEffects m d (GetSegment id size Yes task priority ticks) (replied m (enqueue d w) Waiting 0)
+    waits : (w : Waiter) → sound m d ≡ true → CallEffects m d (GetSegment id size alignment Yes task priority ticks) (replied m (enqueue d w) Waiting 0)
     unfolding enqueue any
     waits w ok =
         record {
@@ -131,19 +134,19 @@ module _ (m : List ℕ) (d : Manager) where
           only = λ x. unchanged;
         }
 
-    get-acts : (wait : Wait) → sound m d ≡ true → dead (regionOf d id) ≡ false → (g : Place) → CallEffects m d (GetSegment id size wait task priority ticks) (found wait g)
+    get-acts : (wait : Wait) → sound m d ≡ true → dead (regionOf d id) ≡ false → (g : Place) → CallEffects m d (GetSegment id size alignment wait task priority ticks) (found wait g)
     unfolding any
-    get-acts No ok live (At p) = acts m d (GetSegment id size No task priority ticks) ok _ refl refl (λ w. taken-only ok live)
-    get-acts Yes ok live (At p) = acts m d (GetSegment id size Yes task priority ticks) ok _ refl refl (λ w. taken-only ok live)
-    get-acts No ok live Nowhere = refuses m d (GetSegment id size No task priority ticks) ok Unsatisfied 0 refl refl refl refl
+    get-acts No ok live (At p) = acts m d (GetSegment id size alignment No task priority ticks) ok _ refl refl (λ w. taken-only ok live)
+    get-acts Yes ok live (At p) = acts m d (GetSegment id size alignment Yes task priority ticks) ok _ refl refl (λ w. taken-only ok live)
+    get-acts No ok live Nowhere = refuses m d (GetSegment id size alignment No task priority ticks) ok Unsatisfied 0 refl refl refl refl
     get-acts Yes ok live Nowhere = waits _ ok
 
-    get-segment : (wait : Wait) → CallEffects m d (GetSegment id size wait task priority ticks) (getSegment m d id size wait task priority ticks)
+    get-segment : (wait : Wait) → CallEffects m d (GetSegment id size alignment wait task priority ticks) (getSegment m d id size alignment wait task priority ticks)
     unfolding getSegment every any Passed
     get-segment No =
-        effects m d (GetSegment id size No task priority ticks) _ _ refl refl (λ ok p. get-acts No ok (p .1 .0) (placed m (regionOf d id) (pagesAsked (regionOf d id) size)))
+        effects m d (GetSegment id size alignment No task priority ticks) _ _ refl refl (λ ok p. get-acts No ok (p .1 .0) (placed m (regionOf d id) need))
     get-segment Yes =
-        effects m d (GetSegment id size Yes task priority ticks) _ _ refl refl (λ ok p. get-acts Yes ok (p .1 .0) (placed m (regionOf d id) (pagesAsked (regionOf d id) size)))
+        effects m d (GetSegment id size alignment Yes task priority ticks) _ _ refl refl (λ ok p. get-acts Yes ok (p .1 .0) (placed m (regionOf d id) need))
 
   -- a return: the map with the segment freed, and then the queue served
   return-segment : (id address : ℕ) → CallEffects m d (ReturnSegment id address) (returnSegment m d id address)
@@ -286,7 +289,7 @@ unfolding perform
 calls m d (CreateRegion name start bytes page order) = create-region m d name start bytes page order
 calls m d (IdentRegion name) = ident-region m d name
 calls m d (DeleteRegion id) = delete-region m d id
-calls m d (GetSegment id size wait task priority ticks) = get-segment m d id size task priority ticks wait
+calls m d (GetSegment id size alignment wait task priority ticks) = get-segment m d id size alignment task priority ticks wait
 calls m d (ReturnSegment id address) = return-segment m d id address
 calls m d (SegmentSize id address) = segment-size m d id address
 calls m d (ResizeSegment id address size) = resize-segment m d id address size

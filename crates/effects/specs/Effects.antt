@@ -32,8 +32,8 @@ abbrev pub answersOf : Call → List ℕ
 answersOf (CreateRegion name start bytes page order) = 0 ∷ 3 ∷ 5 ∷ 8 ∷ 9 ∷ 25 ∷ []
 answersOf (IdentRegion name) = 0 ∷ 3 ∷ 25 ∷ []
 answersOf (DeleteRegion id) = 0 ∷ 4 ∷ 12 ∷ 25 ∷ []
-answersOf (GetSegment id size No task priority ticks) = 0 ∷ 4 ∷ 8 ∷ 13 ∷ 25 ∷ []
-answersOf (GetSegment id size Yes task priority ticks) = 0 ∷ 4 ∷ 8 ∷ 10 ∷ 14 ∷ 19 ∷ 25 ∷ 255 ∷ []
+answersOf (GetSegment id size alignment No task priority ticks) = 0 ∷ 4 ∷ 8 ∷ 11 ∷ 13 ∷ 25 ∷ []
+answersOf (GetSegment id size alignment Yes task priority ticks) = 0 ∷ 4 ∷ 8 ∷ 10 ∷ 11 ∷ 14 ∷ 19 ∷ 25 ∷ 255 ∷ []
 answersOf (ReturnSegment id address) = 0 ∷ 4 ∷ 9 ∷ 25 ∷ []
 answersOf (SegmentSize id address) = 0 ∷ 4 ∷ 9 ∷ 25 ∷ []
 answersOf (ResizeSegment id address size) = 0 ∷ 4 ∷ 8 ∷ 9 ∷ 13 ∷ 25 ∷ []
@@ -58,7 +58,7 @@ oldLength m d (ResizeSegment id address size) = heldAt m (regionOf d id) address
 oldLength m d (CreateRegion name start bytes page order) = 0
 oldLength m d (IdentRegion name) = 0
 oldLength m d (DeleteRegion id) = 0
-oldLength m d (GetSegment id size wait task priority ticks) = 0
+oldLength m d (GetSegment id size alignment wait task priority ticks) = 0
 oldLength m d (ReturnSegment id address) = 0
 oldLength m d (SegmentSize id address) = 0
 oldLength m d (RegionInformation id) = 0
@@ -81,7 +81,7 @@ LinkWord m p j = (a : ℕ) × (isFree m p a ≡ true) × ((j ≡ a / 4) ⊎ (j �
 -- object, and those of any live region are its own. The other calls have none
 abbrev pub Bookkeeping : List ℕ → Manager → Result → Call → ℕ → Type 0
 Bookkeeping m d s (CreateRegion name start bytes page order) j = MapWord (regionOf (s .manager) (s .value)) j
-Bookkeeping m d s (GetSegment id size wait task priority ticks) j = MapWord (regionOf d id) j
+Bookkeeping m d s (GetSegment id size alignment wait task priority ticks) j = MapWord (regionOf d id) j
 Bookkeeping m d s (ReturnSegment id address) j = MapWord (regionOf d id) j
 Bookkeeping m d s (ResizeSegment id address size) j = MapWord (regionOf d id) j
 Bookkeeping m d s (CreatePartition name start bytes size) j = LinkWord (s .memory) (partitionOf (s .manager) (s .value)) j

@@ -44,8 +44,9 @@ use Rattle.trace.proofs.Queue.Waiters.{waiter-places, waiters-for}
 use Rattle.trace.proofs.Partitions.Slot.{buffers-in, unlent-once}
 use Rattle.trace.proofs.Names.{regions-named, partitions-named}
 use Rattle.trace.proofs.Replies.Names.{name-claims, taken-claim}
-use Rattle.trace.proofs.Replies.Consequences.{unsatisfied-by, lowest-by, information-by, size-by, resize-by, resize-serves-by, return-by, buffer-unsatisfied, buffer-front}
+use Rattle.trace.proofs.Replies.Consequences.{unsatisfied-by, lowest-by, aligned-by, invalid-by, undefined-by, information-by, size-by, resize-by, resize-serves-by, return-by, buffer-unsatisfied, buffer-front}
 use Rattle.trace.proofs.Regions.Checks.{not-damaged}
+use Rattle.trace.proofs.Regions.Lending.{none-lent, queue-none}
 use Rattle.trace.proofs.Regions.Queue.{queue-asks}
 use Rattle.trace.proofs.Directives.{performs}
 use Rattle.trace.proofs.Directives.Tick.{ticked-by}
@@ -164,10 +165,17 @@ module _ (i : Implementation) (s : State) (v : Inv (s .memory) (s .manager) (s .
           counted =
               ap (λ (l : List ℕ). sum l + freePages (segments (s .memory) (regionFor e))) (ap loanPages (loans .placed) ∙ address-pages (unit e) (pageLoans e))
               ∙ lawful.counted (law e) (drawing (s .memory) e (at .is));
-          unsatisfied = λ size task priority ticks z h. rw (status-by (GetSegment id size No task priority ticks))
-              (unsatisfied-by n t id e q loans size task priority ticks z h);
-          lowest = λ size task priority ticks z h. rw (status-by (GetSegment id size No task priority ticks), value-by (GetSegment id size No task priority ticks))
-              (lowest-by n t id e q loans size task priority ticks z h);
+          unsatisfied = λ size alignment task priority ticks z a h. rw (status-by (GetSegment id size alignment No task priority ticks))
+              (unsatisfied-by n t id e q loans size alignment task priority ticks z a h);
+          lowest = λ size alignment task priority ticks z a h.
+              rw (status-by (GetSegment id size alignment No task priority ticks), value-by (GetSegment id size alignment No task priority ticks))
+              (lowest-by n t id e q loans size alignment task priority ticks z a h);
+          aligned = λ size alignment task priority ticks o h. rw (value-by (GetSegment id size alignment No task priority ticks))
+              (aligned-by n t id e q loans size alignment task priority ticks o (sym (status-by (GetSegment id size alignment No task priority ticks)) ∙ h));
+          invalid = λ size alignment task priority ticks z k. rw (status-by (GetSegment id size alignment No task priority ticks))
+              (invalid-by n t id e q loans size alignment task priority ticks z k);
+          undefined = λ size alignment task priority ticks z. rw (status-by (GetSegment id size alignment No task priority ticks))
+              (undefined-by n t id e q loans size alignment task priority ticks z);
           read = read-some;
           information = ap (λ (r : Reply). r .information) (replies (RegionInformation id) ∙ information-by n t id e q loans);
           size = λ a k x. ap (λ (r : Reply). r .value) (replies (SegmentSize id a) ∙ size-by n t id e q loans a k x);
@@ -175,6 +183,7 @@ module _ (i : Implementation) (s : State) (v : Inv (s .memory) (s .manager) (s .
           resize-serves = λ a k size x z. rw (status-by (ResizeSegment id a size), notices-by (ResizeSegment id a size))
               (resize-serves-by n t id e q loans a k x size z asking);
           queue = waiters-for (s .manager) t (v .waits) id e q;
+          idle = λ l. queue-none t id e (none-lent (s .manager) t (v .waits) id e q l);
           return = λ a k x. rw (status-by (ReturnSegment id a), notices-by (ReturnSegment id a)) (return-by n t id e q loans a k x asking);
         }
 

@@ -30,7 +30,7 @@ module _ (m : List ℕ) (d : Manager) (t : Receipts) (v : Inv m d t) where
   performs (call.CreateRegion name start bytes page order) = CreateRegion.right m d t v name start bytes page order
   performs (call.IdentRegion name) = IdentRegion.right m d t v name
   performs (call.DeleteRegion id) = DeleteRegion.right m d t v id
-  performs (call.GetSegment id size wait task priority ticks) = GetSegment.right m d t v id size wait task priority ticks
+  performs (call.GetSegment id size alignment wait task priority ticks) = GetSegment.right m d t v id size alignment wait task priority ticks
   performs (call.ReturnSegment id a) = ReturnSegment.right m d t v id a
   performs (call.SegmentSize id a) = SegmentSize.right m d t v id a
   performs (call.ResizeSegment id a size) = ResizeSegment.right m d t v id a size

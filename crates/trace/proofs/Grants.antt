@@ -18,9 +18,9 @@ pub grants-are : (e : RegionEntry) (l : List Loan) (ws : List Wait) → Regular 
 unfolding grantsIn In
 grants-are e l [] g h = all
 grants-are e l (w ∷ ws) g h =
-    go (places (withLoans l e) g (w .size) (h w (inl refl))) (λ k r. grants-are e k ws r (λ x i. h x (inr i)))
+    go (places (withLoans l e) g (w .size) (w .alignment) (h w (inl refl))) (λ k r. grants-are e k ws r (λ x i. h x (inr i)))
   where
-    go : {q : Place} → Places (withLoans l e) (w .size) q → ((k : List Loan) → Regular (withLoans k e) → Grants e k ws (grantsIn e k ws))
+    go : {q : Place} → Places (withLoans l e) (w .size) (w .alignment) q → ((k : List Loan) → Regular (withLoans k e) → Grants e k ws (grantsIn e k ws))
         → Grants e l (w ∷ ws) (onPlace q (λ p. grantTo w (addressIn e p) ∷ grantsIn e (enter (addressIn e p) (pagesOver e (w .size)) l) ws) [])
     go (takes p c r) next = grant p c (next _ r)
     go (full f) next = stop f

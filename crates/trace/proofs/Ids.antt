@@ -2,7 +2,7 @@
 -- (`Used`). Every call keeps that so, and no create answers such an id; and one that was deleted is of a generation that its slot has left
 -- (`Left`), so that the receipts never have it again. Assumes nothing.
 use mathlib.Core.Path.{_≡_, refl, sym, ap, _∙_}
-use mathlib.Core.Bool.{Bool, true, false, cond, _&&_, true≢false}
+use mathlib.Core.Bool.{Bool, true, cond, _&&_, true≢false}
 use mathlib.Core.List.{List, [], _∷_}
 use mathlib.Core.Option.{Option, none, some}
 use Prim.Native.Nat.{ℕ, zero, suc, _+_, _≤_, _<_}
@@ -10,10 +10,9 @@ use native.Mathlib.Omega.{arith}
 use borrow.Author.Tests.{leb-false, ne-eqb}
 use lib.Dec.{ltb}
 use Rattle.manager.specs.Record.{slots, generations, slotOf, generationOf}
-use Rattle.manager.specs.Result.{Check}
 use Rattle.manager.specs.Lists.{every}
 use Rattle.manager.proofs.Laws.Appended.{by-case}
-use Rattle.manager.proofs.Laws.Lists.{and-first, and-second}
+use Rattle.manager.proofs.Laws.Lists.{and-first}
 use Rattle.manager.proofs.Laws.Ids.{slot-id, generation-id}
 use Rattle.manager.proofs.Laws.Result.{Passed}
 use Rattle.manager.specs.declared.Notice.{Notice}
@@ -22,10 +21,10 @@ use Rattle.manager.specs.declared.Status.the-variants.{Successful, InvalidId}
 use Rattle.manager.specs.declared.Call.{Call}
 use Rattle.manager.specs.declared.Call.the-variants.{CreateRegion, IdentRegion, DeleteRegion, GetSegment, ReturnSegment, SegmentSize, ResizeSegment, RegionInformation, CreatePartition, IdentPartition, DeletePartition, GetBuffer, ReturnBuffer, Tick}
 use Rattle.trace.specs.Receipts.{Receipts, Reply, update, deleted, mapOption, onRegion, lend, withWaits, without, waitOf, noticed, allNoticed, isSuccess, isWaiting}
-use Rattle.trace.specs.Replies.{no, yes, decided, living, vacant, firstSlot, idNow, newSlot, regionNow, partitionNow, newRegionSlot, newPartitionSlot, byReceipts, entered, waited, note}
+use Rattle.trace.specs.Replies.{yes, decided, living, vacant, firstSlot, idNow, newSlot, regionNow, partitionNow, newRegionSlot, newPartitionSlot, byReceipts, entered, waited, note}
 use Rattle.trace.specs.Trace.{Object, region, partition}
 use Rattle.trace.specs.Ids.{Names, by-delete, by-get, by-return, by-size, by-resize, by-information, by-delete-partition, by-get-buffer, by-return-buffer}
-use Rattle.trace.proofs.Regions.Checks.{refuses, refusal}
+use Rattle.trace.proofs.Replies.Checks.{passed}
 use Rattle.trace.proofs.Loans.Tests.{by-eqb}
 use Rattle.trace.proofs.Slots.{deleted-here}
 use Rattle.trace.proofs.Regions.Picture.{update-here, update-other}
@@ -115,7 +114,7 @@ module _ (t : Receipts) (now : Generations t) where
   entered-follows : (c : Call) (v : ℕ) → Follows t (entered c v t)
   entered-follows (CreateRegion name start bytes page order) v = record { regions = moves-made (t .regions) (t .regionDeletes) v _; partitions = ps t }
   entered-follows (DeleteRegion id) v = record { regions = moves-struck (t .regions) (t .regionDeletes) id (now .region id); partitions = ps t }
-  entered-follows (GetSegment id size wait task priority ticks) v = record { regions = moves-changed (t .regions) (t .regionDeletes) id _; partitions = ps t }
+  entered-follows (GetSegment id size alignment wait task priority ticks) v = record { regions = moves-changed (t .regions) (t .regionDeletes) id _; partitions = ps t }
   entered-follows (ReturnSegment id address) v = record { regions = moves-changed (t .regions) (t .regionDeletes) id _; partitions = ps t }
   entered-follows (ResizeSegment id address size) v = record { regions = moves-changed (t .regions) (t .regionDeletes) id _; partitions = ps t }
   entered-follows (CreatePartition name start bytes size) v = record { regions = rs t; partitions = moves-made (t .partitions) (t .partitionDeletes) v _ }
@@ -129,7 +128,7 @@ module _ (t : Receipts) (now : Generations t) where
   entered-follows (IdentPartition name) v = follows-same t
 
   waited-follows : (c : Call) → Follows t (waited c t)
-  waited-follows (GetSegment id size wait task priority ticks) = record { regions = rs t; partitions = ps t }
+  waited-follows (GetSegment id size alignment wait task priority ticks) = record { regions = rs t; partitions = ps t }
   waited-follows (CreateRegion name start bytes page order) = follows-same t
   waited-follows (IdentRegion name) = follows-same t
   waited-follows (DeleteRegion id) = follows-same t
@@ -191,28 +190,19 @@ module _ {A : Type 0} (f : ℕ → Option A) (n : ℕ → ℕ) (h : newSlot f n 
       go (there e q) = true≢false (sym empty ∙ ap vacant q)
       go (left l) = omega (arith, generation-id i (n i) h, ap n (slot-id i (n i) h))
 
--- a reply of success is that behind the checks
-decided-passes : (cs : List Check) (r : Reply) → every refuses cs ≡ true → decided cs r .status ≡ Successful → Passed cs × (decided cs r ≡ r)
-unfolding decided Passed every
-decided-passes [] r h e = (tt, refl)
-decided-passes (c ∷ cs) r h e =
-    by-case (c .fails) (λ b. cond b (no (c .status)) (decided cs r) .status ≡ Successful → c .fails ≡ b → ((c .fails ≡ false) × Passed cs) × (cond b (no (c .status)) (decided cs r) ≡ r))
-    (λ f g k. absurd (true≢false (sym (ap isSuccess g) ∙ refusal (c .status) (and-first (refuses c) _ h) .no-success)))
-    (λ f g k. let x = decided-passes cs r (and-second (refuses c) _ h) g in ((f, x .0), x .1)) e refl
-
 module _ (k : ℕ) (t : Receipts) where
   pub region-unused : (name start bytes page : ℕ) (order : Order) → let a = byReceipts k t (CreateRegion name start bytes page order) in
       a .status ≡ Successful → ¬ Used (t .regions) (t .regionDeletes) (a .value)
   unfolding byReceipts every Passed
   region-unused name start bytes page order e =
-      let x = decided-passes _ (yes (regionNow t (newRegionSlot t))) refl e in
+      let x = passed _ (yes (regionNow t (newRegionSlot t))) refl e in
       rw (x .1) (new-unused (t .regions) (t .regionDeletes) (leb-false slots (newRegionSlot t) (x .0 .1 .1 .1 .1 .1 .1 .1 .1 .0)))
 
   pub partition-unused : (name start bytes size : ℕ) → let a = byReceipts k t (CreatePartition name start bytes size) in
       a .status ≡ Successful → ¬ Used (t .partitions) (t .partitionDeletes) (a .value)
   unfolding byReceipts every Passed
   partition-unused name start bytes size e =
-      let x = decided-passes _ (yes (partitionNow t (newPartitionSlot t))) refl e in
+      let x = passed _ (yes (partitionNow t (newPartitionSlot t))) refl e in
       rw (x .1) (new-unused (t .partitions) (t .partitionDeletes) (leb-false slots (newPartitionSlot t) (x .0 .1 .1 .1 .1 .1 .1 .1 .1 .1 .1 .1 .0)))
 
 -- ---- an object by its id, of either kind
@@ -288,7 +278,7 @@ module _ (k : ℕ) (t : Receipts) where
   pub answers-missing : (c : Call) (o : Object) → Names c o → Missing t o → byReceipts k t c .status ≡ InvalidId
   unfolding byReceipts decided
   answers-missing c o (by-delete id) h = rw h
-  answers-missing c o (by-get id size wait task priority ticks n) h = rw (ne-eqb size 0 n, h)
+  answers-missing c o (by-get id size alignment wait task priority ticks n) h = rw (ne-eqb size 0 n, h)
   answers-missing c o (by-return id address) h = rw h
   answers-missing c o (by-size id address) h = rw h
   answers-missing c o (by-resize id address size n) h = rw (ne-eqb size 0 n, h)

@@ -18,7 +18,7 @@ use Rattle.manager.specs.declared.Region.{Region}
 use Rattle.manager.specs.declared.Partition.{Partition}
 use Rattle.manager.specs.Lists.{pairwise, In, Distinct}
 use Rattle.trace.specs.Loans.{Loan}
-use Rattle.trace.specs.Receipts.{Receipts, RegionEntry, PartitionEntry, Wait, unit, pagesIn, spanIn, pageLoans, reading, Servable}
+use Rattle.trace.specs.Receipts.{Receipts, RegionEntry, PartitionEntry, Wait, unit, pagesIn, spanIn, pageLoans, reading, Alignment, Servable}
 use Rattle.trace.specs.Queue.{inLine}
 use Rattle.trace.specs.Replies.{regionNow}
 use Rattle.trace.specs.Claims.{waitersOf}
@@ -105,7 +105,8 @@ pub record WaitIs (t : Receipts) (w : Wait) : Type 0 where
   pub task-some : 1 ≤ w .task
   pub task-most : w .task ≤ tasks
   pub size-some : 1 ≤ w .size
-  pub size-most : Servable entry (w .size)
+  pub alignment : Alignment entry (w .alignment)
+  pub size-most : Servable entry (w .size) (w .alignment)
   pub priority-some : 1 ≤ w .priority
   pub priority-most : w .priority ≤ 255
   pub time : (w .ticks ≡ 0) ⊎ (w .since < w .ticks)

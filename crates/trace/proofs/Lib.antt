@@ -8,6 +8,7 @@ pub mod Slots
 pub mod Names
 pub mod Areas
 pub mod Segments
+pub mod Servable
 pub mod Map
 pub mod Grants
 pub mod Notices

@@ -4,7 +4,7 @@
 use mathlib.Core.Path.{_≡_, refl, sym, ap, _∙_}
 use mathlib.Core.Bool.{Bool, true, false}
 use mathlib.Core.List.{List, [], _∷_}
-use Prim.Native.Nat.{ℕ, _+_, _*_, _%_, _≤_, _<_}
+use Prim.Native.Nat.{ℕ, _+_, _*_, _/_, _%_, _≤_, _<_}
 use native.Mathlib.Nat.{div-add-mod'}
 use native.Mathlib.Omega.{arith}
 use lib.ListN.{length}
@@ -21,7 +21,7 @@ use Rattle.manager.specs.declared.Region.{Region}
 use Rattle.manager.specs.declared.Place.{Place}
 use Rattle.manager.specs.declared.Place.the-variants.{At, Nowhere}
 use Rattle.trace.specs.Loans.{Loan, loan, Lent, enter, amend, inPages, pagesAt, loanPages}
-use Rattle.trace.specs.Receipts.{RegionEntry, unit, reading, pagesOver, pagesIn, spanIn, addressIn, pageIn, byPage, pageLoans, withLoans}
+use Rattle.trace.specs.Receipts.{RegionEntry, unit, reading, pagesOver, needIn, servableIn, pagesIn, spanIn, addressIn, pageIn, byPage, pageLoans, withLoans}
 use Rattle.trace.specs.Replies.{lendsAny, placeIn, canHaveIn}
 use Rattle.trace.specs.Claims.{Full, Takes}
 use Rattle.trace.proofs.Invariant.{OnlyMap, regionFor, atAddresses, RegionIs}
@@ -31,22 +31,29 @@ use Rattle.trace.proofs.Loans.Says.{found-lent}
 use Rattle.trace.proofs.Loans.Lawful as lawful
 use Rattle.trace.proofs.Loans.Lawful.{Drawing, Gets, given, nothing}
 use Rattle.trace.proofs.Segments.{law, Regular, regular, loan-holds, entered-at, amended-at, back-to-pages, regular-with}
+use Rattle.trace.proofs.Servable as servable
 
 -- a step: the memory m′ is the picture of the entry with the loans l, and only words of the map differ from m
 pub record Steps (m : List ℕ) (e : RegionEntry) (m′ : List ℕ) (l : List Loan) : Type 0 where
   pub is : RegionIs m′ (withLoans l e)
   pub only : OnlyMap e m m′
 
--- what a get of so many bytes comes to: its place, lent, or nothing where the region is full
-pub data Gives (m : List ℕ) (e : RegionEntry) (size : ℕ) : Place → List ℕ → Type 0 where
-  gave : {m′ : List ℕ} (p : ℕ) → Takes e (e .loans) size p → Steps m e m′ (enter (addressIn e p) (pagesOver e size) (e .loans)) → Gives m e size (At p) m′
-  none : {m′ : List ℕ} → Full e (e .loans) size → Gives m e size Nowhere m′
+-- what a get of so many bytes on an alignment comes to: its place, lent, or nothing where the region is full
+pub data Gives (m : List ℕ) (e : RegionEntry) (size alignment : ℕ) : Place → List ℕ → Type 0 where
+  gave : {m′ : List ℕ} (p : ℕ) → Takes e (e .loans) size alignment p → Steps m e m′ (enter (addressIn e p) (pagesOver e size) (e .loans))
+      → Gives m e size alignment (At p) m′
+  none : {m′ : List ℕ} → Full e (e .loans) size alignment → Gives m e size alignment Nowhere m′
 
 pub record Shows (m : List ℕ) (e : RegionEntry) : Type 0 where
-  -- get
+  -- sizes and alignments
   pub asked : (size : ℕ) → region.pagesAsked (regionFor e) size ≡ pagesOver e size
-  pub placed : (size : ℕ) → 0 < size → region.placed m (regionFor e) (pagesOver e size) ≡ placeIn e (e .loans) size
-  pub got : (size : ℕ) → 0 < size → Gives m e size (region.placed m (regionFor e) (pagesOver e size)) (region.taken m (regionFor e) (pagesOver e size))
+  pub knows : (alignment : ℕ) → kind (regionFor e) .aligns alignment ≡ reading e .aligns alignment
+  -- get: what it needs, whether that could be served with nothing held, where it is placed, and the memory then
+  pub needs : (size alignment : ℕ) → region.needOf (regionFor e) size alignment ≡ needIn e size alignment
+  pub servable : (size alignment : ℕ) → 0 < size → region.servable (regionFor e) (needIn e size alignment) ≡ servableIn e size alignment
+  pub placed : (size alignment : ℕ) → 0 < size → region.placed m (regionFor e) (needIn e size alignment) ≡ placeIn e (e .loans) size alignment
+  pub got : (size alignment : ℕ) → 0 < size
+      → Gives m e size alignment (region.placed m (regionFor e) (needIn e size alignment)) (region.taken m (regionFor e) (needIn e size alignment))
   -- the segment at an address, and what it can have
   pub held : (a : ℕ) → region.heldAt m (regionFor e) a ≡ pagesAt a (e .loans)
   pub can-have : (a size : ℕ) → region.canHave m (regionFor e) a (pagesOver e size) ≡ canHaveIn e a size
@@ -117,10 +124,10 @@ module _ (m : List ℕ) (e : RegionEntry) (is : RegionIs m e) where
 
   -- ---- get
 
-  gets : (size : ℕ) → 0 < size → Gives m e size (region.placed m r (pagesOver e size)) (region.taken m r (pagesOver e size))
-  gets size z = go (law e .got drawing (pagesFor size (unit e)) (pages-some size (unit e) (loans .some-unit) z))
+  gets : (size alignment : ℕ) → 0 < size → Gives m e size alignment (region.placed m r (needIn e size alignment)) (region.taken m r (needIn e size alignment))
+  gets size alignment z = go (law e .got drawing (pagesFor size (unit e)) (alignment / unit e) (pages-some size (unit e) (loans .some-unit) z))
     where
-      go : {q : Place} {s : List Segment} → Gets (reading e) (spanIn e) (pageLoans e) (pagesOver e size) q s → Gives m e size q (withSegments m r s)
+      go : {q : Place} {s : List Segment} → Gets (reading e) (spanIn e) (pageLoans e) (needIn e size alignment) q s → Gives m e size alignment q (withSegments m r s)
       go (given p d c) = gave p c (step _ _ _ (entered-at e loans p (pagesOver e size)) d)
       go (nothing d h) = none h
 
@@ -129,7 +136,10 @@ module _ (m : List ℕ) (e : RegionEntry) (is : RegionIs m e) where
   shows =
       record {
         asked = λ size. law e .rounded (pagesFor size (unit e));
-        placed = λ size z. law e .placed drawing (pagesFor size (unit e)) (pages-some size (unit e) (loans .some-unit) z);
+        knows = law e .aligns;
+        needs = λ size alignment. servable.needs e alignment size;
+        servable = servable.servable-same e (loans .some-unit) (is .some-page);
+        placed = λ size alignment z. law e .placed drawing (pagesFor size (unit e)) (alignment / unit e) (pages-some size (unit e) (loans .some-unit) z);
         got = gets;
         held = held-at;
         can-have = λ a size. law e .can-have drawing (pageIn e a) (pagesOver e size);

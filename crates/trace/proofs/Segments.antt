@@ -3,7 +3,7 @@ use mathlib.Core.Path.{_≡_, sym, ap, _∙_, subst}
 use mathlib.Core.Bool.{true}
 use mathlib.Core.List.{List, []}
 use mathlib.Core.Logic.{_↔_}
-use Prim.Native.Nat.{ℕ, _<_}
+use Prim.Native.Nat.{ℕ, _/_, _≤_, _<_}
 use native.Mathlib.Nat.{mul-div-left}
 use Rattle.arith.specs.Round.{pagesFor}
 use Rattle.arith.proofs.Laws.Round.{pages-some}
@@ -12,7 +12,7 @@ use Rattle.manager.specs.declared.Place.{Place}
 use Rattle.manager.specs.declared.Place.the-variants.{At, Nowhere}
 use Rattle.trace.specs.Loans.{Loan, Lent, enter, amend, inPages, pagesAt}
 use Rattle.trace.specs.Reading.{NoPlace}
-use Rattle.trace.specs.Receipts.{RegionEntry, unit, reading, pagesOver, Servable, spanIn, addressIn, pageIn, byPage, pageLoans, withLoans}
+use Rattle.trace.specs.Receipts.{RegionEntry, unit, reading, pagesOver, needIn, Servable, pagesIn, spanIn, addressIn, pageIn, byPage, pageLoans, withLoans}
 use Rattle.trace.specs.Replies.{placeIn, canHaveIn}
 use Rattle.trace.specs.Claims.{Full, Takes}
 use Rattle.trace.proofs.Invariant.{atAddresses, RegionIs}
@@ -27,24 +27,32 @@ use Rattle.trace.proofs.Loans.Kinds.{lawful-of}
 abbrev pub law : (e : RegionEntry) → Lawful (kindOf (e .order)) (reading e)
 law e = lawful-of (e .order)
 
--- WHAT THE RECEIPTS SAY OF A LIVE REGION'S LOANS, whatever the memory: each is at the address of a page, and they fit
+-- WHAT THE RECEIPTS SAY OF A LIVE REGION'S LOANS, whatever the memory: it has pages, each loan is at the address of one, and they fit
 pub record Regular (e : RegionEntry) : Type 0 where
   pub some-unit : 0 < unit e
+  pub some-page : 1 ≤ pagesIn e
   pub placed : e .loans ≡ atAddresses e (pageLoans e)
   pub fits : reading e .Fits (spanIn e) (pageLoans e)
 
 pub regular : (m : List ℕ) (e : RegionEntry) → RegionIs m e → Regular e
-regular m e is = record { some-unit = region-unit m e is; placed = is .placed; fits = is .fits }
+regular m e is = record { some-unit = region-unit m e is; some-page = is .some-page; placed = is .placed; fits = is .fits }
 
 -- a loan at an address, by its page
 pub record Holds (e : RegionEntry) (a k : ℕ) : Type 0 where
   pub at : a ≡ addressIn e (pageIn e a)
   pub lent : Lent (pageLoans e) (pageIn e a) k
 
--- where a get of so many bytes is placed: at the place that it takes, where it can be lent; or the region is full
-pub data Places (e : RegionEntry) (size : ℕ) : Place → Type 0 where
-  takes : (p : ℕ) → Takes e (e .loans) size p → Regular (withLoans (enter (addressIn e p) (pagesOver e size) (e .loans)) e) → Places e size (At p)
-  full : Full e (e .loans) size → Places e size Nowhere
+-- where a get of so many bytes on an alignment is placed: at the place that it takes, where it can be lent; or the region is full
+pub data Places (e : RegionEntry) (size alignment : ℕ) : Place → Type 0 where
+  takes : (p : ℕ) → Takes e (e .loans) size alignment p → Regular (withLoans (enter (addressIn e p) (pagesOver e size) (e .loans)) e)
+      → Places e size alignment (At p)
+  full : Full e (e .loans) size alignment → Places e size alignment Nowhere
+
+-- A REGION THAT IS FULL FOR A GET THAT IT COULD SERVE WITH NOTHING LENT HAS A LOAN
+pub full-lends : (e : RegionEntry) (size alignment : ℕ) → Servable e size alignment → Full e (e .loans) size alignment → ¬ (e .loans ≡ [])
+unfolding inPages
+full-lends e size alignment s f n =
+    subst (λ (l : List Loan). NoPlace (reading e) (spanIn e) (byPage e l) (needIn e size alignment)) n f (s .0) (s .1)
 
 module _ (e : RegionEntry) (g : Regular e) where
   -- A LOAN AT AN ADDRESS IS ONE AT ITS PAGE
@@ -72,6 +80,7 @@ module _ (e : RegionEntry) (g : Regular e) where
     regular-with o =
         record {
           some-unit = g .some-unit;
+          some-page = g .some-page;
           placed = at ∙ ap (atAddresses e) (sym back-to-pages);
           fits = subst (reading e .Fits (spanIn e)) (sym back-to-pages) o;
         }
@@ -84,24 +93,13 @@ module _ (e : RegionEntry) (g : Regular e) where
   pages-lent a k x =
       found-pages a (e .loans) k x (λ n y. lawful.lent-one (law e) (g .fits) (pageIn e a) n k (loan-holds a n y .lent) (loan-holds a k x .lent))
 
-  -- who asks for a byte is given a page
-  pub asks-some : (size : ℕ) → 0 < size → 0 < pagesOver e size
-  asks-some size z = law e .rounded-some (pagesFor size (unit e)) (pages-some size (unit e) (g .some-unit) z)
-
   -- where a get is placed
-  pub places : (size : ℕ) → 0 < size → Places e size (placeIn e (e .loans) size)
-  places size z = go (place-found (law e) (g .fits) (pagesFor size (unit e)) (pages-some size (unit e) (g .some-unit) z))
+  pub places : (size alignment : ℕ) → 0 < size → Places e size alignment (placeIn e (e .loans) size alignment)
+  places size alignment z = go (place-found (law e) (g .fits) (pagesFor size (unit e)) (alignment / unit e) (pages-some size (unit e) (g .some-unit) z))
     where
-      go : {q : Place} → Found (reading e) (spanIn e) (pageLoans e) (pagesOver e size) q → Places e size q
+      go : {q : Place} → Found (reading e) (spanIn e) (pageLoans e) (needIn e size alignment) q → Places e size alignment q
       go (found p c o) = takes p c (regular-with _ _ (entered-at p (pagesOver e size)) o)
       go (nowhere h) = full h
-
-  -- a region that is full for a get that asks for no more than its pages has a loan
-  pub full-lends : (size : ℕ) → 0 < size → Servable e size → Full e (e .loans) size → ¬ (e .loans ≡ [])
-  unfolding inPages
-  full-lends size z h f n =
-      let s = lawful.new-serves (law e) (spanIn e) (pagesFor size (unit e)) (pages-some size (unit e) (g .some-unit) z) h in
-      subst (λ (l : List Loan). NoPlace (reading e) (spanIn e) (byPage e l) (pagesOver e size)) n f (s .0) (s .1)
 
   -- what a loan can have
   pub room-lent : (a k size : ℕ) → Lent (e .loans) a k

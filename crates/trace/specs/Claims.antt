@@ -3,11 +3,11 @@
 -- what it comes to in the words of the demand. Of the record only the queue and the kept front of a chain are looked at; of the memory
 -- the maps, the chains and what clients hold. Assumes nothing.
 use mathlib.Core.Path.{_≡_}
-use mathlib.Core.Bool.{cond, not, _&&_}
+use mathlib.Core.Bool.{true, false, cond, not, _&&_}
 use mathlib.Core.List.{List, [], _∷_, _++_}
 use mathlib.Core.Logic.{_⊎_, _↔_}
 use mathlib.Core.Option.{Option, none, some}
-use Prim.Native.Nat.{ℕ, zero, suc, _+_, _-_, _*_, _/_, _≤_, _<_}
+use Prim.Native.Nat.{ℕ, zero, suc, _+_, _-_, _*_, _/_, _%_, _≤_, _<_}
 use lib.ListN.{length, getD, take, drop}
 use lib.Seq.{sets}
 use lib.Dec.{eqb}
@@ -21,11 +21,11 @@ use Rattle.manager.specs.declared.Call.{Call}
 use Rattle.manager.specs.declared.Call.the-variants.{CreateRegion, IdentRegion, GetSegment, ReturnSegment, SegmentSize, ResizeSegment, RegionInformation, CreatePartition, IdentPartition, GetBuffer, Tick}
 use Rattle.manager.specs.declared.Order.{Order}
 use Rattle.manager.specs.declared.Wait.the-variants.{No}
-use Rattle.manager.specs.declared.Status.the-variants.{Successful, InvalidName, Unsatisfied, InternalError}
+use Rattle.manager.specs.declared.Status.the-variants.{Successful, InvalidName, InvalidSize, NotDefined, Unsatisfied, InternalError}
 use Rattle.manager.specs.Lists.{In, Distinct}
 use Rattle.trace.specs.Loans.{Loan, Lent, loanPages, sum, enter, amend}
 use Rattle.trace.specs.Reading.{NoPlace}
-use Rattle.trace.specs.Receipts.{reading, pagesOver, Servable, Receipts, RegionEntry, PartitionEntry, Wait, replyOf, isSuccess, unit, layoutIn, pagesIn, spanIn, addressIn, pageIn, byPage, pageLoans, buffersIn, buffersFrom, allNoticed}
+use Rattle.trace.specs.Receipts.{reading, pagesOver, needIn, Alignment, Servable, Receipts, RegionEntry, PartitionEntry, Wait, replyOf, isSuccess, unit, layoutIn, pagesIn, spanIn, addressIn, pageIn, byPage, pageLoans, buffersIn, buffersFrom, allNoticed}
 use Rattle.trace.specs.Queue.{queueOf}
 use Rattle.trace.specs.Replies.{regionNow, informationIn, grantTo, timeouts, ticked, byReceipts, writeByReceipts, readByReceipts}
 use Rattle.trace.specs.Trace.{Ask, call, read, write, State, answer, answerWrite, after, Object, Loaned, Owned, Runs, start}
@@ -36,7 +36,7 @@ abbrev pub left : Wait → ℕ
 left w = w .ticks - w .since
 
 abbrev pub waiterOf : Wait → Waiter
-waiterOf w = record { task = w .task; region = w .id; size = w .size; priority = w .priority; ticks = left w }
+waiterOf w = record { task = w .task; region = w .id; size = w .size; alignment = w .alignment; priority = w .priority; ticks = left w }
 
 unfoldable pub waitersOf : List Wait → List Waiter
 waitersOf [] = []
@@ -47,18 +47,19 @@ unfoldable pub waitersFor : ℕ → List Waiter → List Waiter
 waitersFor id [] = []
 waitersFor id (w ∷ ws) = cond (not (eqb (w .task) 0) && eqb (w .region) id) (w ∷ waitersFor id ws) (waitersFor id ws)
 
--- OF A REGION WITH THE LOANS l, at addresses: no place would serve a get of so many bytes; page p is the one that it takes
-abbrev pub Full : RegionEntry → List Loan → ℕ → Type 0
-Full e l size = NoPlace (reading e) (spanIn e) (byPage e l) (pagesOver e size)
+-- OF A REGION WITH THE LOANS l, at addresses: no place would serve a get of so many bytes on an alignment; page p is the one that it takes
+abbrev pub Full : RegionEntry → List Loan → ℕ → ℕ → Type 0
+Full e l size alignment = NoPlace (reading e) (spanIn e) (byPage e l) (needIn e size alignment)
 
-abbrev pub Takes : RegionEntry → List Loan → ℕ → ℕ → Type 0
-Takes e l size p = reading e .Chosen (spanIn e) (byPage e l) (pagesOver e size) p
+abbrev pub Takes : RegionEntry → List Loan → ℕ → ℕ → ℕ → Type 0
+Takes e l size alignment p = reading e .Chosen (spanIn e) (byPage e l) (needIn e size alignment) p
 
--- GRANTS BY THE RECEIPTS: to the first waits in order, each at the place that a get takes at that moment, up to the first wait that has none
+-- GRANTS BY THE RECEIPTS: to the first waits in order, each at the place that a get of its size on its alignment takes at that moment, up to
+-- the first wait that has none
 pub data Grants (e : RegionEntry) : List Loan → List Wait → List Notice → Type 0 where
   all : {l : List Loan} → Grants e l [] []
-  stop : {l : List Loan} {w : Wait} {ws : List Wait} → Full e l (w .size) → Grants e l (w ∷ ws) []
-  grant : {l : List Loan} {w : Wait} {ws : List Wait} {ns : List Notice} (p : ℕ) → Takes e l (w .size) p
+  stop : {l : List Loan} {w : Wait} {ws : List Wait} → Full e l (w .size) (w .alignment) → Grants e l (w ∷ ws) []
+  grant : {l : List Loan} {w : Wait} {ws : List Wait} {ns : List Notice} (p : ℕ) → Takes e l (w .size) (w .alignment) p
       → Grants e (enter (addressIn e p) (pagesOver e (w .size)) l) ws ns
       → Grants e l (w ∷ ws) (grantTo w (addressIn e p) ∷ ns)
 
@@ -107,17 +108,29 @@ pub record RegionClaims (i : Implementation) (s : State) (id : ℕ) (e : RegionE
   -- pages held by the receipts and pages free in the map make up the region
   pub counted : sum (loanPages (e .loans)) + freePages (decode (mapIn (s .memory) e)) ≡ pagesIn e
   -- "A get is valid if its checks ahead of 13, the one for 25 aside, refuse nothing": one that won't wait is answered 13 exactly when no
-  -- place would serve it: no run of adjoining unheld pages is long enough; by halves, no "run of the rounded size that starts at a multiple of
-  -- its own length, counted from the first page"
-  pub unsatisfied : (size task priority ticks : ℕ) → 0 < size → Servable e size
-      → (answer i s (GetSegment id size No task priority ticks) .status ≡ Unsatisfied) ↔ Full e (e .loans) size
-  -- else the address is that of the place that its region's kind chooses: of pages, the lowest that fits; by halves, the lowest of the smallest free
-  -- blocks of the drawn map that are large enough
-  pub lowest : (size task priority ticks : ℕ) → 0 < size → Servable e size
-      → (answer i s (GetSegment id size No task priority ticks) .status ≡ Unsatisfied)
-      ⊎ ((p : ℕ) × Takes e (e .loans) size p
-      × (answer i s (GetSegment id size No task priority ticks) .status ≡ Successful)
-      × (answer i s (GetSegment id size No task priority ticks) .value ≡ addressIn e p))
+  -- place would serve it: no run of adjoining unheld pages "that starts on the alignment" is long enough; by halves, no "run of the rounded size
+  -- that starts at a multiple of its own length, counted from the first page"
+  pub unsatisfied : (size alignment task priority ticks : ℕ) → 0 < size → Alignment e alignment → Servable e size alignment
+      → (answer i s (GetSegment id size alignment No task priority ticks) .status ≡ Unsatisfied) ↔ Full e (e .loans) size alignment
+  -- else the address is that of the place that its region's kind chooses: of pages, the lowest that fits and is on the alignment; by halves, the
+  -- lowest of the smallest free blocks of the drawn map that are large enough
+  pub lowest : (size alignment task priority ticks : ℕ) → 0 < size → Alignment e alignment → Servable e size alignment
+      → (answer i s (GetSegment id size alignment No task priority ticks) .status ≡ Unsatisfied)
+      ⊎ ((p : ℕ) × Takes e (e .loans) size alignment p
+      × (answer i s (GetSegment id size alignment No task priority ticks) .status ≡ Successful)
+      × (answer i s (GetSegment id size alignment No task priority ticks) .value ≡ addressIn e p))
+  -- "segments that start on a multiple of a wider size": it is the segment's address that is a multiple of the alignment
+  pub aligned : (size alignment task priority ticks : ℕ) → 0 < alignment
+      → answer i s (GetSegment id size alignment No task priority ticks) .status ≡ Successful
+      → answer i s (GetSegment id size alignment No task priority ticks) .value % alignment ≡ 0
+  -- "0 for the page size, else a multiple of the page size up to 4,096, else 8" and "a request that an empty region couldn't serve is 8": of an
+  -- alignment that its kind knows, 8 is the answer exactly where one of the two is so; served with nothing lent, not with the loans there are now
+  pub invalid : (size alignment task priority ticks : ℕ) → 0 < size → reading e .aligns alignment ≡ true
+      → (answer i s (GetSegment id size alignment No task priority ticks) .status ≡ InvalidSize)
+      ↔ (¬ (Alignment e alignment × Servable e size alignment))
+  -- "Regions by halves refuse an alignment other than 0 with 11": it is the answer exactly where the kind does not know the alignment
+  pub undefined : (size alignment task priority ticks : ℕ) → 0 < size
+      → (answer i s (GetSegment id size alignment No task priority ticks) .status ≡ NotDefined) ↔ (reading e .aligns alignment ≡ false)
   -- "a read is empty only where the receipts have no loan at that address in that region"
   pub read : (a k : ℕ) → Lent (e .loans) a k → ¬ (i .read (s .memory) (s .manager) id a ≡ [])
   -- information answers the count, largest and total bytes over the free segments of the drawn map and over the loans ("sums over held and
@@ -138,6 +151,8 @@ pub record RegionClaims (i : Implementation) (s : State) (id : ℕ) (e : RegionE
       × Grants e (amend a (pagesOver e size) (e .loans)) (queueOf id e (s .receipts)) (answer i s (ResizeSegment id a size) .notices))
   -- the queue is the waits of the receipts, in order
   pub queue : waitersFor id (s .manager .waiters) ≡ waitersOf (queueOf id e (s .receipts))
+  -- "a region with nothing held still has no waiter"
+  pub idle : e .loans ≡ [] → queueOf id e (s .receipts) ≡ []
   -- after a return the grants go to the first waits in that order, each to the place that a get takes at that moment, and stop exactly
   -- at the first that has none ("the stop rule")
   pub return : (a k : ℕ) → Lent (e .loans) a k

@@ -1,5 +1,5 @@
 -- Rules 5.5 to 5.10 and 14.6, by the receipts: a region by halves. Its map is drawn by halves, a get takes the smallest free block that is large
--- enough, and a loan keeps its size. Assumes nothing.
+-- enough and knows no alignment but 0, and a loan keeps its size. Assumes nothing.
 use mathlib.Core.Path.{_≡_}
 use mathlib.Core.Bool.{true, cond}
 use mathlib.Core.List.{List, [], _∷_, _++_}
@@ -53,17 +53,19 @@ pub record Smallest (a : Span) (l : List Loan) (k p : ℕ) : Type 0 where
   pub smallest : (q m : ℕ) → FreeAt (drawnMap a l) (a .first) q m → k ≤ m → pages ≤ m
   pub lowest : (q : ℕ) → FreeAt (drawnMap a l) (a .first) q pages → p ≤ q
 
--- WHAT THE RECEIPTS SAY OF A REGION BY HALVES: a size is rounded up to a power of two, and a loan can have the size that it has
+-- WHAT THE RECEIPTS SAY OF A REGION BY HALVES: a size is rounded up to a power of two, no alignment but 0 is known, and a loan can have the
+-- size that it has
 abbrev pub halves : Reading
 halves =
     record {
       rounded = powerUp;
-      place = λ a l k. placeBlock k (a .first) (drawnMap a l);
+      aligns = λ alignment. eqb alignment 0;
+      place = λ a l n. placeBlock (n .pages) (a .first) (drawnMap a l);
       canHave = λ a l p k. eqb k (pagesAt p l);
       drawn = drawnMap;
       runs = λ a l. freeSizes (drawnMap a l);
       Fits = InBlocks;
-      Starts = Aligned;
-      Chosen = Smallest;
+      Starts = λ a n p. Aligned a (n .pages) p;
+      Chosen = λ a l n p. Smallest a l (n .pages) p;
       Room = λ a l p m k. k ≡ m;
     }

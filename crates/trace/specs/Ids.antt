@@ -25,7 +25,8 @@ pub data Deletes (i : Implementation) (s : State) : Call → Object → Type 0 w
 -- a call names the object by its id, and no check ahead of the one for 4 refuses it: a get or a resize of no bytes is answered 8
 pub data Names : Call → Object → Type 0 where
   by-delete : (id : ℕ) → Names (DeleteRegion id) (region id)
-  by-get : (id size : ℕ) (wait : Wait) (task priority ticks : ℕ) → ¬ (size ≡ 0) → Names (GetSegment id size wait task priority ticks) (region id)
+  by-get : (id size alignment : ℕ) (wait : Wait) (task priority ticks : ℕ) → ¬ (size ≡ 0)
+      → Names (GetSegment id size alignment wait task priority ticks) (region id)
   by-return : (id address : ℕ) → Names (ReturnSegment id address) (region id)
   by-size : (id address : ℕ) → Names (SegmentSize id address) (region id)
   by-resize : (id address size : ℕ) → ¬ (size ≡ 0) → Names (ResizeSegment id address size) (region id)

@@ -1,23 +1,26 @@
 -- Rules 14.1 and 14.2, the receipts: written from the arguments and answers of the calls, never from the record or the memory. What each
 -- call enters is in `Replies`, beside what it is answered. Assumes nothing.
-use mathlib.Core.Bool.{Bool, cond}
+use mathlib.Core.Path.{_≡_}
+use mathlib.Core.Bool.{Bool, true, cond}
 use mathlib.Core.List.{List, [], _∷_}
 use mathlib.Core.Option.{Option, none, some}
-use Prim.Native.Nat.{ℕ, zero, suc, _+_, _*_, _/_, _≤_}
-use lib.Dec.{eqb, leb}
+use Prim.Native.Nat.{ℕ, zero, suc, _+_, _*_, _/_, _%_, _≤_}
+use lib.Dec.{eqb}
 use Rattle.arith.specs.Round.{roundUp, pagesFor}
 use Rattle.arith.specs.Layout.{layoutOf}
 use Rattle.arith.specs.declared.Layout.{Layout}
 use Rattle.manager.specs.Status.{numberOf}
 use Rattle.manager.specs.Record.{slotOf}
+use Rattle.manager.specs.Kind.{isPlace}
 use Rattle.manager.specs.Region.{kindOf}
 use Rattle.manager.specs.Result.{Result}
+use Rattle.manager.specs.declared.Need.{Need}
 use Rattle.manager.specs.declared.Notice.{Notice}
 use Rattle.manager.specs.declared.Information.{Information}
 use Rattle.manager.specs.declared.Order.{Order}
 use Rattle.manager.specs.declared.Status.{Status}
 use Rattle.trace.specs.Loans.{Loan, Span, enter, amend, inPages}
-use Rattle.trace.specs.Reading.{Reading}
+use Rattle.trace.specs.Reading.{Reading, Serves}
 use Rattle.trace.specs.Kinds.{readingOf}
 
 -- an object under its id: what was asked for, and its loans, each at the address that was answered, in the order of the addresses
@@ -43,6 +46,7 @@ pub record Wait : Type 0 where
   pub task : ℕ
   pub id : ℕ
   pub size : ℕ
+  pub alignment : ℕ
   pub priority : ℕ
   pub ticks : ℕ
   pub since : ℕ
@@ -87,12 +91,22 @@ reading e = readingOf (e .order)
 abbrev pub pagesOver : RegionEntry → ℕ → ℕ
 pagesOver e size = reading e .rounded (pagesFor size (unit e))
 
--- whether it could serve so many bytes with nothing held, as a test and as a claim says it
-abbrev pub servableIn : RegionEntry → ℕ → Bool
-servableIn e size = leb (pagesOver e size) (pagesIn e)
+-- what a get of so many bytes on an alignment needs: so many pages, from every so many-th page on
+abbrev pub needIn : RegionEntry → ℕ → ℕ → Need
+needIn e size alignment = record { pages = pagesOver e size; every = alignment / unit e }
 
-abbrev pub Servable : RegionEntry → ℕ → Type 0
-Servable e size = pagesOver e size ≤ pagesIn e
+-- an alignment that it allows: one that its kind knows, "0 for the page size, else a multiple of the page size up to 4,096"
+pub record Alignment (e : RegionEntry) (alignment : ℕ) : Type 0 where
+  pub known : reading e .aligns alignment ≡ true
+  pub multiple : alignment % unit e ≡ 0
+  pub most : alignment ≤ 4096
+
+-- whether it could serve a get with nothing lent, as a test and as a claim says it
+abbrev pub servableIn : RegionEntry → ℕ → ℕ → Bool
+servableIn e size alignment = isPlace (reading e .place (spanIn e) [] (needIn e size alignment))
+
+abbrev pub Servable : RegionEntry → ℕ → ℕ → Type 0
+Servable e size alignment = (p : ℕ) × Serves (reading e) (spanIn e) [] (needIn e size alignment) p
 
 -- loans at addresses of a region, by their pages; and all its loans so
 abbrev pub byPage : RegionEntry → List Loan → List Loan
@@ -220,7 +234,8 @@ withWaits w t =
     }
 
 abbrev pub later : Wait → Wait
-later w = record { task = w .task; id = w .id; size = w .size; priority = w .priority; ticks = w .ticks; since = w .since + 1 }
+later w =
+    record { task = w .task; id = w .id; size = w .size; alignment = w .alignment; priority = w .priority; ticks = w .ticks; since = w .since + 1 }
 
 unfoldable pub allLater : List Wait → List Wait
 allLater [] = []
@@ -233,7 +248,7 @@ without task [] = []
 without task (w ∷ ws) = cond (eqb (w .task) task) ws (w ∷ without task ws)
 
 abbrev pub noWait : Wait
-noWait = record { task = 0; id = 0; size = 0; priority = 0; ticks = 0; since = 0 }
+noWait = record { task = 0; id = 0; size = 0; alignment = 0; priority = 0; ticks = 0; since = 0 }
 
 unfoldable pub waitOf : ℕ → List Wait → Wait
 waitOf task [] = noWait

@@ -12,7 +12,7 @@ use Rattle.manager.specs.Record.{slots, tasks, generations, idOf, noInformation
 use Rattle.manager.specs.Lists as lists
 use Rattle.manager.specs.Result.{Check, check}
 use Rattle.manager.specs.Kind.{onPlace}
-use Rattle.manager.specs.Region.{kindOf}
+use Rattle.manager.specs.Region.{kindOf, isAlignment}
 use Rattle.manager.specs.declared.Notice.{Notice}
 use Rattle.manager.specs.declared.Information.{Information}
 use Rattle.manager.specs.declared.Call.{Call}
@@ -21,9 +21,9 @@ use Rattle.manager.specs.declared.Place.{Place}
 use Rattle.manager.specs.declared.Wait as asking
 use Rattle.manager.specs.declared.Wait.the-variants.{No, Yes}
 use Rattle.manager.specs.declared.Status.{Status}
-use Rattle.manager.specs.declared.Status.the-variants.{Successful, InvalidName, InvalidId, TooMany, InvalidSize, InvalidAddress, InvalidNumber, ResourceInUse, Unsatisfied, IncorrectState, InvalidPriority, Waiting}
+use Rattle.manager.specs.declared.Status.the-variants.{Successful, InvalidName, InvalidId, TooMany, InvalidSize, InvalidAddress, InvalidNumber, NotDefined, ResourceInUse, Unsatisfied, IncorrectState, InvalidPriority, Waiting}
 use Rattle.trace.specs.Loans.{Loan, pagesAt, loanPages, most, sum, enter, amend}
-use Rattle.trace.specs.Receipts.{Receipts, RegionEntry, Wait, Reply, unit, reading, pagesOver, servableIn, spanIn, addressIn, pageIn, byPage, pageLoans}
+use Rattle.trace.specs.Receipts.{Receipts, RegionEntry, Wait, Reply, unit, reading, pagesOver, needIn, servableIn, spanIn, addressIn, pageIn, byPage, pageLoans}
 use Rattle.trace.specs.Receipts.{onRegion, onPartition, lend, giveBack, refit, update, deleted, withRegions, withPartitions, withRegionDeletes, withPartitionDeletes, withBuffers, strike, buffersFrom, withWaits, allLater, allNoticed, isSuccess, isWaiting}
 use Rattle.trace.specs.Queue.{queueOf, inLine, dueIn}
 
@@ -135,21 +135,23 @@ abbrev pub lendsAny : List Loan → Bool
 lendsAny [] = false
 lendsAny (x ∷ l) = true
 
--- where a get of so many bytes is placed, with the loans l at addresses; and whether the loan at an address can have so many
-abbrev pub placeIn : RegionEntry → List Loan → ℕ → Place
-placeIn e l size = reading e .place (spanIn e) (byPage e l) (pagesOver e size)
+-- where a get of so many bytes on an alignment is placed, with the loans l at addresses; and whether the loan at an address can have so many
+abbrev pub placeIn : RegionEntry → List Loan → ℕ → ℕ → Place
+placeIn e l size alignment = reading e .place (spanIn e) (byPage e l) (needIn e size alignment)
 
 abbrev pub canHaveIn : RegionEntry → ℕ → ℕ → Bool
 canHaveIn e a size = reading e .canHave (spanIn e) (pageLoans e) (pageIn e a) (pagesOver e size)
 
--- GRANTS: to the first waits in order, each where a get of its size is placed at that moment, up to the first wait that has no place
+-- GRANTS: to the first waits in order, each where a get of its size on its alignment is placed at that moment, up to the first wait that has
+-- no place
 abbrev pub grantTo : Wait → ℕ → Notice
 grantTo w a = record { task = w .task; status = Successful; address = a }
 
 unfoldable pub grantsIn : RegionEntry → List Loan → List Wait → List Notice
 grantsIn e l [] = []
 grantsIn e l (w ∷ ws) =
-    onPlace (placeIn e l (w .size)) (λ p. grantTo w (addressIn e p) ∷ grantsIn e (enter (addressIn e p) (pagesOver e (w .size)) l) ws) []
+    onPlace (placeIn e l (w .size) (w .alignment))
+    (λ p. grantTo w (addressIn e p) ∷ grantsIn e (enter (addressIn e p) (pagesOver e (w .size)) l) ws) []
 
 -- of the region under an id, with its loans as they are; nobody waits for one that is not there
 abbrev grantsOf : Option RegionEntry → ℕ → Receipts → List Notice
@@ -238,12 +240,17 @@ byReceipts n t (IdentRegion name) =
 -- delete: 4, 12
 byReceipts n t (DeleteRegion id) =
     living (t .regions id) (λ e. decided (check (lendsAny (e .loans)) ResourceInUse ∷ []) (yes 0))
--- get: size 0 (8), 4, size too large 8; if waiting is allowed 10, 19, 14; then the search
-byReceipts n t (GetSegment id size wait task priority ticks) =
+-- get: size 0 (8), 4, an alignment that its kind does not know 11, any other that is not allowed 8, what it could not serve with nothing lent
+-- 8; if waiting is allowed 10, 19, 14; then the search
+byReceipts n t (GetSegment id size alignment wait task priority ticks) =
     decided (check (eqb size 0) InvalidSize ∷ [])
     (living (t .regions id) (λ e.
-    decided (check (not (servableIn e size)) InvalidSize ∷ waitingChecks t wait task priority)
-    (onPlace (placeIn e (e .loans) size) (λ p. yes (addressIn e p)) (noPlace wait))))
+    decided
+    (check (not (reading e .aligns alignment)) NotDefined
+    ∷ check (not (isAlignment (unit e) alignment)) InvalidSize
+    ∷ check (not (servableIn e size alignment)) InvalidSize
+    ∷ waitingChecks t wait task priority)
+    (onPlace (placeIn e (e .loans) size alignment) (λ p. yes (addressIn e p)) (noPlace wait))))
 -- return: 4, 9; then the queue is served
 byReceipts n t (ReturnSegment id a) =
     living (t .regions id) (λ e.
@@ -318,7 +325,7 @@ abbrev pub entered : Call → ℕ → Receipts → Receipts
 entered (CreateRegion name start bytes page order) v t =
     withRegions (update v (some (record { name = name; start = start; bytes = bytes; page = page; order = order; loans = [] })) (t .regions)) t
 entered (DeleteRegion id) v t = withRegionDeletes (deleted id (t .regionDeletes)) (withRegions (update id none (t .regions)) t)
-entered (GetSegment id size wait task priority ticks) v t = onRegion id (lend v size) t
+entered (GetSegment id size alignment wait task priority ticks) v t = onRegion id (lend v size) t
 entered (ReturnSegment id address) v t = onRegion id (giveBack address) t
 entered (ResizeSegment id address size) v t = onRegion id (refit address size) t
 entered (CreatePartition name start bytes size) v t =
@@ -335,8 +342,9 @@ entered (IdentPartition name) v t = t
 
 -- "A get answered 255 enters a wait, behind the earlier ones"
 abbrev pub waited : Call → Receipts → Receipts
-waited (GetSegment id size wait task priority ticks) t =
-    withWaits (t .waits ++ (record { task = task; id = id; size = size; priority = priority; ticks = ticks; since = 0 } ∷ [])) t
+waited (GetSegment id size alignment wait task priority ticks) t =
+    withWaits
+    (t .waits ++ (record { task = task; id = id; size = size; alignment = alignment; priority = priority; ticks = ticks; since = 0 } ∷ [])) t
 waited (CreateRegion name start bytes page order) t = t
 waited (IdentRegion name) t = t
 waited (DeleteRegion id) t = t

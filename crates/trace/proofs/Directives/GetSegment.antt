@@ -4,37 +4,41 @@ use mathlib.Core.Bool.{true, false, not}
 use mathlib.Core.List.{List, [], _∷_, _++_}
 use mathlib.Core.Option.{some}
 use mathlib.Core.Logic.{inl, inr}
-use Prim.Native.Nat.{ℕ, _≤_, _<_, _-_}
+use Prim.Native.Nat.{ℕ, _<_, _-_}
 use native.Mathlib.Omega.{arith}
 use lib.ListN.{length, replicate}
 use lib.Dec.{eqb}
-use borrow.Author.Tests.{eqb-false, ltb-false, leb-true, not-false, eqb-true, eq-eqb}
+use borrow.Author.Tests.{eqb-false, ltb-false, not-false, eqb-true, eq-eqb}
 use Rattle.manager.specs.Record.{tasks, regionOf, noWaiter}
 use Rattle.manager.specs.Result.{Result, done, replied, check}
 use Rattle.manager.specs.Lists.{every, In}
-use Rattle.manager.specs.Region.{pagesOf, addressOf, pagesAsked, placed, taken, servable}
+use Rattle.manager.specs.Region.{kind, addressOf, isAlignment, needOf, placed, taken, servable}
 use Rattle.manager.specs.Queue.{enqueue, waiting}
 use Rattle.manager.specs.Kind.{onPlace}
 use Rattle.manager.specs.Regions.{waitChecks, unplaced, getSegment}
 use Rattle.manager.specs.declared.Manager.{Manager}
 use Rattle.manager.specs.declared.Region.{Region}
 use Rattle.manager.specs.declared.Waiter.{Waiter}
+use Rattle.manager.specs.declared.Need.{Need}
 use Rattle.manager.specs.declared.Place.{Place}
 use Rattle.manager.specs.declared.Wait as asking
 use Rattle.manager.specs.declared.Wait.the-variants.{No, Yes}
 use Rattle.manager.specs.declared.Call.{Call}
 use Rattle.manager.specs.declared.Call.the-variants.{GetSegment}
-use Rattle.manager.specs.declared.Status.the-variants.{Successful, Unsatisfied, Waiting, InvalidSize}
+use Rattle.manager.specs.declared.Status.the-variants.{Successful, NotDefined, Unsatisfied, Waiting, InvalidSize}
 use Rattle.manager.proofs.Laws.Result.{Passed}
 use Rattle.manager.proofs.Laws.Appended.{by-case}
 use Rattle.manager.specs.declared.Place.the-variants.{At, Nowhere}
 use Rattle.trace.specs.Loans.{Loan, enter}
-use Rattle.trace.specs.Receipts.{Receipts, RegionEntry, Wait, addressIn, lend, pagesOver, Servable, Reply, replyOf}
+use Rattle.trace.specs.Receipts.{Receipts, RegionEntry, Wait, addressIn, lend, pagesOver, needIn, Alignment, Servable, Reply, replyOf}
 use Rattle.trace.specs.Claims.{Full, waitersOf}
 use Rattle.trace.specs.Queue.{inLine}
 use Rattle.trace.specs.Replies.{yes, noPlace, waitsAlready, waitingChecks, byReceipts}
 use Rattle.trace.proofs.Invariant.{regionFor, RegionIs, WaitIs, Inv, with-waits, tasksOf}
-use Rattle.trace.proofs.Segments.{regular, full-lends}
+use Rattle.trace.proofs.Frame.{region-unit}
+use Rattle.trace.proofs.Segments.{full-lends}
+use Rattle.trace.proofs.Servable.{allows, record-serves}
+use Rattle.trace.proofs.Clients.{RegionAt}
 use Rattle.trace.proofs.Map.{Steps, Gives, gave, none, shows}
 use Rattle.trace.proofs.Queue.Enter.{new-waiter, new-time}
 use Rattle.trace.proofs.Regions.Checks.{refuses, note-done, note-waiting, Kept, kept-map, kept-words, kept-refused, kept-checked, Right}
@@ -51,27 +55,27 @@ use Rattle.trace.proofs.Queue.Waiters.{task-waits, in-waiters}
 use Rattle.trace.proofs.Replies.Checks.{Agree, rest, same, test, acted, agree, answers, at-region}
 
 -- what a get does in a region, once its checks pass
-abbrev getting : List ℕ → Manager → asking.Wait → Waiter → Region → ℕ → Result
-getting m d wait w r k = onPlace (placed m r k) (λ p. done (taken m r k) d (addressOf r p)) (unplaced m d wait w)
+abbrev getting : List ℕ → Manager → asking.Wait → Waiter → Region → Need → Result
+getting m d wait w r n = onPlace (placed m r n) (λ p. done (taken m r n) d (addressOf r p)) (unplaced m d wait w)
 
 wait-refuses : (d : Manager) (wait : asking.Wait) (task priority : ℕ) → every refuses (waitChecks d wait task priority) ≡ true
 unfolding every
 wait-refuses d No task priority = refl
 wait-refuses d Yes task priority = refl
 
-module _ (m : List ℕ) (d : Manager) (t : Receipts) (v : Inv m d t) (id size : ℕ) (wait : asking.Wait) (task priority ticks : ℕ) where
+module _ (m : List ℕ) (d : Manager) (t : Receipts) (v : Inv m d t) (id size alignment : ℕ) (wait : asking.Wait) (task priority ticks : ℕ) where
   abbrev asks : Call
-  asks = GetSegment id size wait task priority ticks
+  asks = GetSegment id size alignment wait task priority ticks
 
   abbrev waiter : Waiter
-  waiter = record { task = task; region = id; size = size; priority = priority; ticks = ticks }
+  waiter = record { task = task; region = id; size = size; alignment = alignment; priority = priority; ticks = ticks }
 
-  module _ (e : RegionEntry) (q : t .regions id ≡ some e) (is : RegionIs m e) (z : 0 < size) (h : Servable e size) where
+  module _ (e : RegionEntry) (q : t .regions id ≡ some e) (is : RegionIs m e) (z : 0 < size) (a : Alignment e alignment) (h : Servable e size alignment) where
     -- the wait that is entered
     abbrev entry : Wait
-    entry = record { task = task; id = id; size = size; priority = priority; ticks = ticks; since = 0 }
+    entry = record { task = task; id = id; size = size; alignment = alignment; priority = priority; ticks = ticks; since = 0 }
 
-    module _ (full : Full e (e .loans) size) where
+    module _ (full : Full e (e .loans) size alignment) where
       entry-is : Passed (waitChecks d Yes task priority) → WaitIs t entry
       unfolding Passed
       entry-is c =
@@ -79,10 +83,11 @@ module _ (m : List ℕ) (d : Manager) (t : Receipts) (v : Inv m d t) (id size : 
             entry = e;
             found = q;
             id-now = region-now m d t (v .picture) id e q .is;
-            lending = full-lends e (regular m e is) size z h full;
+            lending = full-lends e size alignment h full;
             task-some = let y = eqb-false task 0 (c .0) in omega arith;
             task-most = ltb-false tasks task (c .1 .0);
             size-some = z;
+            alignment = a;
             size-most = h;
             priority-some = let y = eqb-false priority 0 (c .1 .1 .0) in omega arith;
             priority-most = ltb-false 255 priority (c .1 .1 .1 .0);
@@ -96,7 +101,7 @@ module _ (m : List ℕ) (d : Manager) (t : Receipts) (v : Inv m d t) (id size : 
           kept-words asks m t (replied m (enqueue d waiter) Waiting 0) refl refl
           (rw (note-waiting asks m (enqueue d waiter) t 0 Waiting refl refl)
           (with-waits (any-queue m d t (enqueue d waiter .waiters) (t .waits ++ (entry ∷ [])) (v .picture))
-          (rw (new-waiter task id size priority ticks) at (wait-inv m d t v entry (entry-is c) (c .1 .1 .1 .1 .0)))))
+          (rw (new-waiter task id size alignment priority ticks) at (wait-inv m d t v entry (entry-is c) (c .1 .1 .1 .1 .0)))))
 
       unplaced-kept : (w : asking.Wait) → Passed (waitChecks d w task priority) → Kept asks m t (unplaced m d w waiter)
       unplaced-kept No c = kept-refused asks m d t v Unsatisfied 0 refl
@@ -113,25 +118,37 @@ module _ (m : List ℕ) (d : Manager) (t : Receipts) (v : Inv m d t) (id size : 
         (with-waits (stepped m d t (v .picture) id e q m′ (lent p) s)
         (waits-lent t id e q (lent p) d (v .waits) (λ x i r. enter-some (addressIn e p) (pagesOver e size) (e .loans)))))
 
-    act-kept : Passed (waitChecks d wait task priority) → Kept asks m t (getting m d wait waiter (regionFor e) (pagesOver e size))
-    act-kept c = go (shows m e is .got size z)
+    act-kept : Passed (waitChecks d wait task priority) → Kept asks m t (getting m d wait waiter (regionFor e) (needIn e size alignment))
+    act-kept c = go (shows m e is .got size alignment z)
       where
-        go : {g : Place} {m′ : List ℕ} → Gives m e size g m′
+        go : {g : Place} {m′ : List ℕ} → Gives m e size alignment g m′
             → Kept asks m t (onPlace g (λ p. done m′ d (addressOf (regionFor e) p)) (unplaced m d wait waiter))
         go (gave {m′} p low s) = placed-kept p m′ s
         go (none f) = unplaced-kept f wait c
 
+  -- its own checks let pass what the region allows, and what it could serve with nothing lent
+  module _ (r : Region) (e : RegionEntry) (at : RegionAt m r e) where
+    allows-get : not (kind r .aligns alignment) ≡ false → not (isAlignment (r .page) alignment) ≡ false → Alignment e alignment
+    allows-get k h =
+        allows e alignment (sym (shows m e (at .is) .knows alignment) ∙ rw (at .region) at (not-false (kind r .aligns alignment) k))
+        (rw (at .region) at (not-false (isAlignment (r .page) alignment) h))
+
+    serves-get : 0 < size → not (servable r (needOf r size alignment)) ≡ false → Servable e size alignment
+    serves-get z h =
+        record-serves e (region-unit m e (at .is)) (at .is .some-page) size alignment z
+        (subst (λ (x : Region). servable x (needOf x size alignment) ≡ true) (at .region) (not-false (servable r (needOf r size alignment)) h))
+
   -- A GET KEEPS THE PICTURE
-  keeps-get : Kept asks m t (getSegment m d id size wait task priority ticks)
+  keeps-get : Kept asks m t (getSegment m d id size alignment wait task priority ticks)
   unfolding getSegment every Passed
   keeps-get =
       kept-checked asks m d t v _ _ (sound-inv m d t v) (wait-refuses d wait task priority)
       (λ c. let s = slot-entry m (regionOf d id) (t .regions id) (v .picture .regions id) (c .1 .0) in
-      let a = shows m (s .0) (s .2 .is) .asked size in
-      subst (λ (r : Region). Kept asks m t (getting m d wait waiter r (pagesAsked r size))) (sym (s .2 .region))
-      (rw a (act-kept (s .0) (s .1) (s .2 .is) (let y = eqb-false size 0 (c .0) in omega arith)
-      (rw a at (subst (λ (r : Region). pagesAsked r size ≤ pagesOf r) (s .2 .region) (leb-true (pagesAsked (regionOf d id) size) (pagesOf (regionOf d id)) (not-false _ (c .1 .1 .0)))))
-      (c .1 .1 .1))))
+      let z : 0 < size = let y = eqb-false size 0 (c .0) in omega arith in
+      subst (λ (r : Region). Kept asks m t (getting m d wait waiter r (needOf r size alignment))) (sym (s .2 .region))
+      (rw (shows m (s .0) (s .2 .is) .needs size alignment, shows m (s .0) (s .2 .is) .asked size)
+      (act-kept (s .0) (s .1) (s .2 .is) z (allows-get (regionOf d id) (s .0) (s .2) (c .1 .1 .0) (c .1 .1 .1 .0))
+      (serves-get (regionOf d id) (s .0) (s .2) z (c .1 .1 .1 .1 .0)) (c .1 .1 .1 .1 .1))))
 
 -- ---- a task waits
 
@@ -180,20 +197,32 @@ module _ (m : List ℕ) (d : Manager) (t : Receipts) (v : Inv m d t) where
   got-by e No x m′ Nowhere = refl
   got-by e Yes x m′ Nowhere = refl
 
-  replies-get : (id size : ℕ) (wait : asking.Wait) (task priority ticks : ℕ)
-      → replyOf (getSegment m d id size wait task priority ticks) ≡ byReceipts (length m) t (GetSegment id size wait task priority ticks)
+  replies-get : (id size alignment : ℕ) (wait : asking.Wait) (task priority ticks : ℕ)
+      → replyOf (getSegment m d id size alignment wait task priority ticks) ≡ byReceipts (length m) t (GetSegment id size alignment wait task priority ticks)
   unfolding getSegment byReceipts
-  replies-get id size wait task priority ticks =
-      let w : Waiter = record { task = task; region = id; size = size; priority = priority; ticks = ticks } in
+  replies-get id size alignment wait task priority ticks =
+      let w : Waiter = record { task = task; region = id; size = size; alignment = alignment; priority = priority; ticks = ticks } in
       answers m d _ _ _ (sound-inv m d t v)
       (agree (test refl (λ n. rest
       (at-region m d (regionOf d id) (t .regions id) (v .picture .regions id)
-      (λ r. check (not (servable r (pagesAsked r size))) InvalidSize ∷ waitChecks d wait task priority) (λ r. getting m d wait w r (pagesAsked r size)) _
+      (λ r. check (not (kind r .aligns alignment)) NotDefined
+      ∷ check (not (isAlignment (r .page) alignment)) InvalidSize
+      ∷ check (not (servable r (needOf r size alignment))) InvalidSize
+      ∷ waitChecks d wait task priority)
+      (λ r. getting m d wait w r (needOf r size alignment)) _
       (λ _ e is q p.
       let x = shows m e is in
-      rw (x .asked size) (agree (same (wait-agree wait task priority _ _ (acted
-      (got-by e wait w (taken m (regionFor e) (pagesOver e size)) (placed m (regionFor e) (pagesOver e size))
-      ∙ ap (λ (g : Place). onPlace g (λ p. yes (addressIn e p)) (noPlace wait)) (x .placed size (let y = eqb-false size 0 n in omega arith))))))))))))
+      let k = needIn e size alignment in
+      let z : 0 < size = let y = eqb-false size 0 n in omega arith in
+      rw (x .needs size alignment, x .asked size) (agree (test (ap not (x .knows alignment)) (λ a. same (test (ap not (x .servable size alignment z)) (λ s.
+      wait-agree wait task priority _ _ (acted
+      (got-by e wait w (taken m (regionFor e) k) (placed m (regionFor e) k)
+      ∙ ap (λ (g : Place). onPlace g (λ p. yes (addressIn e p)) (noPlace wait)) (x .placed size alignment z)))))))))))))
 
-  pub right : (id size : ℕ) (wait : asking.Wait) (task priority ticks : ℕ) → Right (GetSegment id size wait task priority ticks) m t (getSegment m d id size wait task priority ticks)
-  right id size wait task priority ticks = record { kept = keeps-get m d t v id size wait task priority ticks; replies = replies-get id size wait task priority ticks }
+  pub right : (id size alignment : ℕ) (wait : asking.Wait) (task priority ticks : ℕ)
+      → Right (GetSegment id size alignment wait task priority ticks) m t (getSegment m d id size alignment wait task priority ticks)
+  right id size alignment wait task priority ticks =
+      record {
+        kept = keeps-get m d t v id size alignment wait task priority ticks;
+        replies = replies-get id size alignment wait task priority ticks;
+      }

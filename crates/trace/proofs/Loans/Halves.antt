@@ -4,7 +4,7 @@ use mathlib.Core.Bool.{true}
 use mathlib.Core.List.{List, []}
 use mathlib.Core.Logic.{_↔_}
 use Prim.Native.Nat.{ℕ, _-_, _*_, _/_, _%_, _^_, _≤_, _<_}
-use native.Mathlib.Nat.{mul-assoc, mul-mod-left, div-add-mod', zero-mod, sub-self}
+use native.Mathlib.Nat.{mul-assoc, mul-mod-left, div-add-mod'}
 use native.Mathlib.Omega.{arith}
 use lib.Dec.{eqb}
 use borrow.Author.Tests.{eqb-true, eq-eqb, ne-eqb}
@@ -15,6 +15,7 @@ use Rattle.manager.specs.Kind.{onPlace, allocate, heldFrom}
 use Rattle.manager.specs.Paged.{free+}
 use Rattle.manager.specs.Halves.{FreeAt, placeBlock, occupyBlock, releaseBlock}
 use Rattle.manager.specs.Halves as kind
+use Rattle.manager.specs.declared.Need.{Need}
 use Rattle.manager.specs.declared.Place.{Place}
 use Rattle.manager.specs.declared.Place.the-variants.{At, Nowhere}
 use Rattle.manager.proofs.Laws.Paged.{free-front}
@@ -88,6 +89,10 @@ drawing {a} {l} {s} h =
 
 -- ---- the laws, of a drawing
 
+-- what a get of 2^i pages needs: by halves the alignment is left alone
+abbrev powers : ℕ → ℕ → Need
+powers i every = record { pages = 2 ^ i; every = every }
+
 module _ {a : Span} {l : List Loan} {s : List Segment} (d : Drawing halves a l s) where
   abbrev built : Shape a l s
   built = shape d
@@ -96,8 +101,8 @@ module _ {a : Span} {l : List Loan} {s : List Segment} (d : Drawing halves a l s
   all-pages = halved-total (built .cut) ∙ sym (built .block)
 
   -- a free block would serve 2^i pages where it has as many
-  block-serves : (i p n : ℕ) → FreeAt s (a .first) p n → 2 ^ i ≤ n → Serves halves a l (2 ^ i) p
-  block-serves i p n x h =
+  block-serves : (i every p n : ℕ) → FreeAt s (a .first) p n → 2 ^ i ≤ n → Serves halves a l (powers i every) p
+  block-serves i every p n x h =
       let b = free-aligned (a .first) p n (built .cut) x in
       let w = free-within s (a .first) p n x in
       let t : 2 ^ b .level ≡ 2 ^ (b .level - i) * 2 ^ i = power-times i (b .level) (le-power i (b .level) (omega (arith, b .pages))) in
@@ -115,8 +120,8 @@ module _ {a : Span} {l : List Loan} {s : List Segment} (d : Drawing halves a l s
       }
 
   -- where no free block has as many, no place would
-  none-serves : (i : ℕ) → placeBlock (2 ^ i) (a .first) s ≡ Nowhere → NoPlace halves a l (2 ^ i)
-  none-serves i e p u =
+  none-serves : (i every : ℕ) → placeBlock (2 ^ i) (a .first) s ≡ Nowhere → NoPlace halves a l (powers i every)
+  none-serves i every e p u =
       let j = level (a .count) in
       let c = (p - a .first) / 2 ^ i in
       let z : c * 2 ^ i ≡ p - a .first = omega (arith, div-add-mod' (p - a .first) (2 ^ i), u .starts) in
@@ -126,14 +131,14 @@ module _ {a : Span} {l : List Loan} {s : List Segment} (d : Drawing halves a l s
       omega (arith, r .enough, place-none (2 ^ i) (a .first) s (some-power i) e (r .place) (r .pages) (r .free))
 
   -- a get of 2^i pages
-  got : (i : ℕ) → Gets halves a l (2 ^ i) (placeBlock (2 ^ i) (a .first) s) (allocate kind.halves (2 ^ i) (a .first) s)
-  got i = go (placeBlock (2 ^ i) (a .first) s) refl
+  got : (i every : ℕ) → Gets halves a l (powers i every) (placeBlock (2 ^ i) (a .first) s) (allocate kind.halves (powers i every) (a .first) s)
+  got i every = go (placeBlock (2 ^ i) (a .first) s) refl
     where
       chosen : (p : ℕ) → Best (2 ^ i) (a .first) p (drawnMap a l) → Smallest a l (2 ^ i) p
       chosen p b = record { pages = b .pages; free = b .free; enough = b .enough; smallest = b .smallest; lowest = b .lowest }
 
-      go : (q : Place) → placeBlock (2 ^ i) (a .first) s ≡ q → Gets halves a l (2 ^ i) q (onPlace q (λ p. occupyBlock p (2 ^ i) (a .first) s) s)
-      go Nowhere e = nothing d (none-serves i e)
+      go : (q : Place) → placeBlock (2 ^ i) (a .first) s ≡ q → Gets halves a l (powers i every) q (onPlace q (λ p. occupyBlock p (2 ^ i) (a .first) s) s)
+      go Nowhere e = nothing d (none-serves i every e)
       go (At p) e =
           let b = place-best (2 ^ i) (a .first) s (some-power i) p e in
           let n = free-aligned (a .first) p (b .pages) (built .cut) (b .free) in
@@ -190,7 +195,6 @@ pub halves-lawful : Lawful kind.halves halves
 halves-lawful =
     record {
       rounded = λ j. refl;
-      rounded-some = λ j z. some-power (level j);
       stands = λ d. record { sized = halved-sized (shape d .cut); proper = proper-of (shape d .cut) };
       pages = all-pages;
       says = λ d. shape d .says;
@@ -200,10 +204,11 @@ halves-lawful =
         says = refl;
       });
       new = new;
-      first-starts = λ a k. rw (sub-self (a .first)) (zero-mod k);
-      chosen-serves = λ {a} {l} o j p c. block-serves (record { fits = o; is = refl }) (level j) p (c .pages) (c .free) (c .enough);
-      placed = λ {a} {l} d j z. ap (placeBlock (2 ^ level j) (a .first)) (d .is);
-      got = λ d j z. got d (level j);
+      aligns = λ alignment. refl;
+      aligned = λ alignment k z a n p x. absurd (omega (arith, eqb-true alignment 0 k));
+      chosen-serves = λ {a} {l} o j every p c. block-serves (record { fits = o; is = refl }) (level j) every p (c .pages) (c .free) (c .enough);
+      placed = λ {a} {l} d j every z. ap (placeBlock (2 ^ level j) (a .first)) (d .is);
+      got = λ d j every z. got d (level j) every;
       can-have = λ d p k. ap (eqb k) (held-is d p);
       room = λ o p m j x. room o p m (2 ^ level j) x;
       returned = returned;

@@ -6,18 +6,18 @@ use mathlib.Core.Bool.{true}
 use mathlib.Core.List.{List, []}
 use mathlib.Core.Logic.{_⊎_, _↔_}
 use Prim.Native.Nat.{ℕ, _+_, _≤_, _<_}
-use native.Mathlib.Nat.{le-refl}
-use native.Mathlib.Omega.{arith}
 use lib.ListN.{length}
+use Rattle.arith.specs.Round.{OnEvery}
 use Rattle.manager.specs.Lists.{any}
 use Rattle.manager.specs.Map.{Segment, isHeldSegment, draw, decode, soundMap, freeSizes, heldSizes, total}
 use Rattle.manager.specs.Kind.{Kind, allocate, heldFrom}
 use Rattle.manager.specs.Paged.{free+}
+use Rattle.manager.specs.declared.Need.{Need}
 use Rattle.manager.specs.declared.Place.{Place}
 use Rattle.manager.specs.declared.Place.the-variants.{At, Nowhere}
 use Rattle.manager.proofs.Laws.Map.{reread, length-draw, sound-drawn, sound-tiled, sound-proper, sized-decoded, total-decoded}
 use Rattle.manager.proofs.Laws.Kinds.{Stands}
-use Rattle.trace.specs.Loans.{Loan, enter, amend, Lent, Held, Ordered, pagesAt, loanPages, sum, Span, behind}
+use Rattle.trace.specs.Loans.{Loan, enter, amend, Lent, Ordered, pagesAt, loanPages, sum, Span, behind}
 use Rattle.trace.specs.Reading.{loansOf, Serves, NoPlace, Reading}
 use Rattle.trace.specs.Replies.{lendsAny}
 use Rattle.trace.specs.Claims.{freePages}
@@ -29,29 +29,34 @@ pub record Drawing (R : Reading) (a : Span) (l : List Loan) (s : List Segment) :
   pub fits : R .Fits a l
   pub is : s ≡ R .drawn a l
 
--- what a get of k pages comes to: its place, lent, or nothing where no place would serve
-pub data Gets (R : Reading) (a : Span) (l : List Loan) (k : ℕ) : Place → List Segment → Type 0 where
-  given : {s : List Segment} (p : ℕ) → Drawing R a (enter p k l) s → R .Chosen a l k p → Gets R a l k (At p) s
-  nothing : {s : List Segment} → Drawing R a l s → NoPlace R a l k → Gets R a l k Nowhere s
+-- what a get of n comes to: its place, lent, or nothing where no place would serve
+pub data Gets (R : Reading) (a : Span) (l : List Loan) (n : Need) : Place → List Segment → Type 0 where
+  given : {s : List Segment} (p : ℕ) → Drawing R a (enter p (n .pages) l) s → R .Chosen a l n p → Gets R a l n (At p) s
+  nothing : {s : List Segment} → Drawing R a l s → NoPlace R a l n → Gets R a l n Nowhere s
+
+-- what a get that asks for j pages needs: as many as its kind gives for them, from every so many-th page on
+abbrev pub asking : Reading → ℕ → ℕ → Need
+asking R j every = record { pages = R .rounded j; every = every }
 
 pub record Lawful (K : Kind) (R : Reading) : Type 0 where
-  -- sizes are rounded alike, and who asks for a page is given one
+  -- sizes are rounded alike
   pub rounded : (j : ℕ) → K .rounded j ≡ R .rounded j
-  pub rounded-some : (j : ℕ) → 0 < j → 0 < R .rounded j
   -- A DRAWN MAP stands as the kind says, has all pages, and its held segments are the loans; and every such map is drawn from its loans
   pub stands : {a : Span} {l : List Loan} {s : List Segment} → Drawing R a l s → Stands K s
   pub pages : {a : Span} {l : List Loan} {s : List Segment} → Drawing R a l s → total s ≡ a .count
   pub says : {a : Span} {l : List Loan} {s : List Segment} → Drawing R a l s → loansOf (a .first) s ≡ l
   pub loans : (a : Span) (s : List Segment) → K .allowed (a .count) ≡ true → Stands K s → total s ≡ a .count → Drawing R a (loansOf (a .first) s) s
-  -- a new region's map, and the first page is one where a get may start
+  -- a new region's map
   pub new : (a : Span) → K .allowed (a .count) ≡ true → Drawing R a [] (free+ (a .count) [])
-  pub first-starts : (a : Span) (k : ℕ) → R .Starts a k (a .first)
+  -- the same alignments are known, and where one other than 0 is asked for, a get starts on it
+  pub aligns : (alignment : ℕ) → K .aligns alignment ≡ R .aligns alignment
+  pub aligned : (alignment : ℕ) → R .aligns alignment ≡ true → 0 < alignment → (a : Span) (n : Need) (p : ℕ) → R .Starts a n p → OnEvery (n .every) p
   -- get: the place that it takes would serve, and is the one that is read off the loans
-  pub chosen-serves : {a : Span} {l : List Loan} → R .Fits a l → (j p : ℕ) → R .Chosen a l (R .rounded j) p → Serves R a l (R .rounded j) p
-  pub placed : {a : Span} {l : List Loan} {s : List Segment} → Drawing R a l s → (j : ℕ) → 0 < j
-      → K .place (R .rounded j) (a .first) s ≡ R .place a l (R .rounded j)
-  pub got : {a : Span} {l : List Loan} {s : List Segment} → Drawing R a l s → (j : ℕ) → 0 < j
-      → Gets R a l (R .rounded j) (K .place (R .rounded j) (a .first) s) (allocate K (R .rounded j) (a .first) s)
+  pub chosen-serves : {a : Span} {l : List Loan} → R .Fits a l → (j every p : ℕ) → R .Chosen a l (asking R j every) p → Serves R a l (asking R j every) p
+  pub placed : {a : Span} {l : List Loan} {s : List Segment} → Drawing R a l s → (j every : ℕ) → 0 < j
+      → K .place (asking R j every) (a .first) s ≡ R .place a l (asking R j every)
+  pub got : {a : Span} {l : List Loan} {s : List Segment} → Drawing R a l s → (j every : ℕ) → 0 < j
+      → Gets R a l (asking R j every) (K .place (asking R j every) (a .first) s) (allocate K (asking R j every) (a .first) s)
   -- what a loan can have
   pub can-have : {a : Span} {l : List Loan} {s : List Segment} → Drawing R a l s → (p k : ℕ) → K .canHave p k (a .first) s ≡ R .canHave a l p k
   pub room : {a : Span} {l : List Loan} → R .Fits a l → (p m j : ℕ) → Lent l p m
@@ -64,10 +69,10 @@ pub record Lawful (K : Kind) (R : Reading) : Type 0 where
   -- the free segments, by the loans
   pub free-runs : {a : Span} {l : List Loan} {s : List Segment} → Drawing R a l s → freeSizes s ≡ R .runs a l
 
--- a place is the one that a get of k pages takes, and it can be lent there; or no place would serve
-pub data Found (R : Reading) (a : Span) (l : List Loan) (k : ℕ) : Place → Type 0 where
-  found : (p : ℕ) → R .Chosen a l k p → R .Fits a (enter p k l) → Found R a l k (At p)
-  nowhere : NoPlace R a l k → Found R a l k Nowhere
+-- a place is the one that a get of n takes, and it can be lent there; or no place would serve
+pub data Found (R : Reading) (a : Span) (l : List Loan) (n : Need) : Place → Type 0 where
+  found : (p : ℕ) → R .Chosen a l n p → R .Fits a (enter p (n .pages) l) → Found R a l n (At p)
+  nowhere : NoPlace R a l n → Found R a l n Nowhere
 
 -- WHAT FOLLOWS FOR EVERY LAWFUL KIND
 module _ {K : Kind} {R : Reading} (L : Lawful K R) where
@@ -139,20 +144,9 @@ module _ {K : Kind} {R : Reading} (L : Lawful K R) where
     lent-one p k m x y = ordered.lent-one (behind a) (a .first) l fit-order p k m x y
 
     -- THE PLACE THAT IS READ OFF THE LOANS IS THE ONE THAT A GET TAKES
-    pub place-found : (j : ℕ) → 0 < j → Found R a l (R .rounded j) (R .place a l (R .rounded j))
-    place-found j z = subst (Found R a l (R .rounded j)) (L .placed (drawn-is o) j z) (go (L .got (drawn-is o) j z))
+    pub place-found : (j every : ℕ) → 0 < j → Found R a l (asking R j every) (R .place a l (asking R j every))
+    place-found j every z = subst (Found R a l (asking R j every)) (L .placed (drawn-is o) j every z) (go (L .got (drawn-is o) j every z))
       where
-        go : {g : Place} {s : List Segment} → Gets R a l (R .rounded j) g s → Found R a l (R .rounded j) g
+        go : {g : Place} {s : List Segment} → Gets R a l (asking R j every) g s → Found R a l (asking R j every) g
         go (given p d c) = found p c (d .fits)
         go (nothing d h) = nowhere h
-
-  -- with nothing lent whoever asks for no more than its pages is served
-  pub new-serves : (a : Span) (j : ℕ) → 0 < j → R .rounded j ≤ a .count → (p : ℕ) × Serves R a [] (R .rounded j) p
-  unfolding Held
-  new-serves a j z h = (
-    a .first,
-    record {
-      starts = L .first-starts a (R .rounded j);
-      run = record { some = L .rounded-some j z; from = le-refl (a .first); upto = omega arith; unheld = λ q b u x. x };
-    },
-  )

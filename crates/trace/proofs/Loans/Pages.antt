@@ -11,6 +11,7 @@ use borrow.Author.Tests.{leb-true, le-leb}
 use Rattle.manager.specs.Map.{Segment, freeSizes, total}
 use Rattle.manager.specs.Kind.{allocate}
 use Rattle.manager.specs.Paged.{paged, placeFrom, reachFrom, changeFrom}
+use Rattle.manager.specs.declared.Need.{Need}
 use Rattle.manager.specs.declared.Place.{Place}
 use Rattle.manager.proofs.Laws.Apart.{Well, well-sized, well-made-of, well-proper}
 use Rattle.manager.proofs.Laws.Paged.{fit-is}
@@ -21,12 +22,12 @@ use Rattle.trace.specs.Pages.{Room, lowestRun, mostPagesAt, pages}
 use Rattle.trace.proofs.Loans.Get.{Got, gave, lacks, got-from, lowest-from}
 use Rattle.trace.proofs.Loans.Change as change
 use Rattle.trace.proofs.Loans.Redrawn.{well, total-drawn, drawn-says, free-runs, drawn-new, ordered-new, ordered-of, drawn-of}
-use Rattle.trace.proofs.Loans.Lawful.{Drawing, Gets, given, nothing, Lawful}
+use Rattle.trace.proofs.Loans.Lawful.{Drawing, Gets, given, nothing, asking, Lawful}
 
-gets : {a : Span} {k : ℕ} {l : List Loan} {g : Place} {s : List Segment} → Ordered (behind a) (a .first) l → Got a (a .first) l k g s
-    → Gets pages a l k g s
-gets o (gave p e i b run low) = given p (record { fits = i; is = e }) (record { run = run; first = λ q u. low q (u .from) u })
-gets o (lacks e no-run) = nothing (record { fits = o; is = e }) (λ q u. no-run q (u .run .from) (u .run))
+gets : {a : Span} {w : Need} {l : List Loan} {g : Place} {s : List Segment} → Ordered (behind a) (a .first) l → Got a (a .first) l w g s
+    → Gets pages a l w g s
+gets o (gave p e i b run on low) = given p (record { fits = i; is = e }) (record { run = run; starts = on; first = λ q u. low q (u .from) u })
+gets o (lacks e no-run) = nothing (record { fits = o; is = e }) (λ q u. no-run q (u .run .from) (u .starts) (u .run))
 
 module _ {a : Span} {l : List Loan} {s : List Segment} (d : Drawing pages a l s) where
   is-well : Well true s
@@ -35,12 +36,12 @@ module _ {a : Span} {l : List Loan} {s : List Segment} (d : Drawing pages a l s)
   all-pages : total s ≡ a .count
   all-pages = rw (d .is) (omega (arith, total-drawn (behind a) (a .first) l (d .fits)))
 
-  got : (k : ℕ) → 0 < k → Gets pages a l k (placeFrom k (a .first) s) (allocate paged k (a .first) s)
-  got k z = rw (fit-is k (a .first) s, d .is) (gets (d .fits) (got-from a k (a .first) l (le-refl (a .first)) (d .fits) z))
+  got : (w : Need) → 0 < w .pages → Gets pages a l w (placeFrom w (a .first) s) (allocate paged w (a .first) s)
+  got w z = rw (fit-is w (a .first) s z, d .is) (gets (d .fits) (got-from a w (a .first) l (le-refl (a .first)) (d .fits) z))
 
   -- the place is the lowest run by the loans
-  place-lowest : (k : ℕ) → 0 < k → placeFrom k (a .first) s ≡ lowestRun (behind a) k (a .first) l
-  place-lowest k z = ap (placeFrom k (a .first)) (d .is) ∙ lowest-from (behind a) k (a .first) l z (d .fits)
+  place-lowest : (w : Need) → 0 < w .pages → placeFrom w (a .first) s ≡ lowestRun (behind a) w (a .first) l
+  place-lowest w z = ap (placeFrom w (a .first)) (d .is) ∙ lowest-from (behind a) w (a .first) l z (d .fits)
 
   reach : (p : ℕ) → reachFrom p (a .first) s ≡ mostPagesAt (behind a) p l
   reach p = ap (reachFrom p (a .first)) (d .is) ∙ change.most-from (behind a) p (a .first) l (d .fits)
@@ -64,16 +65,16 @@ pub paged-lawful : Lawful paged pages
 paged-lawful =
     record {
       rounded = λ j. refl;
-      rounded-some = λ j z. z;
       stands = λ {a} {l} {s} d. record { sized = well-sized true s (is-well d); proper = well-proper s (is-well d) };
       pages = all-pages;
       says = λ {a} {l} {s} d. ap (loansOf (a .first)) (d .is) ∙ drawn-says (behind a) (a .first) l (d .fits);
       loans = λ a s n h e. loans a s h e;
       new = λ a n. record { fits = ordered-new (a .count) (a .first); is = sym (drawn-new (a .count) (a .first)) };
-      first-starts = λ a k. tt;
-      chosen-serves = λ o j p x. record { starts = tt; run = x .run };
-      placed = place-lowest;
-      got = got;
+      aligns = λ alignment. refl;
+      aligned = λ alignment k z a n p x. x;
+      chosen-serves = λ o j every p x. record { starts = x .starts; run = x .run };
+      placed = λ d j every z. place-lowest d (asking pages j every) z;
+      got = λ d j every z. got d (asking pages j every) z;
       can-have = λ d p k. ap (leb k) (reach d p);
       room = λ {a} {l} o p m k x. let r = room o p m k x in
           (λ h. r .0 (leb-true k (mostPagesAt (behind a) p l) h), λ i. le-leb k (mostPagesAt (behind a) p l) (r .1 i));

@@ -51,12 +51,12 @@ module _ (d : Manager) (t : Receipts) (w : Wait) (v : Waits d t) (a : WaitIs t w
   waits-entered = record { each = each-entered; once = append-once (t .waits) w (v .once) new; queue = queue-entered }
 
 -- a wait that begins now has all its ticks left
-pub new-waiter : (task id size priority ticks : ℕ)
-    → waiterOf (record { task = task; id = id; size = size; priority = priority; ticks = ticks; since = 0 })
-    ≡ record { task = task; region = id; size = size; priority = priority; ticks = ticks }
-new-waiter task id size priority ticks =
+pub new-waiter : (task id size alignment priority ticks : ℕ)
+    → waiterOf (record { task = task; id = id; size = size; alignment = alignment; priority = priority; ticks = ticks; since = 0 })
+    ≡ record { task = task; region = id; size = size; alignment = alignment; priority = priority; ticks = ticks }
+new-waiter task id size alignment priority ticks =
     let e : ticks - 0 ≡ ticks = omega arith in
-    ap (λ (n : ℕ). record { task = task; region = id; size = size; priority = priority; ticks = n }) e
+    ap (λ (n : ℕ). record { task = task; region = id; size = size; alignment = alignment; priority = priority; ticks = n }) e
 
 pub new-time : (ticks : ℕ) → (ticks ≡ 0) ⊎ (0 < ticks)
 new-time zero = inl refl

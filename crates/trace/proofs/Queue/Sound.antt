@@ -12,7 +12,7 @@ use borrow.Author.Tests.{ne-eqb, le-leb}
 use Rattle.manager.specs.Record.{tasks, noWaiter, regionOf}
 use Rattle.manager.specs.Result.{pad}
 use Rattle.manager.specs.Lists.{every, pairwise, adjacent, In, Distinct}
-use Rattle.manager.specs.Region.{dead, pagesOf, anyHeld, pagesAsked}
+use Rattle.manager.specs.Region.{dead, kind, anyHeld, isAlignment, needOf, servable}
 use Rattle.manager.specs.Sound.{soundWaiter, soundPlace, otherTask, inOrder, soundQueue}
 use Rattle.manager.specs.declared.Manager.{Manager}
 use Rattle.manager.specs.declared.Waiter.{Waiter}
@@ -64,7 +64,9 @@ pub record Waitable (m : List ℕ) (d : Manager) (t : Receipts) (w : Wait) : Typ
   pub alive : dead (regionOf d (w .id)) ≡ false
   pub order : regionOf d (w .id) .order ≡ orders t (w .id)
   pub held : anyHeld m (regionOf d (w .id)) ≡ true
-  pub fits : pagesAsked (regionOf d (w .id)) (w .size) ≤ pagesOf (regionOf d (w .id))
+  pub knows : kind (regionOf d (w .id)) .aligns (w .alignment) ≡ true
+  pub allowed : isAlignment (regionOf d (w .id) .page) (w .alignment) ≡ true
+  pub fits : servable (regionOf d (w .id)) (needOf (regionOf d (w .id)) (w .size) (w .alignment)) ≡ true
 
 wait-sound : (m : List ℕ) (d : Manager) (t : Receipts) (w : Wait) → WaitIs t w → Waitable m d t w → soundPlace m d (waiterOf w) ≡ true
 unfolding soundPlace soundWaiter
@@ -75,7 +77,9 @@ wait-sound m d t w a b =
       b .alive,
       b .held,
       le-leb 1 (w .size) (a .size-some),
-      le-leb (pagesAsked (regionOf d (w .id)) (w .size)) (pagesOf (regionOf d (w .id))) (b .fits),
+      b .knows,
+      b .allowed,
+      b .fits,
       le-leb 1 (w .priority) (a .priority-some),
       le-leb (w .priority) 255 (a .priority-most),
     )

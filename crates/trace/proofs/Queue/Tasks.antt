@@ -158,7 +158,7 @@ keep-others (x ∷ a) w b d =
 
 -- A WAIT IN OTHER RECEIPTS: it is one still, at another count of ticks as well, where its region lends something and time is left
 abbrev pub counting : ℕ → Wait → Wait
-counting n w = record { task = w .task; id = w .id; size = w .size; priority = w .priority; ticks = w .ticks; since = n }
+counting n w = record { task = w .task; id = w .id; size = w .size; alignment = w .alignment; priority = w .priority; ticks = w .ticks; since = n }
 
 pub wait-moved : (t u : Receipts) (w : Wait) (n : ℕ) (l : List Loan) (a : WaitIs t w) → u .regions (w .id) ≡ some (withLoans l (a .entry))
     → u .regionDeletes (slotOf (w .id)) ≡ t .regionDeletes (slotOf (w .id)) → ¬ (l ≡ []) → (w .ticks ≡ 0) ⊎ (n < w .ticks) → WaitIs u (counting n w)
@@ -171,6 +171,7 @@ wait-moved t u w n l a found same lending time =
       task-some = a .task-some;
       task-most = a .task-most;
       size-some = a .size-some;
+      alignment = record { known = a .alignment .known; multiple = a .alignment .multiple; most = a .alignment .most };
       size-most = a .size-most;
       priority-some = a .priority-some;
       priority-most = a .priority-most;

@@ -58,7 +58,7 @@ tick-notices d t v = ap leaving (v .queue) ∙ told-pad tasks (waitersOf (inLine
 age-one : (w : Wait) → aged (waiterOf w) ≡ waiterOf (later w)
 age-one w =
     let e : w .ticks - w .since - 1 ≡ w .ticks - (w .since + 1) = omega arith in
-    ap (λ (n : ℕ). record { task = w .task; region = w .id; size = w .size; priority = w .priority; ticks = n }) e
+    ap (λ (n : ℕ). record { task = w .task; region = w .id; size = w .size; alignment = w .alignment; priority = w .priority; ticks = n }) e
 
 due-staying : (q : List Wait) → staying (waitersOf q) ≡ waitersOf (allLater (keep notDue q))
 unfolding staying waitersOf keep allLater

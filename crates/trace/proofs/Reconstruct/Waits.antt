@@ -1,6 +1,6 @@
 -- The waits of a sound record: its used places, each as a wait that has begun with the ticks that it has left. Assumes nothing.
 use mathlib.Core.Path.{_≡_, refl, sym, ap, _∙_, subst}
-use mathlib.Core.Bool.{Bool, true, false, cond, not, _&&_, true≢false}
+use mathlib.Core.Bool.{Bool, true, false, cond, not, true≢false}
 use mathlib.Core.List.{List, [], _∷_, _++_}
 use mathlib.Core.Logic.{_⊎_, inl, inr, ⊎-elim}
 use Prim.Native.Nat.{ℕ, suc, _-_, _≤_}
@@ -9,13 +9,11 @@ use native.Mathlib.Omega.{arith}
 use lib.ListN.{length, replicate}
 use lib.Dec.{eqb, leb}
 use borrow.Author.Tests.{eqb-false, leb-true, not-true}
-use Rattle.arith.specs.Round.{pagesFor}
-use Rattle.arith.specs.Layout.{pageCount}
 use Rattle.manager.specs.Lists.{every, any as someOf, pairwise, adjacent, In, Distinct}
 use Rattle.manager.proofs.Laws.Lists.{and-first, and-second}
 use Rattle.manager.specs.Map.{Segment, isHeldSegment}
 use Rattle.manager.specs.Record.{tasks, noWaiter, slotOf, regionOf}
-use Rattle.manager.specs.Region.{kindOf, kind, firstPageOf, dead, pagesOf, pagesAsked, servable, anyHeld, segments}
+use Rattle.manager.specs.Region.{kind, firstPageOf, dead, pagesOf, isAlignment, needOf, servable, anyHeld, segments}
 use Rattle.manager.specs.Queue.{goesBefore}
 use Rattle.manager.specs.Sound.{unused, soundWaiter, soundPlace, otherTask, inOrder, soundRegion}
 use Rattle.manager.proofs.Laws.Sound.{live-of}
@@ -25,19 +23,19 @@ use Rattle.manager.specs.declared.Manager.{Manager}
 use Rattle.manager.specs.declared.Region.{Region}
 use Rattle.manager.specs.declared.Waiter.{Waiter}
 use Rattle.trace.specs.Reading.{loansOf}
-use Rattle.trace.specs.Receipts.{Receipts, Wait, unit, pagesIn}
+use Rattle.trace.specs.Receipts.{Receipts, Wait}
 use Rattle.trace.specs.Replies.{lendsAny, regionNow}
 use Rattle.trace.specs.Claims.{waiterOf, waitersOf}
-use Rattle.trace.proofs.Invariant.{WaitIs, tasksOf}
+use Rattle.trace.proofs.Invariant.{regionAs, WaitIs, tasksOf}
 use Rattle.trace.proofs.Loans.Addresses.{address-none}
 use Rattle.trace.proofs.Loans.Says.{any-says}
-use Rattle.trace.proofs.Loans.Lawful.{found}
-use Rattle.trace.proofs.Reconstruct.Region.{entryOf, slotEntry, unit-same, region-parts}
+use Rattle.trace.proofs.Reconstruct.Region.{entryOf, slotEntry, region-back, region-parts}
 use Rattle.trace.proofs.Segments.{law}
+use Rattle.trace.proofs.Servable.{allows, record-serves}
 
 -- a waiter as a wait, and the used places of a queue
 abbrev pub waitFor : Waiter → Wait
-waitFor w = record { task = w .task; id = w .region; size = w .size; priority = w .priority; ticks = w .ticks; since = 0 }
+waitFor w = record { task = w .task; id = w .region; size = w .size; alignment = w .alignment; priority = w .priority; ticks = w .ticks; since = 0 }
 
 unfoldable pub waitsOf : List Waiter → List Wait
 waitsOf [] = []
@@ -54,7 +52,7 @@ waits-cons w ws e = rw e
 pub waiter-back : (w : Waiter) → waiterOf (waitFor w) ≡ w
 waiter-back w =
     let e : w .ticks - 0 ≡ w .ticks = sub-zero (w .ticks) in
-    λ i. record { task = w .task; region = w .region; size = w .size; priority = w .priority; ticks = e i }
+    λ i. record { task = w .task; region = w .region; size = w .size; alignment = w .alignment; priority = w .priority; ticks = e i }
 
 -- ---- the used places come first
 
@@ -124,7 +122,9 @@ pub record WaiterParts (m : List ℕ) (r : Region) (w : Waiter) : Type 0 where
   pub alive : dead r ≡ false
   pub lending : anyHeld m r ≡ true
   pub size-some : 1 ≤ w .size
-  pub size-most : pagesAsked r (w .size) ≤ pagesOf r
+  pub known : kind r .aligns (w .alignment) ≡ true
+  pub allowed : isAlignment (r .page) (w .alignment) ≡ true
+  pub size-most : servable r (needOf r (w .size) (w .alignment)) ≡ true
   pub priority-some : 1 ≤ w .priority
   pub priority-most : w .priority ≤ 255
 
@@ -134,25 +134,30 @@ waiter-parts m d w e f =
     let r = regionOf d (w .region) in
     let g : soundWaiter m d w ≡ true = rw f at e in
     let t = leb (w .task) tasks in
-    let a = not (dead r) in
     let h = anyHeld m r in
     let s = leb 1 (w .size) in
-    let u = servable r (pagesAsked r (w .size)) in
+    let k = kind r .aligns (w .alignment) in
+    let a = isAlignment (r .page) (w .alignment) in
+    let u = servable r (needOf r (w .size) (w .alignment)) in
     let p = leb 1 (w .priority) in
     let q = leb (w .priority) 255 in
-    let g₁ = and-second t (a && (h && (s && (u && (p && q))))) g in
-    let g₂ = and-second a (h && (s && (u && (p && q)))) g₁ in
-    let g₃ = and-second h (s && (u && (p && q))) g₂ in
-    let g₄ = and-second s (u && (p && q)) g₃ in
-    let g₅ = and-second u (p && q) g₄ in
+    let g₁ = and-second t _ g in
+    let g₂ = and-second (not (dead r)) _ g₁ in
+    let g₃ = and-second h _ g₂ in
+    let g₄ = and-second s _ g₃ in
+    let g₅ = and-second k _ g₄ in
+    let g₆ = and-second a _ g₅ in
+    let g₇ = and-second u _ g₆ in
     record {
-      task-most = leb-true (w .task) tasks (and-first t (a && (h && (s && (u && (p && q))))) g);
-      alive = not-true (dead r) (and-first a (h && (s && (u && (p && q)))) g₁);
-      lending = and-first h (s && (u && (p && q))) g₂;
-      size-some = leb-true 1 (w .size) (and-first s (u && (p && q)) g₃);
-      size-most = leb-true (pagesAsked r (w .size)) (pagesOf r) (and-first u (p && q) g₄);
-      priority-some = leb-true 1 (w .priority) (and-first p q g₅);
-      priority-most = leb-true (w .priority) 255 (and-second p q g₅);
+      task-most = leb-true (w .task) tasks (and-first t _ g);
+      alive = not-true (dead r) (and-first (not (dead r)) _ g₁);
+      lending = and-first h _ g₂;
+      size-some = leb-true 1 (w .size) (and-first s _ g₃);
+      known = and-first k _ g₄;
+      allowed = and-first a _ g₅;
+      size-most = and-first u _ g₆;
+      priority-some = leb-true 1 (w .priority) (and-first p q g₇);
+      priority-most = leb-true (w .priority) 255 (and-second p q g₇);
     }
 
 module _ (m : List ℕ) (d : Manager) (t : Receipts) (entries : (id : ℕ) → t .regions id ≡ slotEntry m (regionOf d id))
@@ -162,7 +167,8 @@ module _ (m : List ℕ) (d : Manager) (t : Receipts) (entries : (id : ℕ) → t
       let r = regionOf d (w .region) in
       let p = waiter-parts m d w e f in
       let q = region-parts m r (live-of m r (sounds (w .region)) (p .alive)) in
-      let u : unit (entryOf m r) ≡ r .page = unit-same m r (q .whole) in
+      let x = entryOf m r in
+      let b : r ≡ regionAs (r .generation) x = region-back m r (q .whole) in
       record {
         entry = entryOf m r;
         found = entries (w .region) ∙ rw (p .alive);
@@ -171,8 +177,10 @@ module _ (m : List ℕ) (d : Manager) (t : Receipts) (entries : (id : ℕ) → t
         task-some = let y = eqb-false (w .task) 0 f in omega arith;
         task-most = p .task-most;
         size-some = p .size-some;
-        size-most = subst (λ (x : ℕ). x ≤ pagesIn (entryOf m r)) (law (entryOf m r) .rounded (pagesFor (w .size) (unit (entryOf m r))))
-            (subst (λ (x : ℕ). kindOf (r .order) .rounded (pagesFor (w .size) x) ≤ pageCount (kind r .allowed) (r .start) (r .length) x) (sym u) (p .size-most));
+        alignment = allows x (w .alignment) (sym (law x .aligns (w .alignment)) ∙ p .known)
+            (subst (λ (y : Region). isAlignment (y .page) (w .alignment) ≡ true) b (p .allowed));
+        size-most = record-serves x (omega (arith, q .least)) (subst (λ (y : Region). 1 ≤ pagesOf y) b (q .some-page)) (w .size) (w .alignment) (p .size-some)
+            (subst (λ (y : Region). servable y (needOf y (w .size) (w .alignment)) ≡ true) b (p .size-most));
         priority-some = p .priority-some;
         priority-most = p .priority-most;
         time = eq-zero-or-pos (w .ticks);

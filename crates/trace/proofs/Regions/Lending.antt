@@ -4,7 +4,7 @@ use mathlib.Core.Path.{_≡_, refl, sym, ap, _∙_, subst, fun-ext}
 use mathlib.Core.Bool.{Bool, true, false, cond}
 use mathlib.Core.List.{List, [], _∷_}
 use mathlib.Core.Option.{Option, none, some}
-use mathlib.Core.Logic.{inr}
+use mathlib.Core.Logic.{inl, inr}
 use Prim.Native.Nat.{ℕ}
 use native.Mathlib.Omega.{arith}
 use lib.Dec.{eqb}
@@ -48,6 +48,19 @@ pub none-queued : (t : Receipts) (id : ℕ) (e : RegionEntry) → queueOf id e t
 unfolding In
 none-queued t id e q w i f =
     rw q at (in-line (urgentThan (e .order)) w [] (waitsIn id (t .waits)) .1 (inr (in-waits id w (t .waits) .1 (i, f))))
+
+-- and the queue of one that nobody waits for
+pub queue-none : (t : Receipts) (id : ℕ) (e : RegionEntry) → NoWait t id → queueOf id e t ≡ []
+unfolding In
+queue-none t id e n = go (queueOf id e t) (λ w h. h)
+  where
+    go : (q : List Wait) → ((w : Wait) → In w q → In w (queueOf id e t)) → q ≡ []
+    go [] f = refl
+    go (w ∷ q) f =
+        elim (in-line (urgentThan (e .order)) w [] (waitsIn id (t .waits)) .0 (f w (inl refl))) [
+          | inl h ↦ absurd h
+          | inr h ↦ let x = in-waits id w (t .waits) .0 h in absurd (n w (x .0) (x .1))
+        ]
 
 -- ---- other loans of one region
 

@@ -20,7 +20,9 @@ use Rattle.trace.specs.Replies.{lendsAny}
 use Rattle.trace.specs.Claims.{waiterOf}
 use Rattle.trace.proofs.Invariant.{WaitIs, Waits, Inv}
 use Rattle.trace.proofs.Clients.{region-at}
+use Rattle.trace.proofs.Frame.{region-unit}
 use Rattle.trace.proofs.Map.{shows}
+use Rattle.trace.proofs.Servable.{allowed, serves-record}
 use Rattle.trace.proofs.Sound.{inv-sound}
 use Rattle.trace.proofs.Loans.Tests.{by-eqb}
 use Rattle.trace.proofs.Queue.Line.{length-line, true-false}
@@ -46,7 +48,9 @@ module _ (m : List ℕ) (d : Manager) (t : Receipts) (v : Inv m d t) where
         alive = rw (r .region) (not-dead m (a .entry) (r .is));
         order = ap (λ (x : Region). x .order) (r .region) ∙ ap orderIn (sym (a .found));
         held = rw (r .region) (shows m (a .entry) (r .is) .any ∙ lends-some (a .entry .loans) (a .lending));
-        fits = rw (r .region, shows m (a .entry) (r .is) .asked (w .size)) (a .size-most);
+        knows = rw (r .region) (shows m (a .entry) (r .is) .knows (w .alignment) ∙ a .alignment .known);
+        allowed = rw (r .region) (allowed (a .entry) (w .alignment) (a .alignment));
+        fits = rw (r .region) (serves-record (a .entry) (region-unit m (a .entry) (r .is)) (r .is .some-page) (w .size) (w .alignment) (a .size-some) (a .size-most));
       }
 
   -- A PICTURED RECORD IS SOUND

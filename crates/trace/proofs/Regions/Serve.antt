@@ -9,7 +9,7 @@ use native.Mathlib.Omega.{arith}
 use lib.ListN.{length, getD}
 use borrow.Author.Tests.{lt-ltb, le-ltb}
 use Rattle.manager.specs.Record.{tasks, noWaiter, regionOf}
-use Rattle.manager.specs.Region.{addressOf, pagesAsked, placed, taken}
+use Rattle.manager.specs.Region.{addressOf, needOf, placed, taken}
 use Rattle.manager.specs.Queue.{firstOf, dequeue}
 use Rattle.manager.specs.Kind.{onPlace}
 use Rattle.manager.specs.Serve.{Served, quiet, granted, telling, serveUpTo}
@@ -27,7 +27,7 @@ use Rattle.trace.specs.Claims.{waiterOf}
 use Rattle.trace.proofs.Invariant.{regionAs, WaitIs, Waits, Inv, Picture, with-waits, OnlyMap, RegionIs}
 use Rattle.trace.proofs.Frame.{only-refl, only-trans}
 use Rattle.trace.proofs.Clients.{RegionAt, region-at}
-use Rattle.trace.proofs.Segments.{regular, full-lends}
+use Rattle.trace.proofs.Segments.{full-lends}
 use Rattle.trace.proofs.Map.{Steps, Gives, gave, none, shows}
 use Rattle.trace.proofs.Queue.Grant as queue
 use Rattle.trace.proofs.Regions.Picture.{update-here, lending, on-region, lending-again, lending-same, any-queue, stepped}
@@ -41,8 +41,9 @@ module _ (f : ℕ) (m : List ℕ) (d : Manager) (id : ℕ) where
 
   abbrev turn : Region → Waiter → Served
   turn r w =
-      onPlace (placed m r (pagesAsked r (w .size)))
-      (λ p. telling (granted w (addressOf r p)) (serveUpTo f (taken m r (pagesAsked r (w .size))) (dequeue d (firstOf id (d .waiters))) id))
+      let n = needOf r (w .size) (w .alignment) in
+      onPlace (placed m r n)
+      (λ p. telling (granted w (addressOf r p)) (serveUpTo f (taken m r n) (dequeue d (firstOf id (d .waiters))) id))
       (quiet m d)
 
   serve-first : (r : Region) (w : Waiter) → regionOf d id ≡ r → firstOf id (d .waiters) < tasks → getD (d .waiters) (firstOf id (d .waiters)) noWaiter ≡ w
@@ -89,7 +90,7 @@ module _ (id : ℕ) (e : RegionEntry) where
     first-is : WaitIs (lending id e something t) w
     first-is = v .waits .each w (first .waits)
 
-    -- he asks for pages that the region has
+    -- he asks for what the region could serve with nothing lent
     asker : (u : WaitIs (lending id e something t) w) → u .entry ≡ withLoans something e
     asker u =
         let p : update id (some (withLoans something e)) (t .regions) id ≡ some (u .entry) =
@@ -97,8 +98,8 @@ module _ (id : ℕ) (e : RegionEntry) where
         let q : update id (some (withLoans something e)) (t .regions) id ≡ some (withLoans something e) = update-here id (some (withLoans something e)) (t .regions) in
         cc
 
-    fits : Servable e (w .size)
-    fits = subst (λ (f : RegionEntry). Servable f (w .size)) (asker first-is) (first-is .size-most)
+    fits : Servable e (w .size) (w .alignment)
+    fits = subst (λ (f : RegionEntry). Servable f (w .size) (w .alignment)) (asker first-is) (first-is .size-most)
 
     is : RegionIs m (withLoans l e)
     is = region-is m d t l (w ∷ ws) v .is
@@ -132,12 +133,12 @@ module _ (id : ℕ) (e : RegionEntry) where
     -- one turn, where the turns after it are right
     module _ (f : ℕ) (next : (m : List ℕ) (d : Manager) (t : Receipts) (l : List Loan) → Serving id e m d t l ws → Outcome e l ws m t (serveUpTo f m d id)) where
       -- the grants by the place that is found
-      first-grant : (g : Place) → g ≡ placeIn e l (w .size)
+      first-grant : (g : Place) → g ≡ placeIn e l (w .size) (w .alignment)
           → onPlace g (λ p. granted (waiterOf w) (addressIn e p) ∷ grantsIn e (lent p) ws) [] ≡ grantsIn e l (w ∷ ws)
       unfolding grantsIn
       first-grant g h = ap (λ (q : Place). onPlace q (λ p. granted (waiterOf w) (addressIn e p) ∷ grantsIn e (lent p) ws) []) h
 
-      turned : {g : Place} {m′ : List ℕ} → Gives m (withLoans l e) (w .size) g m′ → g ≡ placeIn e l (w .size)
+      turned : {g : Place} {m′ : List ℕ} → Gives m (withLoans l e) (w .size) (w .alignment) g m′ → g ≡ placeIn e l (w .size) (w .alignment)
           → Outcome e l (w ∷ ws) m t
           (onPlace g (λ p. telling (granted (waiterOf w) (addressIn e p)) (serveUpTo f m′ (dequeue d (firstOf id (d .waiters))) id)) (quiet m d))
       unfolding allNoticed
@@ -153,7 +154,7 @@ module _ (id : ℕ) (e : RegionEntry) where
           record {
             grants = first-grant Nowhere h;
             only = only-refl _ _ m;
-            inv = ended m d t l (w ∷ ws) v (inl (full-lends (withLoans l e) (regular m (withLoans l e) is) (w .size) (first-is .size-some) fits full));
+            inv = ended m d t l (w ∷ ws) v (inl (full-lends (withLoans l e) (w .size) (w .alignment) fits full));
           }
 
       took-turn : Outcome e l (w ∷ ws) m t (serveUpTo (suc f) m d id)
@@ -162,9 +163,10 @@ module _ (id : ℕ) (e : RegionEntry) where
           let r = region-is m d t l (w ∷ ws) v in
           rw (
             serve-first f m d id (regionAs (r .generation) e) (waiterOf w) (r .region) (first .place) (first .waiter),
+            x .needs (w .size) (w .alignment),
             x .asked (w .size),
           )
-          (turned (x .got (w .size) (first-is .size-some)) (x .placed (w .size) (first-is .size-some)))
+          (turned (x .got (w .size) (w .alignment) (first-is .size-some)) (x .placed (w .size) (w .alignment) (first-is .size-some)))
 
   -- SERVING UP TO SO MANY, where no more wait
   pub served : (f : ℕ) (m : List ℕ) (d : Manager) (t : Receipts) (l : List Loan) (ws : List Wait) → Serving id e m d t l ws → length ws ≤ f

@@ -1,12 +1,14 @@
 -- A chain of checks answers by the receipts where each test does, up to the first that refuses. Assumes nothing.
-use mathlib.Core.Path.{_≡_, refl, _∙_, ap}
-use mathlib.Core.Bool.{Bool, true, false, cond}
+use mathlib.Core.Path.{_≡_, refl, sym, _∙_, ap}
+use mathlib.Core.Bool.{Bool, true, false, cond, true≢false}
 use mathlib.Core.List.{List, [], _∷_}
 use mathlib.Core.Option.{Option, some}
 use Prim.Native.Nat.{ℕ}
 use borrow.Author.Tests.{ne-eqb}
 use Rattle.manager.proofs.Laws.Appended.{by-case}
-use Rattle.manager.proofs.Laws.Result.{answered-sound}
+use Rattle.manager.proofs.Laws.Lists.{and-first, and-second}
+use Rattle.manager.proofs.Laws.Result.{Passed, answered-sound}
+use Rattle.manager.specs.Lists.{every}
 use Rattle.manager.specs.Result.{Result, Check, check, checked, refused}
 use Rattle.manager.specs.Region.{dead}
 use Rattle.manager.specs.Partition.{deadPartition}
@@ -15,10 +17,11 @@ use Rattle.manager.specs.declared.Manager.{Manager}
 use Rattle.manager.specs.declared.Region.{Region}
 use Rattle.manager.specs.declared.Partition.{Partition}
 use Rattle.manager.specs.declared.Status.{Status}
-use Rattle.manager.specs.declared.Status.the-variants.{InvalidId}
+use Rattle.manager.specs.declared.Status.the-variants.{Successful, InvalidId}
 use Rattle.trace.specs.Receipts.{RegionEntry, PartitionEntry, Reply, replyOf}
 use Rattle.trace.specs.Replies.{no, decided, living}
 use Rattle.trace.proofs.Invariant.{regionAs, RegionIs, RegionSlot, PartitionIs, PartitionSlot, empty, live}
+use Rattle.trace.proofs.Regions.Checks.{refusing, refuses}
 use Rattle.trace.proofs.Regions.Live.{not-dead}
 
 -- what is left of a directive is answered so
@@ -46,6 +49,21 @@ agree {m} {d} (same {c} {cs} {xs} {act} {r} a) =
 agree {m} {d} (test {b} {c} {s} {cs} {xs} {act} {r} e f) =
     rw e
     (by-case c (λ x. replyOf (cond x (refused m d s) (checked cs (refused m d) act)) ≡ cond x (no s) (decided xs r)) (λ g. refl) (λ g. agree (f g)))
+
+-- A SUCCESS HAS PASSED ALL CHECKS, and is what is behind them
+pub passed : (cs : List Check) (r : Reply) → every refuses cs ≡ true → decided cs r .status ≡ Successful → Passed cs × (decided cs r ≡ r)
+unfolding decided Passed every
+passed [] r h e = (tt, refl)
+passed (c ∷ cs) r h e = go (c .fails) refl (passed cs r (and-second (refuses c) (every refuses cs) h))
+  where
+    go : (b : Bool) → c .fails ≡ b → (decided cs r .status ≡ Successful → Passed cs × (decided cs r ≡ r))
+        → ((c .fails ≡ false) × Passed cs) × (cond (c .fails) (no (c .status)) (decided cs r) ≡ r)
+    go true f ih =
+        let s : c .status ≡ Successful = rw f at e in
+        absurd (true≢false (sym (and-first (refuses c) (every refuses cs) h) ∙ ap refusing s))
+    go false f ih =
+        let p = ih (rw f at e) in
+        ((f, p .0), rw f (p .1))
 
 module _ (m : List ℕ) (d : Manager) where
   -- of sound books the check for 25 passes

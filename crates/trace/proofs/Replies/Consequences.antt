@@ -1,66 +1,157 @@
 -- What the replies by the receipts come to, in the words of demand 3. Laws over the receipts alone: a live region's loans are regular, and
 -- nothing is known of a memory or of a record. So of any implementation that answers as the receipts say, each field of the claims about
 -- an answer follows. Assumes nothing.
-use mathlib.Core.Path.{_≡_, refl, sym, _∙_}
-use mathlib.Core.Bool.{Bool, true≢false}
+use mathlib.Core.Path.{_≡_, refl, sym, ap, _∙_}
+use mathlib.Core.Bool.{Bool, true, false, cond, not, true≢false}
 use mathlib.Core.List.{List, [], _∷_}
 use mathlib.Core.Logic.{_⊎_, inl, inr, _↔_}
 use mathlib.Core.Option.{some}
-use Prim.Native.Nat.{ℕ, _+_, _*_, _<_}
+use Prim.Native.Nat.{ℕ, _+_, _*_, _/_, _%_, _<_}
 use native.Mathlib.Omega.{arith}
 use lib.ListN.{length}
-use borrow.Author.Tests.{ne-eqb, le-leb}
+use lib.Dec.{eqb}
+use borrow.Author.Tests.{eqb-false, ne-eqb, not-false}
 use Rattle.arith.specs.Round.{pagesFor}
 use Rattle.manager.proofs.Laws.Appended.{by-case}
 use Rattle.manager.specs.Kind.{onPlace}
+use Rattle.manager.specs.Region.{isAlignment}
+use Rattle.manager.specs.Result.{Check, check}
 use Rattle.manager.specs.declared.Call.the-variants.{GetSegment, ReturnSegment, SegmentSize, ResizeSegment, RegionInformation, GetBuffer}
 use Rattle.manager.specs.declared.Place.{Place}
+use Rattle.manager.specs.declared.Place.the-variants.{At, Nowhere}
 use Rattle.manager.specs.declared.Wait.the-variants.{No}
-use Rattle.manager.specs.declared.Status.the-variants.{Successful, Unsatisfied}
-use Rattle.manager.specs.Lists.{In}
+use Rattle.manager.specs.declared.Status.the-variants.{Successful, InvalidSize, NotDefined, Unsatisfied}
+use Rattle.manager.specs.Lists.{In, every}
+use Rattle.manager.proofs.Laws.Result.{Passed}
 use Rattle.trace.specs.Loans.{Loan, Lent, amend}
-use Rattle.trace.specs.Receipts.{Receipts, RegionEntry, PartitionEntry, Wait, Reply, unit, pagesIn, spanIn, addressIn, pageIn, pageLoans, buffersIn, pagesOver, Servable, reading}
+use Rattle.trace.specs.Reading.{Serves}
+use Rattle.trace.specs.Receipts.{Receipts, RegionEntry, PartitionEntry, Wait, Reply, unit, spanIn, addressIn, pageIn, pageLoans, buffersIn, pagesOver, needIn, Alignment, servableIn, Servable, reading}
 use Rattle.trace.specs.Queue.{queueOf}
 use Rattle.trace.specs.Replies.{no, yes, tells, informs, resizes, decided, grantsIn, informationIn, front, byReceipts, placeIn, canHaveIn}
 use Rattle.trace.specs.Claims.{Grants, Full, Takes}
 use Rattle.trace.proofs.Segments.{law, Regular, Places, takes, full, places, lent-some, pages-lent, room-lent, regular-returned, regular-resized}
+use Rattle.trace.proofs.Servable.{allows, allowed, address-on, servable-claim}
 use Rattle.trace.proofs.Grants.{grants-are}
+use Rattle.trace.proofs.Replies.Checks.{passed}
 
 -- ---- the answers about a region
 
 module _ (n : ℕ) (t : Receipts) (id : ℕ) (e : RegionEntry) (q : t .regions id ≡ some e) (g : Regular e) where
   -- a get that won't wait
-  module _ (size task priority ticks : ℕ) (z : 0 < size) (h : Servable e size) where
+  module _ (size alignment task priority ticks : ℕ) where
     abbrev at-once : Reply
-    at-once = byReceipts n t (GetSegment id size No task priority ticks)
+    at-once = byReceipts n t (GetSegment id size alignment No task priority ticks)
 
+    -- its answer by the place that is found; and the place, and its checks behind the one for 4
     abbrev by-place : Place → Reply
     by-place p = onPlace p (λ p. yes (addressIn e p)) (no Unsatisfied)
 
-    get-by : at-once ≡ by-place (placeIn e (e .loans) size)
-    unfolding byReceipts decided
-    get-by = rw (ne-eqb size 0 (λ (y : size ≡ 0). omega arith), q, le-leb (pagesOver e size) (pagesIn e) h)
+    abbrev found : Place
+    found = placeIn e (e .loans) size alignment
 
-    -- 13 EXACTLY WHEN NO PLACE WOULD SERVE
-    pub unsatisfied-by : (at-once .status ≡ Unsatisfied) ↔ Full e (e .loans) size
-    unsatisfied-by = rw get-by (go (places e g size z))
-      where
-        go : {p : Place} → Places e size p → (by-place p .status ≡ Unsatisfied) ↔ Full e (e .loans) size
-        go (takes i c o) = (
-          λ (x : Successful ≡ Unsatisfied). let y : _≡_ {A = ℕ} 0 1 = cc in absurd (omega arith),
-          λ f. absurd (f i (law e .chosen-serves (g .fits) (pagesFor size (unit e)) i c)),
-        )
-        go (full f) = (λ x. f, λ x. refl)
+    abbrev checks : List Check
+    checks =
+        check (not (reading e .aligns alignment)) NotDefined
+        ∷ check (not (isAlignment (unit e) alignment)) InvalidSize
+        ∷ check (not (servableIn e size alignment)) InvalidSize
+        ∷ []
 
-    -- ELSE THE ADDRESS IS THAT OF THE PLACE THAT IT TAKES
-    pub lowest-by : (at-once .status ≡ Unsatisfied)
-        ⊎ ((p : ℕ) × Takes e (e .loans) size p × (at-once .status ≡ Successful) × (at-once .value ≡ addressIn e p))
-    lowest-by = rw get-by (go (places e g size z))
+    get-is : at-once ≡ decided (check (eqb size 0) InvalidSize ∷ []) (decided checks (by-place found))
+    unfolding byReceipts
+    get-is = rw q
+
+    -- the place that it takes would serve
+    chosen : (p : ℕ) → Takes e (e .loans) size alignment p → Serves (reading e) (spanIn e) (pageLoans e) (needIn e size alignment) p
+    chosen = law e .chosen-serves (g .fits) (pagesFor size (unit e)) (alignment / unit e)
+
+    -- THE ADDRESS IS A MULTIPLE OF THE ALIGNMENT: a get that succeeds has passed its checks
+    pub aligned-by : 0 < alignment → at-once .status ≡ Successful → at-once .value % alignment ≡ 0
+    unfolding Passed every
+    aligned-by o h =
+        let s = passed (check (eqb size 0) InvalidSize ∷ []) _ refl (ap (λ (r : Reply). r .status) (sym get-is) ∙ h) in
+        let u = passed checks _ refl (ap (λ (r : Reply). r .status) (sym (get-is ∙ s .1)) ∙ h) in
+        let a = allows e alignment (not-false (reading e .aligns alignment) (u .0 .0)) (not-false (isAlignment (unit e) alignment) (u .0 .1 .0)) in
+        let b : at-once ≡ by-place found = get-is ∙ s .1 ∙ u .1 in
+        rw b (go a (places e g size alignment (let y = eqb-false size 0 (s .0 .0) in omega arith)) (ap (λ (r : Reply). r .status) (sym b) ∙ h))
       where
-        go : {p : Place} → Places e size p
-            → (by-place p .status ≡ Unsatisfied) ⊎ ((i : ℕ) × Takes e (e .loans) size i × (by-place p .status ≡ Successful) × (by-place p .value ≡ addressIn e i))
-        go (takes i c o) = inr (i, c, refl, refl)
-        go (full f) = inl refl
+        go : Alignment e alignment → {p : Place} → Places e size alignment p → by-place p .status ≡ Successful → by-place p .value % alignment ≡ 0
+        go a (takes i c r) y = address-on e alignment a o i (law e .aligned alignment (a .known) o (spanIn e) (needIn e size alignment) i (chosen i c .starts))
+        go a (full f) y = absurd (let x : _≡_ {A = ℕ} 0 1 = cc in omega arith)
+
+    module _ (z : 0 < size) where
+      -- 11 EXACTLY WHERE THE KIND DOES NOT KNOW THE ALIGNMENT
+      pub undefined-by : (at-once .status ≡ NotDefined) ↔ (reading e .aligns alignment ≡ false)
+      unfolding decided
+      undefined-by =
+          rw (get-is, ne-eqb size 0 (λ (y : size ≡ 0). omega arith))
+          (by-case (reading e .aligns alignment)
+          (λ (b : Bool). (cond (not b) (no NotDefined) (known (isAlignment (unit e) alignment) (servableIn e size alignment) found) .status ≡ NotDefined) ↔ (b ≡ false))
+          (λ h. (λ y. absurd (other (isAlignment (unit e) alignment) (servableIn e size alignment) found y), λ y. absurd (true≢false y)))
+          (λ h. (λ y. refl, λ y. refl)))
+        where
+          known : Bool → Bool → Place → Reply
+          known b c p = cond (not b) (no InvalidSize) (cond (not c) (no InvalidSize) (by-place p))
+
+          other : (b c : Bool) (p : Place) → ¬ (known b c p .status ≡ NotDefined)
+          other false c p y = let x : _≡_ {A = ℕ} 0 1 = cc in omega arith
+          other true false p y = let x : _≡_ {A = ℕ} 0 1 = cc in omega arith
+          other true true (At i) y = let x : _≡_ {A = ℕ} 0 1 = cc in omega arith
+          other true true Nowhere y = let x : _≡_ {A = ℕ} 0 1 = cc in omega arith
+
+      -- on an alignment that the kind knows
+      serves : (servableIn e size alignment ≡ true) ↔ Servable e size alignment
+      serves = servable-claim e (g .some-unit) (g .some-page) size alignment z
+
+      abbrev by-tests : Bool → Bool → Reply
+      by-tests b c = cond (not b) (no InvalidSize) (cond (not c) (no InvalidSize) (by-place found))
+
+      get-known : reading e .aligns alignment ≡ true → at-once ≡ by-tests (isAlignment (unit e) alignment) (servableIn e size alignment)
+      unfolding decided
+      get-known k = get-is ∙ rw (ne-eqb size 0 (λ (y : size ≡ 0). omega arith), k)
+
+      -- 8 EXACTLY WHERE IT IS NOT ALLOWED, or no place would serve with nothing lent
+      pub invalid-by : reading e .aligns alignment ≡ true → (at-once .status ≡ InvalidSize) ↔ (¬ (Alignment e alignment × Servable e size alignment))
+      invalid-by k =
+          rw (get-known k)
+          (by-case (isAlignment (unit e) alignment) (λ (b : Bool). (by-tests b (servableIn e size alignment) .status ≡ InvalidSize) ↔ (¬ Fine))
+          (λ h. by-case (servableIn e size alignment) (λ (c : Bool). (by-tests true c .status ≡ InvalidSize) ↔ (¬ Fine))
+          (λ x. (λ y. absurd (other found y), λ f. absurd (f (allows e alignment k h, serves .0 x))))
+          (λ x. (λ y s. true≢false (sym (serves .1 (s .1)) ∙ x), λ f. refl)))
+          (λ h. (λ y s. true≢false (sym (allowed e alignment (s .0)) ∙ h), λ f. refl)))
+        where
+          Fine : Type 0
+          Fine = Alignment e alignment × Servable e size alignment
+
+          other : (p : Place) → ¬ (by-place p .status ≡ InvalidSize)
+          other (At i) y = let x : _≡_ {A = ℕ} 0 1 = cc in omega arith
+          other Nowhere y = let x : _≡_ {A = ℕ} 0 1 = cc in omega arith
+
+      -- on one that is allowed, where it could be served
+      module _ (a : Alignment e alignment) (h : Servable e size alignment) where
+        get-by : at-once ≡ by-place found
+        get-by = get-known (a .known) ∙ rw (allowed e alignment a, serves .1 h)
+
+        -- 13 EXACTLY WHEN NO PLACE WOULD SERVE
+        pub unsatisfied-by : (at-once .status ≡ Unsatisfied) ↔ Full e (e .loans) size alignment
+        unsatisfied-by = rw get-by (go (places e g size alignment z))
+          where
+            go : {p : Place} → Places e size alignment p → (by-place p .status ≡ Unsatisfied) ↔ Full e (e .loans) size alignment
+            go (takes i c o) = (
+              λ (x : Successful ≡ Unsatisfied). let y : _≡_ {A = ℕ} 0 1 = cc in absurd (omega arith),
+              λ f. absurd (f i (chosen i c)),
+            )
+            go (full f) = (λ x. f, λ x. refl)
+
+        -- ELSE THE ADDRESS IS THAT OF THE PLACE THAT IT TAKES
+        pub lowest-by : (at-once .status ≡ Unsatisfied)
+            ⊎ ((p : ℕ) × Takes e (e .loans) size alignment p × (at-once .status ≡ Successful) × (at-once .value ≡ addressIn e p))
+        lowest-by = rw get-by (go (places e g size alignment z))
+          where
+            go : {p : Place} → Places e size alignment p
+                → (by-place p .status ≡ Unsatisfied)
+                ⊎ ((i : ℕ) × Takes e (e .loans) size alignment i × (by-place p .status ≡ Successful) × (by-place p .value ≡ addressIn e i))
+            go (takes i c o) = inr (i, c, refl, refl)
+            go (full f) = inl refl
 
   -- INFORMATION
   pub information-by : byReceipts n t (RegionInformation id) ≡ informs (informationIn e)
