@@ -14,13 +14,14 @@ use Rattle.manager.specs.Result.{refused, done}
 use Rattle.manager.specs.Map.{Segment, freeSizes, sumOf, total}
 use Rattle.manager.specs.Kind.{allocate}
 use Rattle.manager.specs.Paged.{placeFrom, paged}
-use Rattle.manager.specs.Region.{firstPageOf, addressOf, pageAt, mapAt, segments, withSegments, heldAt, pagesOf, pagesAsked, placed, taken}
+use Rattle.manager.specs.Region.{firstPageOf, addressOf, pageAt, mapAt, segments, withSegments, heldAt, pagesOf, pagesAsked, needOf, placed, taken}
 use Rattle.manager.specs.Queue.{enqueue, dequeue}
 use Rattle.manager.specs.Kind.{onPlace}
 use Rattle.manager.specs.Partition.{setBefore, link}
 use Rattle.manager.specs.Regions.{informed}
 use Rattle.manager.specs.Access.{readSegment, writeSegment}
 use Rattle.manager.specs.Perform.{Implementation, perform, asked}
+use Rattle.manager.specs.declared.Need.{Need}
 use Rattle.manager.specs.declared.Region.{Region}
 use Rattle.manager.specs.declared.Partition.{Partition}
 use Rattle.manager.specs.declared.Notice.{Notice}
@@ -62,15 +63,15 @@ unfolding everything
 not-oneAddress = differs oneAddress (create ∷ get 64 ∷ get 64 ∷ []) refl
 
 -- 4. THE LAST FIT, from its high end: the map read backwards
-abbrev lastPlace : List Segment → ℕ → ℕ
-lastPlace s k = onPlace (placeFrom k 0 (reverse s)) (λ p. total s - k - p) 0
+abbrev lastPlace : List Segment → Need → ℕ
+lastPlace s w = onPlace (placeFrom w 0 (reverse s)) (λ p. total s - w .pages - p) 0
 
 abbrev lastFit : Implementation
 lastFit =
     but segment-get 0 λ m d c a.
     let r = regionOf d (asked c .id) in
-    let k = pagesAsked r (asked c .number) in
-    done (withSegments m r (reverse (allocate paged k 0 (reverse (segments m r))))) d (addressOf r (firstPageOf r + lastPlace (segments m r) k))
+    let w = needOf r (asked c .number) 0 in
+    done (withSegments m r (reverse (allocate paged w 0 (reverse (segments m r))))) d (addressOf r (firstPageOf r + lastPlace (segments m r) w))
 
 not-lastFit : ¬ Demand3 lastFit
 unfolding everything
@@ -92,8 +93,8 @@ abbrev wrappingSum : Implementation
 wrappingSum =
     but segment-get 8 λ m d c a.
     let r = regionOf d (asked c .id) in
-    let k = (asked c .number + (r .page - 1)) % 4294967296 / r .page in
-    onPlace (placed m r k) (λ p. done (taken m r k) d (addressOf r p)) a
+    let w : Need = record { pages = (asked c .number + (r .page - 1)) % 4294967296 / r .page; every = 0 } in
+    onPlace (placed m r w) (λ p. done (taken m r w) d (addressOf r p)) a
 
 not-wrappingSum : ¬ Demand3 wrappingSum
 unfolding everything
@@ -196,7 +197,7 @@ abbrev byArrival : Implementation
 byArrival = but region-create 0 λ m d c a. keeping a (withRegion (a .manager) (slotOf (a .value)) (arrived (regionOf (a .manager) (a .value))))
 
 abbrev wait-as : ℕ → ℕ → Ask
-wait-as task priority = call (GetSegment 1 64 Yes task priority 0)
+wait-as task priority = call (GetSegment 1 64 0 Yes task priority 0)
 
 not-byArrival : ¬ Demand3 byArrival
 unfolding everything

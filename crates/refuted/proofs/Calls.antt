@@ -16,10 +16,17 @@ abbrev pub createUneven : Ask
 createUneven = call (CreateRegion 1 53 136 64 Fifo)
 
 abbrev pub get : ℕ → Ask
-get size = call (GetSegment 1 size No 0 0 0)
+get size = call (GetSegment 1 size 0 No 0 0 0)
 
 abbrev pub wait : ℕ → ℕ → ℕ → Ask
-wait task size ticks = call (GetSegment 1 size Yes task 1 ticks)
+wait task size ticks = call (GetSegment 1 size 0 Yes task 1 ticks)
+
+-- on an alignment
+abbrev pub get-on : ℕ → ℕ → Ask
+get-on alignment size = call (GetSegment 1 size alignment No 0 0 0)
+
+abbrev pub wait-on : ℕ → ℕ → ℕ → ℕ → Ask
+wait-on alignment task size ticks = call (GetSegment 1 size alignment Yes task 1 ticks)
 
 abbrev pub return : ℕ → Ask
 return address = call (ReturnSegment 1 address)

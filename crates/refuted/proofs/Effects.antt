@@ -42,7 +42,7 @@ not-clearsLent : ¬ Demand1 clearsLent
 unfolding everything
 not-clearsLent =
     let s = reached (create ∷ []) in
-    writes-other clearsLent (s .memory) (s .manager) (GetSegment 1 64 No 0 0 0) 16 (whole refl refl refl) (λ x. omega arith) refl
+    writes-other clearsLent (s .memory) (s .manager) (GetSegment 1 64 0 No 0 0 0) 16 (whole refl refl refl) (λ x. omega arith) refl
 
 -- 33. A GET WRITES INTO ANOTHER'S SEGMENT: the page before the one that it lends
 abbrev clearsOther : Implementation
@@ -52,7 +52,7 @@ not-clearsOther : ¬ Demand1 clearsOther
 unfolding everything
 not-clearsOther =
     let s = reached (create ∷ get 64 ∷ []) in
-    writes-other clearsOther (s .memory) (s .manager) (GetSegment 1 64 No 0 0 0) 16 (whole refl refl refl) (λ x. omega arith) refl
+    writes-other clearsOther (s .memory) (s .manager) (GetSegment 1 64 0 No 0 0 0) 16 (whole refl refl refl) (λ x. omega arith) refl
 
 -- 34. A DELETE CLEARS THE MAP
 abbrev clearsMap : Implementation
@@ -116,7 +116,7 @@ not-refusalWithValue : ¬ Demand1 refusalWithValue
 unfolding everything
 not-refusalWithValue =
     let s = reached (create ∷ get 64 ∷ []) in
-    refuses-otherwise refusalWithValue (s .memory) (s .manager) (GetSegment 1 192 No 0 0 0) (λ a. a .value) refl refl
+    refuses-otherwise refusalWithValue (s .memory) (s .manager) (GetSegment 1 192 0 No 0 0 0) (λ a. a .value) refl refl
 
 -- 39. A RESIZE WITH 13 DOESN'T SAY THE OLD LENGTH
 abbrev resizeWithoutLength : Implementation
@@ -136,7 +136,7 @@ not-timeoutAnswered : ¬ Demand1 timeoutAnswered
 unfolding everything
 not-timeoutAnswered =
     let s = reached (create ∷ get 192 ∷ []) in
-    answers-otherwise timeoutAnswered (s .memory) (s .manager) (GetSegment 1 64 Yes 1 1 0) refl
+    answers-otherwise timeoutAnswered (s .memory) (s .manager) (GetSegment 1 64 0 Yes 1 1 0) refl
 
 -- 41. A DAMAGED RECORD ISN'T NOTICED: a get goes on where a map's word was overwritten
 abbrev damageUnnoticed : Implementation
@@ -149,7 +149,7 @@ not-damageUnnoticed : ¬ Demand1 damageUnnoticed
 unfolding everything
 not-damageUnnoticed =
     let s = reached (create ∷ []) in
-    passes-unsound damageUnnoticed (set (s .memory) 1 8) (s .manager) (GetSegment 1 64 No 0 0 0) refl refl
+    passes-unsound damageUnnoticed (set (s .memory) 1 8) (s .manager) (GetSegment 1 64 0 No 0 0 0) refl refl
 
 -- 42. A WAIT CHANGES MORE THAN THE QUEUE: a word of the memory
 abbrev waitWrites : Implementation
@@ -159,7 +159,7 @@ not-waitWrites : ¬ Demand1 waitWrites
 unfolding everything
 not-waitWrites h =
     let s = reached (create ∷ get 192 ∷ []) in
-    let z : _≡_ {A = ℕ} 1 9 = ap (λ (a : Result). getD (a .memory) 0 0) (h .call (s .memory) (s .manager) (GetSegment 1 64 Yes 1 1 0) .waits refl) in
+    let z : _≡_ {A = ℕ} 1 9 = ap (λ (a : Result). getD (a .memory) 0 0) (h .call (s .memory) (s .manager) (GetSegment 1 64 0 Yes 1 1 0) .waits refl) in
     omega arith
 
 -- 43. A WRITE GOES ONE WORD TOO FAR

@@ -13,7 +13,7 @@ use Rattle.manager.specs.Map.{Segment, free, held, total, sumOf}
 use Rattle.manager.specs.Kind.{onPlace}
 use Rattle.manager.specs.Paged.{placeFrom, changeFrom}
 use Rattle.manager.specs.Halves.{lowOf, highOf, isWhole, smallest, occupyBlock, join}
-use Rattle.manager.specs.Region.{firstPageOf, addressOf, pageAt, segments, withSegments, pagesAsked, placed, frees, helds}
+use Rattle.manager.specs.Region.{firstPageOf, addressOf, pageAt, segments, withSegments, pagesAsked, needOf, placed, frees, helds}
 use Rattle.manager.specs.Serve.{serve, fromServed}
 use Rattle.manager.specs.Regions.{informationOf, informed}
 use Rattle.manager.specs.Status.{numberOf}
@@ -48,9 +48,9 @@ abbrev lowestServes : Implementation
 lowestServes =
     but segment-get 0 λ m d c a.
     let r = regionOf d (asked c .id) in
-    let k = pagesAsked r (asked c .number) in
-    onPlace (placeFrom k (firstPageOf r) (segments m r))
-    (λ p. done (withSegments m r (occupyBlock p k (firstPageOf r) (segments m r))) d (addressOf r p)) a
+    let w = needOf r (asked c .number) 0 in
+    onPlace (placeFrom w (firstPageOf r) (segments m r))
+    (λ p. done (withSegments m r (occupyBlock p (w .pages) (firstPageOf r) (segments m r))) d (addressOf r p)) a
 
 not-lowestServes : ¬ Demand3 lowestServes
 unfolding everything
@@ -70,9 +70,10 @@ abbrev highGoesOn : Implementation
 highGoesOn =
     but segment-get 0 λ m d c a.
     let r = regionOf d (asked c .id) in
-    let k = pagesAsked r (asked c .number) in
+    let w = needOf r (asked c .number) 0 in
+    let k = w .pages in
     let s = segments m r in
-    onPlace (placed m r k) (λ p. done (withSegments m r (occupyUp p k (firstPageOf r) s)) d (addressOf r (p + smallest k s - k))) a
+    onPlace (placed m r w) (λ p. done (withSegments m r (occupyUp p k (firstPageOf r) s)) d (addressOf r (p + smallest k s - k))) a
 
 not-highGoesOn : ¬ Demand3 highGoesOn
 unfolding everything
@@ -83,7 +84,7 @@ abbrev roundsOn : Implementation
 roundsOn =
     but segment-get 0 λ m d c a.
     let r = regionOf d (asked c .id) in
-    perform m d (GetSegment (asked c .id) ((pagesAsked r (asked c .number) + 1) * r .page) No 0 0 0)
+    perform m d (GetSegment (asked c .id) ((pagesAsked r (asked c .number) + 1) * r .page) 0 No 0 0 0)
 
 not-roundsOn : ¬ Demand3 roundsOn
 unfolding everything

@@ -28,7 +28,7 @@ use Rattle.refuted.proofs.Effects.{reached}
 
 -- 50. THE GENERATION IS NOT COMPARED: a get goes to the region that is in the id's slot now
 abbrev opensAnother : Implementation
-opensAnother = but segment-get 4 λ m d c a. perform m d (GetSegment (regionId d (slotOf (asked c .id))) (asked c .number) No 0 0 0)
+opensAnother = but segment-get 4 λ m d c a. perform m d (GetSegment (regionId d (slotOf (asked c .id))) (asked c .number) 0 No 0 0 0)
 
 -- what is deleted is not answered 4 ever after
 not-opensAnother : ¬ Demand3 opensAnother
@@ -36,7 +36,7 @@ unfolding everything
 not-opensAnother h =
     let s = after-all opensAnother (create ∷ delete ∷ []) (start words) in
     let g = claimed opensAnother h (create ∷ []) .ids .gone (DeleteRegion 1) (region 1) (deletes-region 1 refl) _ (ran opensAnother (create ∷ []) s) in
-    let z : _≡_ {A = ℕ} 0 4 = ap numberOf (g .calls (GetSegment 1 64 No 0 0 0) (by-get 1 64 No 0 0 0 (λ e. omega arith))) in
+    let z : _≡_ {A = ℕ} 0 4 = ap numberOf (g .calls (GetSegment 1 64 0 No 0 0 0) (by-get 1 64 0 No 0 0 0 (λ e. omega arith))) in
     omega arith
 
 -- 51. AN ID IS USED AGAIN: a delete does not raise the generation
@@ -81,10 +81,10 @@ two-wait =
     ∷ call (DeleteRegion 1)
     ∷ call (CreateRegion 1 4 124 64 Fifo)
     ∷ call (CreateRegion 2 128 128 64 Fifo)
-    ∷ call (GetSegment 17 64 No 0 0 0)
-    ∷ call (GetSegment 2 64 No 0 0 0)
-    ∷ call (GetSegment 2 64 Yes 1 1 1)
-    ∷ call (GetSegment 17 64 Yes 2 1 1)
+    ∷ call (GetSegment 17 64 0 No 0 0 0)
+    ∷ call (GetSegment 2 64 0 No 0 0 0)
+    ∷ call (GetSegment 2 64 0 Yes 1 1 1)
+    ∷ call (GetSegment 17 64 0 Yes 2 1 1)
     ∷ clock
     ∷ []
 

@@ -8,3 +8,4 @@ pub mod Ids
 pub mod Names
 pub mod Serving
 pub mod Halves
+pub mod Alignment

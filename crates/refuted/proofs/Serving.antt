@@ -35,17 +35,17 @@ blocked = get 64 ∷ get 128 ∷ wait 1 192 1 ∷ wait 2 64 0 ∷ return 64 ∷ 
 
 -- a waiter put into the queue of region id, beside room
 abbrev besides : Manager → ℕ → ℕ → ℕ → ℕ → Manager
-besides d id task size ticks = enqueue d (record { task = task; region = id; size = size; priority = 1; ticks = ticks })
+besides d id task size ticks = enqueue d (record { task = task; region = id; size = size; alignment = 0; priority = 1; ticks = ticks })
 
 -- two regions of 6 pages of 16 bytes, at 32 and at 160
 abbrev two : List Ask
 two = call (CreateRegion 1 4 124 16 Fifo) ∷ call (CreateRegion 2 128 128 16 Fifo) ∷ []
 
 abbrev get-in : ℕ → ℕ → Ask
-get-in id size = call (GetSegment id size No 0 0 0)
+get-in id size = call (GetSegment id size 0 No 0 0 0)
 
 abbrev wait-in : ℕ → ℕ → ℕ → ℕ → Ask
-wait-in id task size ticks = call (GetSegment id size Yes task 1 ticks)
+wait-in id task size ticks = call (GetSegment id size 0 Yes task 1 ticks)
 
 -- in each of them as above: the first of two waiters is sent away at the next tick, and the second fits then
 abbrev blocked-in : ℕ → ℕ → ℕ → List Ask

@@ -27,7 +27,7 @@ abbrev pub region-delete : Call
 region-delete = DeleteRegion 0
 
 abbrev pub segment-get : Call
-segment-get = GetSegment 0 0 No 0 0 0
+segment-get = GetSegment 0 0 0 No 0 0 0
 
 abbrev pub segment-return : Call
 segment-return = ReturnSegment 0 0
