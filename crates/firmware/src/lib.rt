@@ -79,7 +79,7 @@ pub extern "C" fn sc_region_delete(
     run_call(state, memory, answer, Call::DeleteRegion { id })
 }
 
-// Gets a segment, or waits for one.
+// Gets a segment that starts on an alignment, or waits for one.
 #[no_mangle]
 pub extern "C" fn sc_region_get_segment(
     state: &mut [u32],
@@ -87,12 +87,13 @@ pub extern "C" fn sc_region_get_segment(
     answer: &mut [u32],
     id: u32,
     size: u32,
+    alignment: u32,
     wait: u32,
     task: u32,
     priority: u32,
     ticks: u32,
 ) -> u32
-    ensures { λ r. ⌜ Leaves (chosen 1 wait (now (state .entry)) (now (memory .entry)) (now (answer .entry)) (Call.GetSegment id size (waitAt wait) task priority ticks))
+    ensures { λ r. ⌜ Leaves (chosen 1 wait (now (state .entry)) (now (memory .entry)) (now (answer .entry)) (Call.GetSegment id size alignment (waitAt wait) task priority ticks))
         (now (state .exit)) (now (memory .exit)) (now (answer .exit)) r ⌝ }
 {
     if 1 < wait {
@@ -106,6 +107,7 @@ pub extern "C" fn sc_region_get_segment(
         Call::GetSegment {
             id,
             size,
+            alignment,
             wait,
             task,
             priority,

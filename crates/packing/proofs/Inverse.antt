@@ -75,7 +75,7 @@ module _ (pre post : List ℕ) where
       rw (here (p .name) _, at-place ws 1, at-place ws 2, at-place ws 3, at-place ws 4, at-place ws 5, at-place ws 6, at-place ws 7)
 
   waiter-back : (q : Waiter) → waiterAt (pre ++ (waiterWords q ++ post)) (length pre) ≡ q
-  waiter-back q = let ws = waiterWords q ++ post in rw (here (q .task) _, at-place ws 1, at-place ws 2, at-place ws 3, at-place ws 4)
+  waiter-back q = let ws = waiterWords q ++ post in rw (here (q .task) _, at-place ws 1, at-place ws 2, at-place ws 3, at-place ws 4, at-place ws 5)
 
 -- the choices that were packed are choices
 choices-back : (l : List Region) (n i : ℕ) (pre post : List ℕ) → length l ≡ n → length pre ≡ i → choices n (pre ++ (allWords regionWords l ++ post)) i ≡ true
@@ -143,22 +143,14 @@ module _ (ws : List ℕ) where
   words-from : (i n : ℕ) → i + suc n ≤ length ws → take (suc n) (drop i ws) ≡ getD ws i 0 ∷ take n (drop (i + 1) ws)
   words-from i n h = rw (drop-cons ws i 0 (omega arith), add-one)
 
-  five-from : (i : ℕ) → i + 5 ≤ length ws
-      → take 5 (drop i ws) ≡ getD ws i 0 ∷ getD ws (i + 1) 0 ∷ getD ws (i + 2) 0 ∷ getD ws (i + 3) 0 ∷ getD ws (i + 4) 0 ∷ []
-  five-from i h =
-      let e₂ : i + 1 + 1 ≡ i + 2 = omega arith in
-      let e₃ : i + 2 + 1 ≡ i + 3 = omega arith in
-      let e₄ : i + 3 + 1 ≡ i + 4 = omega arith in
-      rw (words-from i 4 h, words-from (i + 1) 3 (omega arith), e₂, words-from (i + 2) 2 (omega arith), e₃, words-from (i + 3) 1 (omega arith), e₄, words-from (i + 4) 0 (omega arith))
-
   six-from : (i : ℕ) → i + 6 ≤ length ws
       → take 6 (drop i ws) ≡ getD ws i 0 ∷ getD ws (i + 1) 0 ∷ getD ws (i + 2) 0 ∷ getD ws (i + 3) 0 ∷ getD ws (i + 4) 0 ∷ getD ws (i + 5) 0 ∷ []
   six-from i h =
       let e₁ : i + 1 + 1 ≡ i + 2 = omega arith in
-      let e₂ : i + 1 + 2 ≡ i + 3 = omega arith in
-      let e₃ : i + 1 + 3 ≡ i + 4 = omega arith in
-      let e₄ : i + 1 + 4 ≡ i + 5 = omega arith in
-      rw (words-from i 5 h, five-from (i + 1) (omega arith), e₁, e₂, e₃, e₄)
+      let e₂ : i + 2 + 1 ≡ i + 3 = omega arith in
+      let e₃ : i + 3 + 1 ≡ i + 4 = omega arith in
+      let e₄ : i + 4 + 1 ≡ i + 5 = omega arith in
+      rw (words-from i 5 h, words-from (i + 1) 4 (omega arith), e₁, words-from (i + 2) 3 (omega arith), e₂, words-from (i + 3) 2 (omega arith), e₃, words-from (i + 4) 1 (omega arith), e₄, words-from (i + 5) 0 (omega arith))
 
   eight-from : (i : ℕ) → i + 8 ≤ length ws
       → take 8 (drop i ws)
@@ -186,7 +178,7 @@ module _ (ws : List ℕ) where
   partition-again i h = sym (eight-from i h)
 
   waiter-again : (i : ℕ) → i + waiterSize ≤ length ws → waiterWords (waiterAt ws i) ≡ take waiterSize (drop i ws)
-  waiter-again i h = sym (five-from i h)
+  waiter-again i h = sym (six-from i h)
 
   module _ {A : Type 0} (f : A → List ℕ) (g : List ℕ → ℕ → A) (size : ℕ) where
     all-again : (n i : ℕ) → ((k : ℕ) → k < n → f (g ws (i + size * k)) ≡ take size (drop (i + size * k) ws))

@@ -153,28 +153,24 @@ module _ {A : Type 0} (f : A → List ℕ) (size n base : ℕ) (l : List A) (ws�
     put-end h = let past : length l ≤ k = omega (arith, v .some) in rw (drop-of-length-le l {i = k} past) at (v .rest)
 
 -- the words of one element, stored one by one
-module _ (ws : List ℕ) (at a b c d e : ℕ) where
-  abbrev five : List ℕ
-  five = set (set (set (set (set ws at a) (at + 1) b) (at + 2) c) (at + 3) d) (at + 4) e
+module _ (ws : List ℕ) (at a b c d e f : ℕ) where
+  abbrev six : List ℕ
+  six = set (set (set (set (set (set ws at a) (at + 1) b) (at + 2) c) (at + 3) d) (at + 4) e) (at + 5) f
 
-  store-five : five ≡ sets ws at (a ∷ b ∷ c ∷ d ∷ e ∷ [])
-  store-five =
+  store-six : six ≡ sets ws at (a ∷ b ∷ c ∷ d ∷ e ∷ f ∷ [])
+  store-six =
       let i₁ : at + 1 ≡ suc at = omega arith in
       let i₂ : at + 2 ≡ suc (suc at) = omega arith in
       let i₃ : at + 3 ≡ suc (suc (suc at)) = omega arith in
       let i₄ : at + 4 ≡ suc (suc (suc (suc at))) = omega arith in
-      rw (i₁, i₂, i₃, i₄)
-
-  store-six : (f : ℕ) → set five (at + 5) f ≡ sets ws at (a ∷ b ∷ c ∷ d ∷ e ∷ f ∷ [])
-  store-six f =
       let i₅ : at + 5 ≡ suc (suc (suc (suc (suc at)))) = omega arith in
-      rw (store-five, i₅)
+      rw (i₁, i₂, i₃, i₄, i₅)
 
-  store-eight : (f g h : ℕ) → set (set (set five (at + 5) f) (at + 6) g) (at + 7) h ≡ sets ws at (a ∷ b ∷ c ∷ d ∷ e ∷ f ∷ g ∷ h ∷ [])
-  store-eight f g h =
+  store-eight : (g h : ℕ) → set (set six (at + 6) g) (at + 7) h ≡ sets ws at (a ∷ b ∷ c ∷ d ∷ e ∷ f ∷ g ∷ h ∷ [])
+  store-eight g h =
       let i₆ : at + 6 ≡ suc (suc (suc (suc (suc (suc at))))) = omega arith in
       let i₇ : at + 7 ≡ suc (suc (suc (suc (suc (suc (suc at)))))) = omega arith in
-      rw (store-six f, i₆, i₇)
+      rw (store-six, i₆, i₇)
 
 -- a region put, its choice by itself
 pub region-put : (ws : List ℕ) (at : ℕ) (r : Region) (w : ℕ) → w ≡ orderWord (r .order)
@@ -189,8 +185,9 @@ pub partition-put : (ws : List ℕ) (at : ℕ) (p : Partition)
 partition-put ws at p = store-eight ws at (p .name) (p .generation) (p .start) (p .length) (p .size) (p .front) (p .rear) (p .free)
 
 pub waiter-put : (ws : List ℕ) (at : ℕ) (w : Waiter)
-    → set (set (set (set (set ws at (w .task)) (at + 1) (w .region)) (at + 2) (w .size)) (at + 3) (w .priority)) (at + 4) (w .ticks) ≡ sets ws at (waiterWords w)
-waiter-put ws at w = store-five ws at (w .task) (w .region) (w .size) (w .priority) (w .ticks)
+    → set (set (set (set (set (set ws at (w .task)) (at + 1) (w .region)) (at + 2) (w .size)) (at + 3) (w .alignment)) (at + 4) (w .priority)) (at + 5) (w .ticks)
+    ≡ sets ws at (waiterWords w)
+waiter-put ws at w = store-six ws at (w .task) (w .region) (w .size) (w .alignment) (w .priority) (w .ticks)
 
 -- words put leave as many
 pub as-many : (ws ws′ vs : List ℕ) (i n : ℕ) → ws′ ≡ sets ws i vs → length ws ≡ n → length ws′ ≡ n

@@ -22,7 +22,7 @@ abbrev pub partitionSize : ℕ
 partitionSize = 8
 
 abbrev pub waiterSize : ℕ
-waiterSize = 5
+waiterSize = 6
 
 -- where the partitions and the waiters start, and how many words a record has
 abbrev pub partitionsAt : ℕ
@@ -58,7 +58,7 @@ abbrev pub partitionWords : Partition → List ℕ
 partitionWords p = p .name ∷ p .generation ∷ p .start ∷ p .length ∷ p .size ∷ p .front ∷ p .rear ∷ p .free ∷ []
 
 abbrev pub waiterWords : Waiter → List ℕ
-waiterWords w = w .task ∷ w .region ∷ w .size ∷ w .priority ∷ w .ticks ∷ []
+waiterWords w = w .task ∷ w .region ∷ w .size ∷ w .alignment ∷ w .priority ∷ w .ticks ∷ []
 
 module _ {A : Type 0} where
   -- the words of all elements
@@ -100,7 +100,14 @@ partitionAt ws i =
 
 abbrev pub waiterAt : List ℕ → ℕ → Waiter
 waiterAt ws i =
-    record { task = getD ws i 0; region = getD ws (i + 1) 0; size = getD ws (i + 2) 0; priority = getD ws (i + 3) 0; ticks = getD ws (i + 4) 0 }
+    record {
+      task = getD ws i 0;
+      region = getD ws (i + 1) 0;
+      size = getD ws (i + 2) 0;
+      alignment = getD ws (i + 3) 0;
+      priority = getD ws (i + 4) 0;
+      ticks = getD ws (i + 5) 0;
+    }
 
 -- the words say a record: their number is right, and each order is one
 unfoldable pub choices : ℕ → List ℕ → ℕ → Bool

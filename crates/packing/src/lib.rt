@@ -50,7 +50,7 @@ pub(crate) const REGION_SIZE: usize = 6;
 
 pub(crate) const PARTITION_SIZE: usize = 8;
 
-pub(crate) const WAITER_SIZE: usize = 5;
+pub(crate) const WAITER_SIZE: usize = 6;
 
 // Where the words of the partitions and of the waiters start, and how many words a record has.
 pub(crate) const PARTITIONS_AT: usize = REGION_SIZE * Manager::SLOTS;

@@ -74,8 +74,9 @@ fn waiter(words: &[u32], at: usize) -> Waiter
         task: words[at],
         region: words[at + 1],
         size: words[at + 2],
-        priority: words[at + 3],
-        ticks: words[at + 4],
+        alignment: words[at + 3],
+        priority: words[at + 4],
+        ticks: words[at + 5],
     }
 }
 

@@ -64,8 +64,9 @@ fn waiter(words: &mut [u32], at: usize, w: Waiter)
     words[at] = w.task;
     words[at + 1] = w.region;
     words[at + 2] = w.size;
-    words[at + 3] = w.priority;
-    words[at + 4] = w.ticks;
+    words[at + 3] = w.alignment;
+    words[at + 4] = w.priority;
+    words[at + 5] = w.ticks;
 }
 
 pub(crate) fn regions(words: &mut [u32], all: [Region; Manager::SLOTS])

@@ -14,15 +14,28 @@ use mathlib.Core.Option.{some}
 
 -- the whole case
 abbrev wholeCase : List Call
-wholeCase = CreateRegion 1 4 1020 64 Fifo ∷ GetSegment 1 65 No 0 0 0 ∷ []
+wholeCase = CreateRegion 1 4 1020 64 Fifo ∷ GetSegment 1 65 0 No 0 0 0 ∷ []
 
-pub whole-case : readAll (bytes "call=create-region\nname=1\nstart=4\nlength=1020\npage=64\norder=0\ncall=get\nid=1\nsize=65\nwait=0\ntask=0\npriority=0\nticks=0\n") ≡ whole wholeCase
+pub whole-case : readAll (bytes "call=create-region\nname=1\nstart=4\nlength=1020\npage=64\norder=0\ncall=get\nid=1\nsize=65\nalign=0\nwait=0\ntask=0\npriority=0\nticks=0\n") ≡ whole wholeCase
 unfolding readAll readFrom readCall findRow keyAt numbersFrom fieldAt lineFrom starts numberOf numberAfter
 whole-case = refl
 
-pub whole-written : writeAll wholeCase ≡ bytes "call=create-region\nname=1\nstart=4\nlength=1020\npage=64\norder=0\ncall=get\nid=1\nsize=65\nwait=0\ntask=0\npriority=0\nticks=0\n"
+pub whole-written : writeAll wholeCase ≡ bytes "call=create-region\nname=1\nstart=4\nlength=1020\npage=64\norder=0\ncall=get\nid=1\nsize=65\nalign=0\nwait=0\ntask=0\npriority=0\nticks=0\n"
 unfolding writeAll write writeFields lineOf decimal digits
 whole-written = refl
+
+-- get's alignment comes directly behind its size: not before it, and it is not left out
+pub aligned : readAll (bytes "call=get\nid=1\nsize=65\nalign=256\nwait=0\ntask=0\npriority=0\nticks=0\n") ≡ whole (GetSegment 1 65 256 No 0 0 0 ∷ [])
+unfolding readAll readFrom readCall findRow keyAt numbersFrom fieldAt lineFrom starts numberOf numberAfter
+aligned = refl
+
+pub aligned-before : readAll (bytes "call=get\nid=1\nalign=256\nsize=65\nwait=0\ntask=0\npriority=0\nticks=0\n") ≡ record { calls = []; bad = some 14 }
+unfolding readAll readFrom readCall findRow keyAt numbersFrom fieldAt lineFrom starts numberOf numberAfter
+aligned-before = refl
+
+pub not-aligned : readAll (bytes "call=get\nid=1\nsize=65\nwait=0\ntask=0\npriority=0\nticks=0\n") ≡ record { calls = []; bad = some 22 }
+unfolding readAll readFrom readCall findRow keyAt numbersFrom fieldAt lineFrom starts numberOf numberAfter
+not-aligned = refl
 
 -- an empty script has no calls
 pub empty : readAll [] ≡ whole []

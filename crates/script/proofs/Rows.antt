@@ -112,7 +112,7 @@ unfolding Makes
 makes-get vs h =
     record {
       its-row = refl;
-      its-numbers = rw (wait-back (getD vs 2 0) (fit-at (getSegmentRow .keys) vs h 2 (omega arith))) (spread-fit (getSegmentRow .keys) vs h);
+      its-numbers = rw (wait-back (getD vs 3 0) (fit-at (getSegmentRow .keys) vs h 3 (omega arith))) (spread-fit (getSegmentRow .keys) vs h);
     }
 
 each-makes : All Makes calls
@@ -152,7 +152,7 @@ listed (DeleteRegion i) = at-place (DeleteRegion i) 4 (omega arith) refl refl
 listed (DeletePartition i) = at-place (DeletePartition i) 5 (omega arith) refl refl
 listed (RegionInformation i) = at-place (RegionInformation i) 6 (omega arith) refl refl
 listed (GetBuffer i) = at-place (GetBuffer i) 7 (omega arith) refl refl
-listed (GetSegment i z w t p k) = at-place (GetSegment i z w t p k) 8 (omega arith) refl (rw (wait-there w))
+listed (GetSegment i z l w t p k) = at-place (GetSegment i z l w t p k) 8 (omega arith) refl (rw (wait-there w))
 listed (ReturnSegment i a) = at-place (ReturnSegment i a) 9 (omega arith) refl refl
 listed (SegmentSize i a) = at-place (SegmentSize i a) 10 (omega arith) refl refl
 listed (ReturnBuffer i a) = at-place (ReturnBuffer i a) 11 (omega arith) refl refl

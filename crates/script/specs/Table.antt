@@ -48,6 +48,10 @@ idKey = key "id" largest
 abbrev pub sizeKey : Key
 sizeKey = key "size" largest
 
+-- "In scripts the key comes after size"
+abbrev pub alignKey : Key
+alignKey = key "align" largest
+
 -- "wait 0 or 1"
 abbrev pub waitKey : Key
 waitKey = key "wait" 1
@@ -66,7 +70,7 @@ addressKey = key "address" largest
 
 abbrev pub keys : List Key
 keys =
-    nameKey ∷ startKey ∷ lengthKey ∷ pageKey ∷ orderKey ∷ idKey ∷ sizeKey ∷ waitKey ∷ taskKey ∷ priorityKey ∷ ticksKey ∷ addressKey ∷ []
+    nameKey ∷ startKey ∷ lengthKey ∷ pageKey ∷ orderKey ∷ idKey ∷ sizeKey ∷ alignKey ∷ waitKey ∷ taskKey ∷ priorityKey ∷ ticksKey ∷ addressKey ∷ []
 
 abbrev pub noKey : Key
 noKey = record { text = []; most = 0 }
@@ -129,7 +133,7 @@ abbrev pub getBufferRow : Row
 getBufferRow = row "get-buffer" (idKey ∷ []) one λ v. GetBuffer (number v 0)
 
 abbrev pub getSegmentRow : Row
-getSegmentRow = row "get" (idKey ∷ sizeKey ∷ waitKey ∷ taskKey ∷ priorityKey ∷ ticksKey ∷ []) one λ v. GetSegment (number v 0) (number v 1) (waitOf (number v 2)) (number v 3) (number v 4) (number v 5)
+getSegmentRow = row "get" (idKey ∷ sizeKey ∷ alignKey ∷ waitKey ∷ taskKey ∷ priorityKey ∷ ticksKey ∷ []) one λ v. GetSegment (number v 0) (number v 1) (number v 2) (waitOf (number v 3)) (number v 4) (number v 5) (number v 6)
 
 abbrev pub returnSegmentRow : Row
 returnSegmentRow = row "return" (idKey ∷ addressKey ∷ []) one λ v. ReturnSegment (number v 0) (number v 1)
@@ -196,7 +200,7 @@ filled (DeleteRegion i) = fill deleteRegionRow (i ∷ [])
 filled (DeletePartition i) = fill deletePartitionRow (i ∷ [])
 filled (RegionInformation i) = fill informationRow (i ∷ [])
 filled (GetBuffer i) = fill getBufferRow (i ∷ [])
-filled (GetSegment i z w t p k) = fill getSegmentRow (i ∷ z ∷ waitNumber w ∷ t ∷ p ∷ k ∷ [])
+filled (GetSegment i z l w t p k) = fill getSegmentRow (i ∷ z ∷ l ∷ waitNumber w ∷ t ∷ p ∷ k ∷ [])
 filled (ReturnSegment i a) = fill returnSegmentRow (i ∷ a ∷ [])
 filled (SegmentSize i a) = fill segmentSizeRow (i ∷ a ∷ [])
 filled (ReturnBuffer i a) = fill returnBufferRow (i ∷ a ∷ [])

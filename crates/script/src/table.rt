@@ -10,17 +10,18 @@ ghost use lib.ListN.{length, getD};
 ghost use Rattle.script.specs.Table.{calls, noRow, orderOf, waitOf};
 
 // The keys, and the largest number of each.
-pub(crate) const KEY_TEXT: [u8; 70] =
-    *b"name=start=length=page=order=id=size=wait=task=priority=ticks=address=";
+pub(crate) const KEY_TEXT: [u8; 76] =
+    *b"name=start=length=page=order=id=size=align=wait=task=priority=ticks=address=";
 
-pub(crate) const KEY_FROM: [usize; 13] = [0, 5, 11, 18, 23, 29, 32, 37, 42, 47, 56, 62, 70];
+pub(crate) const KEY_FROM: [usize; 14] = [0, 5, 11, 18, 23, 29, 32, 37, 43, 48, 53, 62, 68, 76];
 
-pub(crate) const MOST: [u32; 12] = [
+pub(crate) const MOST: [u32; 13] = [
     4294967295,
     4294967295,
     4294967295,
     4294967295,
     3,
+    4294967295,
     4294967295,
     4294967295,
     1,
@@ -85,7 +86,7 @@ pub(crate) const SIX_VALUES: [bool; CALLS] = [
     false,
 ];
 
-pub(crate) const SEQUENCE: [usize; 30] = [
+pub(crate) const SEQUENCE: [usize; 31] = [
     0,
     1,
     2,
@@ -107,14 +108,15 @@ pub(crate) const SEQUENCE: [usize; 30] = [
     8,
     9,
     10,
-    5,
     11,
     5,
-    11,
+    12,
     5,
-    11,
+    12,
     5,
-    11,
+    12,
+    5,
+    12,
     6,
 ];
 
@@ -128,12 +130,12 @@ pub(crate) const SEQUENCE_FROM: [usize; 15] = [
     13,
     14,
     15,
-    21,
-    23,
-    25,
-    27,
-    30,
-    30,
+    22,
+    24,
+    26,
+    28,
+    31,
+    31,
 ];
 
 fn order_of(n: u32) -> Order
@@ -169,10 +171,11 @@ fn memory_call(k: usize, v: &[u32; 8]) -> Call
         8 => Call::GetSegment {
             id,
             size: v[1],
-            wait: wait_of(v[2]),
-            task: v[3],
-            priority: v[4],
-            ticks: v[5],
+            alignment: v[2],
+            wait: wait_of(v[3]),
+            task: v[4],
+            priority: v[5],
+            ticks: v[6],
         },
         9 => Call::ReturnSegment { id, address },
         10 => Call::SegmentSize { id, address },

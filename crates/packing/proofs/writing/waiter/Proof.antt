@@ -48,6 +48,15 @@ mul-words-5 c = search needs
 slice-write-words-5 : tie.Need-slice-write-words-5
 slice-write-words-5 c = simp length-set (omega (arith, c .pre))
 
+add-words-5 : tie.Need-add-words-5
+add-words-5 c = search needs
+
+mul-words-6 : tie.Need-mul-words-6
+mul-words-6 c = search needs
+
+slice-write-words-6 : tie.Need-slice-write-words-6
+slice-write-words-6 c = simp length-set (omega (arith, c .pre))
+
 same-length : tie.Need-same-length
 same-length c = search needs
 
@@ -72,5 +81,8 @@ waiter-spec =
     add-words-4
     mul-words-5
     slice-write-words-5
+    add-words-5
+    mul-words-6
+    slice-write-words-6
     same-length
     returns)
