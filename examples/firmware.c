@@ -1,6 +1,7 @@
 /* What a firmware does with the library: a region with tasks that wait, whom a resize, a tick and a
  * return serve or whose time runs out, a partition, a name that is taken, a region by halves,
- * taking them down again, an old id that opens nothing, and a gauge of a region with an alarm. */
+ * taking them down again, an old id that opens nothing, a gauge of a region with an alarm, and
+ * segments on wider boundaries than a page. */
 #include <stdio.h>
 #include <stdlib.h>
 
@@ -42,7 +43,7 @@ static void segments(uint32_t region)
     uint32_t frame;
     size_t words;
 
-    say("get 960 bytes", scm_region_get_segment(&manager, region, 960, SC_NO_WAIT, 0, 0, 0));
+    say("get 960 bytes", scm_region_get_segment(&manager, region, 960, 0, SC_NO_WAIT, 0, 0, 0));
     frame = answer(SC_ANSWER_VALUE);
     say("its size", scm_region_get_segment_size(&manager, region, frame));
     printf("write 3 words: status %u\n",
@@ -52,21 +53,22 @@ static void segments(uint32_t region)
            (unsigned)back[1], (unsigned)back[2], (unsigned)back[3]);
 
     say("task 3 waits for 640 bytes",
-        scm_region_get_segment(&manager, region, 640, SC_WAIT, 3, 20, 0));
+        scm_region_get_segment(&manager, region, 640, 0, SC_WAIT, 3, 20, 0));
     say("task 5 waits for 64 bytes, more urgent",
-        scm_region_get_segment(&manager, region, 64, SC_WAIT, 5, 10, 0));
-    say("task 6 waits one tick", scm_region_get_segment(&manager, region, 64, SC_WAIT, 6, 30, 1));
+        scm_region_get_segment(&manager, region, 64, 0, SC_WAIT, 5, 10, 0));
+    say("task 6 waits one tick",
+        scm_region_get_segment(&manager, region, 64, 0, SC_WAIT, 6, 30, 1));
     say("tick", scm_clock_tick(&manager));
     say("shrink the frame to 896 bytes", scm_region_resize_segment(&manager, region, frame, 896));
     say("task 7 waits one tick for 960 bytes, before task 3",
-        scm_region_get_segment(&manager, region, 960, SC_WAIT, 7, 10, 1));
+        scm_region_get_segment(&manager, region, 960, 0, SC_WAIT, 7, 10, 1));
     say("return the frame", scm_region_return_segment(&manager, region, frame));
     say("tick", scm_clock_tick(&manager));
     say("shrink task 3's to 100 bytes", scm_region_resize_segment(&manager, region, 64, 100));
     say_information(region);
     say("delete the region", scm_region_delete(&manager, region));
     say("task 8 waits for 832 bytes",
-        scm_region_get_segment(&manager, region, 832, SC_WAIT, 8, 20, 0));
+        scm_region_get_segment(&manager, region, 832, 0, SC_WAIT, 8, 20, 0));
     say("return task 5's", scm_region_return_segment(&manager, region, 960));
     say("return task 3's", scm_region_return_segment(&manager, region, 64));
     say("return task 8's", scm_region_return_segment(&manager, region, 192));
@@ -86,7 +88,7 @@ static void buffers(uint32_t partition)
 
 static void get_by_halves(const char *what, uint32_t region, uint32_t size)
 {
-    say(what, scm_region_get_segment(&manager, region, size, SC_NO_WAIT, 0, 0, 0));
+    say(what, scm_region_get_segment(&manager, region, size, 0, SC_NO_WAIT, 0, 0, 0));
 }
 
 /* A region by halves, of 16 pages from 4224 on. Its blocks join when they have come back, and only
@@ -101,12 +103,14 @@ static void halves(void)
     get_by_halves("get 1 page", region, 64);
     get_by_halves("get 3 pages", region, 192);
     get_by_halves("get 2 pages", region, 128);
+    say("get 1 page on a multiple of 128",
+        scm_region_get_segment(&manager, region, 64, 128, SC_NO_WAIT, 0, 0, 0));
     say("the size of the second", scm_region_get_segment_size(&manager, region, 4480));
     say_information(region);
     say("resize it to 200 bytes", scm_region_resize_segment(&manager, region, 4480, 200));
     say("resize it to 128 bytes", scm_region_resize_segment(&manager, region, 4480, 128));
     say("task 3 waits for 1024 bytes",
-        scm_region_get_segment(&manager, region, 1024, SC_WAIT, 3, 1, 0));
+        scm_region_get_segment(&manager, region, 1024, 0, SC_WAIT, 3, 1, 0));
     say("return the first", scm_region_return_segment(&manager, region, 4224));
     say("return the second", scm_region_return_segment(&manager, region, 4480));
     say_information(region);
@@ -140,7 +144,7 @@ static void gauges(void)
 
     say("create region for a gauge", scm_region_create(&manager, 4, 8192, 1088, 64, SC_FIFO));
     region = answer(SC_ANSWER_VALUE);
-    say("get all of it", scm_region_get_segment(&manager, region, 1024, SC_NO_WAIT, 0, 0, 0));
+    say("get all of it", scm_region_get_segment(&manager, region, 1024, 0, SC_NO_WAIT, 0, 0, 0));
     read_gauge("read the gauge, alarm above 0.25", &gauge, region, 0.25);
     read_gauge("read it again", &gauge, region, 0.25);
     say("shrink to a half", scm_region_resize_segment(&manager, region, 8256, 512));
@@ -155,6 +159,37 @@ static void gauges(void)
     say_gauge("read 2 of 3 bytes, alarm below 0.5",
               scm_gauge_read(&gauge, SC_BELOW, 0.5, 0, 2, 3), &gauge);
     say_gauge("read a total of 0", scm_gauge_read(&gauge, SC_BELOW, 0.5, 0, 0, 0), &gauge);
+}
+
+static void get_on(const char *what, uint32_t region, uint32_t size, uint32_t alignment)
+{
+    say(what, scm_region_get_segment(&manager, region, size, alignment, SC_NO_WAIT, 0, 0, 0));
+}
+
+/* A region of 15 pages of 64 bytes from 12352 on, for a link that wants multiples of 256: the first
+ * is 12544. The room before it serves others. Task 4 wants 704 bytes on such a multiple: it waits
+ * beside 11 free pages, since too few of them are behind 12800, and gets 12544 when that is
+ * returned. */
+static void alignments(void)
+{
+    uint32_t region, first;
+
+    say("create region for a link", scm_region_create(&manager, 5, 12292, 1020, 64, SC_FIFO));
+    region = answer(SC_ANSWER_VALUE);
+    get_on("get 64 bytes on a multiple of 256", region, 64, 256);
+    first = answer(SC_ANSWER_VALUE);
+    say_information(region);
+    get_on("get 192 bytes anywhere", region, 192, 0);
+    get_on("get 64 bytes on a multiple of 100", region, 64, 100);
+    get_on("get 64 bytes on a multiple of 1024, which no page is", region, 64, 1024);
+    get_on("get 704 bytes on a multiple of 256", region, 704, 256);
+    say("task 4 waits for them",
+        scm_region_get_segment(&manager, region, 704, 256, SC_WAIT, 4, 1, 0));
+    say("return the first", scm_region_return_segment(&manager, region, first));
+    say("shrink task 4's to 64 bytes", scm_region_resize_segment(&manager, region, first, 64));
+    say("return it", scm_region_return_segment(&manager, region, first));
+    say("return the 192 bytes", scm_region_return_segment(&manager, region, 12352));
+    say("delete the region for a link", scm_region_delete(&manager, region));
 }
 
 int main(void)
@@ -172,14 +207,16 @@ int main(void)
     buffers(answer(SC_ANSWER_VALUE));
     halves();
 
-    say("get with no choice", scm_region_get_segment(&manager, region, 64, 2, 0, 0, 0));
+    say("get with no choice", scm_region_get_segment(&manager, region, 64, 0, 2, 0, 0, 0));
     say("create with no choice", scm_region_create(&manager, 3, 4100, 1148, 64, 4));
     memory[1] = 0xffffffffu; /* the region's map, damaged */
-    say("get with a damaged map", scm_region_get_segment(&manager, region, 64, SC_NO_WAIT, 0, 0, 0));
+    say("get with a damaged map",
+        scm_region_get_segment(&manager, region, 64, 0, SC_NO_WAIT, 0, 0, 0));
     memory[1] = 30;
     say("delete the region, its map mended", scm_region_delete(&manager, region));
     say("create it again", scm_region_create(&manager, 1, 4, 1020, 64, SC_PRIORITY));
-    say("get by the old id", scm_region_get_segment(&manager, region, 64, SC_NO_WAIT, 0, 0, 0));
+    say("get by the old id", scm_region_get_segment(&manager, region, 64, 0, SC_NO_WAIT, 0, 0, 0));
     gauges();
+    alignments();
     return 0;
 }

@@ -29,7 +29,7 @@ int main(void)
 
     scm_region_create(&manager, 1, 4, 1020, 64, SC_FIFO);
     for (int s = 0; s < 3; s++) {
-        scm_region_get_segment(&manager, 1, 64, SC_NO_WAIT, 0, 0, 0);
+        scm_region_get_segment(&manager, 1, 64, 0, SC_NO_WAIT, 0, 0, 0);
         at[s] = manager.answer[SC_ANSWER_VALUE];
         for (uint32_t w = 0; w < 16; w++) /* the client fills what it holds */
             memory[at[s] / 4 + w] = 100 * (uint32_t)(s + 1) + w;

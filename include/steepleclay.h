@@ -53,24 +53,23 @@ extern "C" {
 #define SC_SLOTS 8u  /* regions, and partitions, at the same time */
 #define SC_TASKS 16u /* waiting tasks are numbered 1 to SC_TASKS */
 #define SC_MEMORY_WORDS 16384u /* at most; at least 1 */
-#define SC_RECORD_WORDS 192u
+#define SC_RECORD_WORDS 208u
 #define SC_ANSWER_WORDS 55u
 
 /*
- * The layout of the record's words. 2: SC_SLOTS regions (name, generation, start, length, page,
+ * The layout of the record's words. 3: SC_SLOTS regions (name, generation, start, length, page,
  * order), then SC_SLOTS partitions (name, generation, start, length, size, front, rear, free
- * count), then SC_TASKS waiters (task, region's id, size, priority, ticks left), all zeros where
- * unused, but for the generation that an emptied slot keeps. (1 had no generations.) The number
- * goes up when a word changes its place or its meaning. Whoever keeps a record longer than a run of
- * the program keeps this number beside it, and hands the record to no library with another. (The
- * orders 2 and 3 came later: a library that lacks them refuses a record that has them, with
- * SC_INTERNAL_ERROR. That names differ came later too: this library refuses a record of an earlier
- * one in which two live objects of a kind have one name, with SC_INTERNAL_ERROR.)
+ * count), then SC_TASKS waiters (task, region's id, size, alignment, priority, ticks left), all
+ * zeros where unused, but for the generation that an emptied slot keeps. (1 had no generations. 2
+ * had no alignments: since then a waiter has one word more, and those behind stand elsewhere.) The
+ * number goes up when a word changes its place or its meaning. Whoever keeps a record longer than a
+ * run of the program keeps this number beside it, and hands the record to no library with another.
+ * (A record of 1 or 2 has fewer words, and is refused with SC_INTERNAL_ERROR.)
  */
-#define STEEPLECLAY_RECORD_VERSION 2
+#define STEEPLECLAY_RECORD_VERSION 3
 
 /*
- * The stack that a call needs: 14 KB were measured, rounded up here. tests/stack/run measures it:
+ * The stack that a call needs: 15 KB were measured, rounded up here. tests/stack/run measures it:
  * each function is called on a stack filled with a pattern, with fresh, full and damaged records,
  * and the deepest word that was written counts.
  */
@@ -97,9 +96,10 @@ extern "C" {
 #define SC_INVALID_ID 4u        /* RTEMS_INVALID_ID: no live object has the id */
 #define SC_TOO_MANY 5u          /* RTEMS_TOO_MANY: every slot of the kind is in use or spent */
 #define SC_TIMEOUT 6u           /* RTEMS_TIMEOUT: in a notice */
-#define SC_INVALID_SIZE 8u      /* RTEMS_INVALID_SIZE: a size, length or page size not allowed */
+#define SC_INVALID_SIZE 8u      /* RTEMS_INVALID_SIZE: a size, length or alignment not allowed */
 #define SC_INVALID_ADDRESS 9u   /* RTEMS_INVALID_ADDRESS: area not allowed, or nothing held there */
 #define SC_INVALID_NUMBER 10u   /* RTEMS_INVALID_NUMBER: waiting task not 1 to SC_TASKS; a gauge */
+#define SC_NOT_DEFINED 11u      /* RTEMS_NOT_DEFINED: an alignment other than 0 by halves */
 #define SC_RESOURCE_IN_USE 12u  /* RTEMS_RESOURCE_IN_USE: delete with something held */
 #define SC_UNSATISFIED 13u      /* RTEMS_UNSATISFIED: no room now */
 #define SC_INCORRECT_STATE 14u  /* RTEMS_INCORRECT_STATE: the task waits already */
@@ -130,8 +130,8 @@ uint32_t sc_region_create(SC_BUFFERS, uint32_t name, uint32_t start, uint32_t le
                           uint32_t page, uint32_t order);
 uint32_t sc_region_ident(SC_BUFFERS, uint32_t name);
 uint32_t sc_region_delete(SC_BUFFERS, uint32_t id);
-uint32_t sc_region_get_segment(SC_BUFFERS, uint32_t id, uint32_t size, uint32_t wait,
-                               uint32_t task, uint32_t priority, uint32_t ticks);
+uint32_t sc_region_get_segment(SC_BUFFERS, uint32_t id, uint32_t size, uint32_t alignment,
+                               uint32_t wait, uint32_t task, uint32_t priority, uint32_t ticks);
 uint32_t sc_region_return_segment(SC_BUFFERS, uint32_t id, uint32_t address);
 uint32_t sc_region_get_segment_size(SC_BUFFERS, uint32_t id, uint32_t address);
 uint32_t sc_region_resize_segment(SC_BUFFERS, uint32_t id, uint32_t address, uint32_t size);
@@ -173,7 +173,8 @@ typedef struct sc_manager {
 
 /*
  * Regions: segments of whole pages. By pages (SC_FIFO, SC_PRIORITY) a segment has any number of
- * them, at the lowest fitting address. By halves (SC_FIFO_HALVES, SC_PRIORITY_HALVES) the region
+ * them, at the lowest fitting address that is a multiple of the alignment that was asked for; room
+ * before it and behind it stays free. By halves (SC_FIFO_HALVES, SC_PRIORITY_HALVES) the region
  * has as many pages as the largest power of two that fits, and its segments are blocks: each the
  * half of a block, or all of the region. A size is rounded up to a power of two pages. The smallest
  * free block that is large enough serves, the lowest of equal ones, and is halved until it has that
@@ -205,16 +206,20 @@ static inline uint32_t scm_region_delete(sc_manager *m, uint32_t id)
     return sc_region_delete(SC_OF(m), id);
 }
 
-/* Value: the address of a segment of at least `size` bytes, held from now on. Where there is no
- * room: SC_UNSATISFIED, or with SC_WAIT the task waits (SC_WAITING) in the region's queue, for
- * `ticks` ticks (0: for ever). Without waiting, task, priority and ticks aren't read.
- * Statuses: SC_SUCCESSFUL, SC_INVALID_ID, SC_INVALID_SIZE, SC_INVALID_NUMBER, SC_UNSATISFIED,
- * SC_INCORRECT_STATE, SC_INVALID_PRIORITY, SC_WAITING. */
+/* Value: the address of a segment of at least `size` bytes, held from now on. The address is a
+ * multiple of `alignment`: 0 for the page size, else a multiple of the page size up to 4096; by
+ * halves it must be 0, and anything else is SC_NOT_DEFINED. SC_INVALID_SIZE: `size` is 0, the
+ * alignment is none of these, or the region could not serve the request with nothing held. Where
+ * there is only now no room: SC_UNSATISFIED, or with SC_WAIT the task waits (SC_WAITING) in the
+ * region's queue, for `ticks` ticks (0: for ever), and is served on its alignment. Without waiting,
+ * task, priority and ticks aren't read.
+ * Statuses: SC_SUCCESSFUL, SC_INVALID_ID, SC_INVALID_SIZE, SC_INVALID_NUMBER, SC_NOT_DEFINED,
+ * SC_UNSATISFIED, SC_INCORRECT_STATE, SC_INVALID_PRIORITY, SC_WAITING. */
 static inline uint32_t scm_region_get_segment(sc_manager *m, uint32_t id, uint32_t size,
-                                              uint32_t wait, uint32_t task, uint32_t priority,
-                                              uint32_t ticks)
+                                              uint32_t alignment, uint32_t wait, uint32_t task,
+                                              uint32_t priority, uint32_t ticks)
 {
-    return sc_region_get_segment(SC_OF(m), id, size, wait, task, priority, ticks);
+    return sc_region_get_segment(SC_OF(m), id, size, alignment, wait, task, priority, ticks);
 }
 
 /* Takes a held segment back and serves the queue: notices say who holds what now.

@@ -3,9 +3,9 @@
  * pattern was used, by the call and by the few words of this program that make it. The records are
  * fresh, full with 16 waiters whom one return or resize serves, full with 16 of whom one tick sends
  * some away and serves the others, nearly full, and damaged; the region that the calls name is by
- * pages and by halves. The functions come from the header (calls.h, which `run` makes of it): a
- * parameter is given the variable of its name. Prints the most that each function used; fails where
- * one needs more than SC_STACK_BYTES. */
+ * pages, where the waiters have an alignment of three pages, and by halves. The functions come from
+ * the header (calls.h, which `run` makes of it): a parameter is given the variable of its name.
+ * Prints the most that each function used; fails where one needs more than SC_STACK_BYTES. */
 #define _XOPEN_SOURCE 600
 #include <stdio.h>
 #include <string.h>
@@ -24,7 +24,7 @@ static ucontext_t here, there;
 static uint32_t held, buffer; /* the held segment of region 1, the held buffer of partition 1 */
 
 /* The arguments, each under the name that the header gives it. */
-static uint32_t name, id, address, size, wait;
+static uint32_t name, id, address, size, alignment, wait;
 static uint32_t order;
 static const uint32_t start = 60004, length = 1020, page = 8;
 static const uint32_t task = 16, priority = 9, ticks = 9, first = 0;
@@ -39,14 +39,22 @@ static const uint32_t total = 65536;
 #define ARGUMENTS 3 /* and of arguments */
 #define ORDERS 4    /* and of region 1 */
 
-/* 0: a new object, and an object of which nothing is held; 1: a name that is there, a get that may
- * wait, what is held of region 1; 2: what is held of partition 1. */
+/* An alignment for a region: three pages, or none by halves. */
+static uint32_t wide(uint32_t region)
+{
+    return (region - 1 + order) % ORDERS >= SC_FIFO_HALVES ? 0 : 3 * 8;
+}
+
+/* 0: a new object, and an object of which nothing is held, a get on an alignment; 1: a name that is
+ * there, a get that may wait, what is held of region 1; 2: what is held of partition 1, a get that
+ * may wait on an alignment. */
 static void choose(uint32_t arguments)
 {
     name = arguments == 0 ? 9 : 8;
     id = arguments == 0 ? 8 : 1;
     address = arguments == 2 ? buffer : held;
     size = arguments == 0 ? 12 : 9;
+    alignment = arguments == 1 ? 0 : wide(id);
     wait = arguments == 0 ? SC_NO_WAIT : SC_WAIT;
     alarm = arguments; /* above, below, outside */
 }
@@ -69,7 +77,7 @@ static const struct {
 /* A segment of region 1 of so many bytes: its address. */
 static uint32_t get(uint32_t bytes)
 {
-    scm_region_get_segment(&desk, 1, bytes, SC_NO_WAIT, 0, 0, 0);
+    scm_region_get_segment(&desk, 1, bytes, 0, SC_NO_WAIT, 0, 0, 0);
     return desk.answer[SC_ANSWER_VALUE];
 }
 
@@ -89,11 +97,17 @@ static uint32_t tables(uint32_t room)
     return desk.answer[SC_ANSWER_FREE_TOTAL];
 }
 
+/* A task that waits for some bytes of region 1. */
+static void wait_for(uint32_t bytes, uint32_t boundary, uint32_t waiter, uint32_t left)
+{
+    scm_region_get_segment(&desk, 1, bytes, boundary, SC_WAIT, waiter, waiter, left);
+}
+
 /* The tasks from 1 on wait for a page of region 1. */
 static void queue(uint32_t waiters)
 {
     for (uint32_t i = 1; i <= waiters; i++)
-        scm_region_get_segment(&desk, 1, 8, SC_WAIT, i, i, 1);
+        wait_for(8, wide(1), i, 1);
 }
 
 /* Region 1 all held by one segment, and `waiters` tasks that wait for a page of it. */
@@ -113,8 +127,10 @@ static void fill_for_tick(void)
 
     held = get(bytes / 2);
     other = get(bytes / 2);
-    for (uint32_t i = 1; i <= SC_TASKS; i++)
-        scm_region_get_segment(&desk, 1, i <= 4 ? bytes : 8, SC_WAIT, i, i, i <= 4 ? 1 : 9);
+    for (uint32_t i = 1; i <= 4; i++)
+        wait_for(bytes, 0, i, 1);
+    for (uint32_t i = 5; i <= SC_TASKS; i++)
+        wait_for(8, wide(1), i, 9);
     scm_region_return_segment(&desk, 1, other);
 }
 

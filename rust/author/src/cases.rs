@@ -1,6 +1,8 @@
 //! Cases that a comparison has to reach, of ids, names, generations, page
-//! counts, serving and regions by halves, and how to tell that a call is one.
+//! counts, alignments, serving and regions by halves, and how to tell that a
+//! call is one.
 
+use crate::alignments::{self, Alignments};
 use crate::halves::{rounded, Blocks, Halves};
 use crate::names::{Holders, Names};
 use directives::words::*;
@@ -93,6 +95,8 @@ pub enum Case {
     Answered(Kind, Directive, u32),
     /// Of regions by halves.
     ByHalves(Halves),
+    /// Of alignments.
+    Aligned(Alignments),
 }
 
 impl Case {
@@ -141,6 +145,7 @@ impl Case {
             TickQuiet,
         ]);
         cases.extend(Halves::OF_SCRIPTS.map(ByHalves));
+        cases.extend(Alignments::all().into_iter().map(Aligned));
         for kind in [Kind::Pages, Kind::Halves] {
             cases.extend(answered(kind, directives));
         }
@@ -149,14 +154,19 @@ impl Case {
 }
 
 /// Every status of the calls that name a region of a kind or would make one. An
-/// id that is refused names none.
+/// id that is refused names none, and nothing is undefined by pages.
 fn answered(kind: Kind, directives: &[Directive]) -> Vec<Case> {
     let mut directives = directives.to_vec();
     directives.retain(|of| (*of == CreateRegion || of.has_id()) && !of.is_of_partitions());
+    let is_of_kind = |status: &u32| match *status {
+        status::INVALID_ID => false,
+        status::NOT_DEFINED => kind == Kind::Halves,
+        _ => true,
+    };
     let of_region = |directive: Directive| {
         let statuses = directive.statuses().iter().copied();
-        let of_region = statuses.filter(|status| *status != status::INVALID_ID);
-        of_region.map(move |status| Answered(kind, directive, status))
+        let of_kind = statuses.filter(is_of_kind);
+        of_kind.map(move |status| Answered(kind, directive, status))
     };
     directives.into_iter().flat_map(of_region).collect()
 }
@@ -192,6 +202,7 @@ impl fmt::Display for Case {
                 write!(out, "{}, {}: status {status}", by(*kind), of.name())
             }
             ByHalves(case) => write!(out, "{}, {case}", by(Kind::Halves)),
+            Aligned(case) => write!(out, "alignment, {case}"),
         }
     }
 }
@@ -203,8 +214,8 @@ fn by(kind: Kind) -> &'static str {
     }
 }
 
-/// The ids, the queues, the region that a call names and who has the name of a
-/// create, before it.
+/// The ids, the queues, the region that a call names, who has the name of a
+/// create and what the call has to do with alignments, before it.
 pub struct Before {
     regions: Vec<(u32, bool)>,
     partitions: Vec<(u32, bool)>,
@@ -218,6 +229,7 @@ pub struct Before {
     blocks: Option<Blocks>,
     /// Who has the name of a create.
     holders: Option<Holders>,
+    alignments: alignments::Before,
 }
 
 impl Before {
@@ -237,6 +249,7 @@ impl Before {
             kind,
             blocks: id.and_then(|id| Blocks::new(model, id)),
             holders: is_create(directive).then(|| Holders::new(model, call)),
+            alignments: alignments::Before::new(model, call),
         }
     }
 
@@ -269,6 +282,8 @@ impl Before {
             let halves = blocks.cases(call, answer, after).into_iter();
             cases.extend(halves.map(|(is, case)| (is, ByHalves(case))));
         }
+        let alignments = self.alignments.cases(call, answer, after).into_iter();
+        cases.extend(alignments.map(|(is, case)| (is, Aligned(case))));
         let is = cases.into_iter().filter(|(is, _)| *is);
         is.map(|(_, case)| case).collect()
     }
@@ -455,10 +470,10 @@ pub mod tests {
             (Information, &[9]),
             (Read, &[1, 1_088]),
             (Read, &[17, 1_088]),
-            (Get, &[17, 64, 0, 0, 0, 0]),
-            (Get, &[2, 64, 0, 0, 0, 0]),
-            (Get, &[2, 64, 1, 1, 1, 1]),
-            (Get, &[17, 64, 1, 2, 1, 1]),
+            (Get, &[17, 64, 0, 0, 0, 0, 0]),
+            (Get, &[2, 64, 0, 0, 0, 0, 0]),
+            (Get, &[2, 64, 0, 1, 1, 1, 1]),
+            (Get, &[17, 64, 0, 1, 2, 1, 1]),
             (Tick, &[]),
         ];
         let mut expected = vec![vec![]; calls.len()];
@@ -512,12 +527,12 @@ pub mod tests {
     #[test]
     fn cases_of_resizes() {
         let mut model = Model::fresh();
-        cases(&mut model, &[A, (Get, &[1, 896, 0, 0, 0, 0])]);
+        cases(&mut model, &[A, (Get, &[1, 896, 0, 0, 0, 0, 0])]);
         let calls: [(_, &[u32]); 10] = [
             (Resize, &[1, 1_088, 896]),
-            (Get, &[1, 192, 1, 1, 1, 0]),
-            (Get, &[1, 64, 1, 2, 1, 0]),
-            (Get, &[1, 896, 1, 3, 1, 0]),
+            (Get, &[1, 192, 0, 1, 1, 1, 0]),
+            (Get, &[1, 64, 0, 1, 2, 1, 0]),
+            (Get, &[1, 896, 0, 1, 3, 1, 0]),
             (Resize, &[1, 1_088, 896]),
             (Resize, &[1, 1_088, 768]),
             (Resize, &[1, 1_088, 832]),
@@ -540,21 +555,21 @@ pub mod tests {
         let mut model = Model::fresh();
         cases(&mut model, &[A, B, (DeleteRegion, &[1]), A]);
         let calls: [(_, &[u32]); 16] = [
-            (Get, &[2, 768, 0, 0, 0, 0]),
-            (Get, &[2, 128, 0, 0, 0, 0]),
-            (Get, &[17, 768, 0, 0, 0, 0]),
-            (Get, &[17, 128, 0, 0, 0, 0]),
+            (Get, &[2, 768, 0, 0, 0, 0, 0]),
+            (Get, &[2, 128, 0, 0, 0, 0, 0]),
+            (Get, &[17, 768, 0, 0, 0, 0, 0]),
+            (Get, &[17, 128, 0, 0, 0, 0, 0]),
             (Tick, &[]),
-            (Get, &[2, 192, 1, 1, 1, 2]),
-            (Get, &[17, 192, 1, 2, 1, 2]),
-            (Get, &[2, 64, 1, 3, 1, 0]),
-            (Get, &[17, 64, 1, 4, 1, 0]),
+            (Get, &[2, 192, 0, 1, 1, 1, 2]),
+            (Get, &[17, 192, 0, 1, 2, 1, 2]),
+            (Get, &[2, 64, 0, 1, 3, 1, 0]),
+            (Get, &[17, 64, 0, 1, 4, 1, 0]),
             (Tick, &[]),
             (Return, &[2, 2_880]),
             (Return, &[17, 1_856]),
             (Tick, &[]),
-            (Get, &[2, 896, 1, 5, 1, 0]),
-            (Get, &[2, 896, 1, 6, 1, 1]),
+            (Get, &[2, 896, 0, 1, 5, 1, 0]),
+            (Get, &[2, 896, 0, 1, 6, 1, 1]),
             (Tick, &[]),
         ];
         let mut expected = vec![vec![]; calls.len()];
@@ -568,7 +583,7 @@ pub mod tests {
     #[test]
     fn cases_that_no_list_of_calls_reaches() {
         let mut model = Model::fresh();
-        cases(&mut model, &[A, B, (Get, &[1, 64, 0, 0, 0, 0])]);
+        cases(&mut model, &[A, B, (Get, &[1, 64, 0, 0, 0, 0, 0])]);
         for (task, (directive, arguments), expected) in [
             (
                 1,
@@ -587,13 +602,13 @@ pub mod tests {
             ),
             (4, (Tick, &[]), vec![TickQuiet, TickQuietBesideRoom]),
         ] {
-            model.put_waiter([task, 1, 64, 1, 0]);
+            model.put_waiter([task, 1, 64, 0, 1, 0]);
             let found = cases(&mut model, &[(directive, arguments)]);
             assert_eq!(found, [expected]);
         }
         let calls: [(_, &[u32]); 3] = [
-            (Get, &[2, 896, 0, 0, 0, 0]),
-            (Get, &[2, 896, 1, 5, 1, 1]),
+            (Get, &[2, 896, 0, 0, 0, 0, 0]),
+            (Get, &[2, 896, 0, 1, 5, 1, 1]),
             (Tick, &[]),
         ];
         let expected = [vec![], vec![], vec![TickServes, TickServesOther]];
@@ -607,8 +622,8 @@ pub mod tests {
             (CreateRegion, &[2, 4, 1_020, 64, 2]),
             (CreateRegion, &[2, 4, 1_020, 64, 1]),
             (CreateRegion, &[2, 4, 1_020, 64, 4]),
-            (Get, &[1, 512, 0, 0, 0, 0]),
-            (Get, &[2, 512, 0, 0, 0, 0]),
+            (Get, &[1, 512, 0, 0, 0, 0, 0]),
+            (Get, &[2, 512, 0, 0, 0, 0, 0]),
             (Read, &[1, 64]),
             (Read, &[1, 65]),
             (Tick, &[]),
@@ -632,6 +647,8 @@ pub mod tests {
         let asked = Case::of_library();
         assert!(asked.contains(&Answered(Kind::Halves, Get, 255)));
         assert!(asked.contains(&Answered(Kind::Pages, Write, 8)));
+        assert!(asked.contains(&Answered(Kind::Halves, Get, 11)));
+        assert!(!asked.contains(&Answered(Kind::Pages, Get, 11)));
         assert!(!asked.contains(&Answered(Kind::Halves, Get, 4)));
         assert!(!asked.contains(&Answered(Kind::Halves, GetBuffer, 0)));
     }

@@ -326,16 +326,16 @@ mod tests {
         let mut model = Model::fresh();
         halves(&mut model, &[EIGHT]);
         let calls: [(_, &[u32]); 10] = [
-            (Get, &[1, 129, 0, 0, 0, 0]),
-            (Get, &[1, 64, 0, 0, 0, 0]),
+            (Get, &[1, 129, 0, 0, 0, 0, 0]),
+            (Get, &[1, 64, 0, 0, 0, 0, 0]),
             (Return, &[1, 64]),
-            (Get, &[1, 64, 0, 0, 0, 0]),
-            (Get, &[1, 513, 0, 0, 0, 0]),
-            (Get, &[1, 577, 0, 0, 0, 0]),
-            (Get, &[1, 64, 0, 0, 0, 0]),
-            (Get, &[1, 512, 1, 1, 1, 0]),
+            (Get, &[1, 64, 0, 0, 0, 0, 0]),
+            (Get, &[1, 513, 0, 0, 0, 0, 0]),
+            (Get, &[1, 577, 0, 0, 0, 0, 0]),
+            (Get, &[1, 64, 0, 0, 0, 0, 0]),
+            (Get, &[1, 512, 0, 1, 1, 1, 0]),
             (Return, &[1, 320]),
-            (Get, &[1, 64, 0, 0, 0, 0]),
+            (Get, &[1, 64, 0, 0, 0, 0, 0]),
         ];
         let expected = [
             vec![Halves::RoundedUp],
@@ -359,15 +359,15 @@ mod tests {
     #[test]
     fn cases_of_returns_by_halves() {
         let mut model = Model::fresh();
-        halves(&mut model, &[EIGHT, (Get, &[1, 256, 0, 0, 0, 0])]);
+        halves(&mut model, &[EIGHT, (Get, &[1, 256, 0, 0, 0, 0, 0])]);
         for _ in 0..4 {
-            halves(&mut model, &[(Get, &[1, 64, 0, 0, 0, 0])]);
+            halves(&mut model, &[(Get, &[1, 64, 0, 0, 0, 0, 0])]);
         }
         let calls: [(_, &[u32]); 9] = [
             (Return, &[1, 384]),
             (Return, &[1, 448]),
-            (Get, &[1, 128, 0, 0, 0, 0]),
-            (Get, &[1, 128, 1, 1, 1, 0]),
+            (Get, &[1, 128, 0, 0, 0, 0, 0]),
+            (Get, &[1, 128, 0, 1, 1, 1, 0]),
             (Return, &[1, 512]),
             (Return, &[1, 512]),
             (Return, &[1, 320]),
@@ -391,7 +391,7 @@ mod tests {
     #[test]
     fn cases_of_resizes_and_ticks_by_halves() {
         let mut model = Model::fresh();
-        halves(&mut model, &[EIGHT, (Get, &[1, 128, 0, 0, 0, 0])]);
+        halves(&mut model, &[EIGHT, (Get, &[1, 128, 0, 0, 0, 0, 0])]);
         let calls: [(_, &[u32]); 6] = [
             (Resize, &[1, 64, 128]),
             (Resize, &[1, 64, 65]),
@@ -410,9 +410,9 @@ mod tests {
             vec![],
         ];
         assert_eq!(halves(&mut model, &calls), expected);
-        model.put_waiter([1, 1, 256, 1, 0]);
-        halves(&mut model, &[(Get, &[1, 512, 1, 2, 1, 1])]);
-        model.put_waiter([3, 1, 128, 1, 0]);
+        model.put_waiter([1, 1, 256, 0, 1, 0]);
+        halves(&mut model, &[(Get, &[1, 512, 0, 1, 2, 1, 1])]);
+        model.put_waiter([3, 1, 128, 0, 1, 0]);
         let calls: [(_, &[u32]); 3] = [
             (Resize, &[1, 64, 128]),
             (Resize, &[1, 320, 129]),

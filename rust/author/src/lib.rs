@@ -4,14 +4,16 @@
 //! succeed; the others are near the limits or anything at all. What is right
 //! is never read from the model here.
 
+pub mod alignments;
 pub mod cases;
 pub mod halves;
 pub mod names;
 mod random;
 
+use alignments::MAX_ALIGNMENT;
 use directives::words::{generation_of, GENERATIONS, ID_STEP, SLOTS, TASKS};
 use directives::{Call, Directive};
-use model::Model;
+use model::{Kind, Model};
 use names::Seen;
 pub use random::Random;
 
@@ -43,6 +45,8 @@ pub struct Style {
     pub waits: u32,
     /// How many of a hundred gets ask for few pages.
     pub small_gets: u32,
+    /// How many of a hundred gets by pages have an alignment.
+    pub alignments: u32,
     /// New areas have at most so many bytes, if that is enough for a page.
     pub longest: u32,
     /// Pages and buffers are mostly not larger than this.
@@ -58,6 +62,7 @@ impl Default for Style {
             halves: 50,
             waits: 40,
             small_gets: 40,
+            alignments: 25,
             longest: 6_000,
             largest_unit: 512,
         }
@@ -108,7 +113,7 @@ impl Author<'_> {
                 vec![id, address, self.new_size(id, address)]
             }
             ["id", "address", "first"] => return self.write(),
-            ["id", "size", "wait", "task", "priority", "ticks"] => self.get(),
+            ["id", "size", "align", "wait", "task", "priority", "ticks"] => self.get(),
             ["name", "start", "length", "page", "order"] => {
                 let (start, length) = self.area(1);
                 let page = self.unit(1, length);
@@ -437,15 +442,79 @@ impl Author<'_> {
     /// The arguments of a get.
     fn get(&mut self) -> Vec<u32> {
         let id = self.region_id();
-        let (size, wait) = (self.size(id), self.wait());
-        vec![id, size, wait, self.task(), self.priority(), self.ticks()]
+        let alignment = self.alignment(id);
+        let (size, wait) = (self.size_on(id, alignment), self.wait());
+        let waiter = [self.task(), self.priority(), self.ticks()];
+        [&[id, size, alignment, wait][..], &waiter].concat()
+    }
+
+    /// A size to ask a region for on an alignment: any, or about the most that it
+    /// could serve with nothing held.
+    fn size_on(&mut self, id: u32, alignment: u32) -> u32 {
+        let segments = self.model.segments(id);
+        let first = segments.first().filter(|_| self.random.chance(20));
+        match (first, alignment) {
+            (Some(first), 1..=MAX_ALIGNMENT) => {
+                let before = first.address.next_multiple_of(alignment) - first.address;
+                let (page, pages) = self.pages(id);
+                let most = (page * pages).saturating_sub(before);
+                (most + self.random.between(1, 3)).saturating_sub(2).max(1)
+            }
+            _ => self.size(id),
+        }
+    }
+
+    /// An alignment to ask a region for: mostly 0, or one that is allowed.
+    fn alignment(&mut self, id: u32) -> u32 {
+        if self.is_odd() {
+            return self.odd_alignment(id);
+        }
+        let by_halves = self.model.kind(id) == Some(Kind::Halves);
+        if by_halves || !self.random.chance(self.style.alignments) {
+            return 0;
+        }
+        self.wide_alignment(id)
+    }
+
+    /// A multiple of a region's page size that is allowed, mostly a small one.
+    pub fn wide_alignment(&mut self, id: u32) -> u32 {
+        let (page, pages) = self.pages(id);
+        let most = MAX_ALIGNMENT / page;
+        let multiple = match self.random.below(8) {
+            0 => 1,
+            1 => most,
+            2 => self.random.between(1, most),
+            3 => self.random.between(1, pages.min(most)),
+            _ => self.random.between(2, 5),
+        };
+        page * multiple.min(most)
+    }
+
+    /// An alignment that is no multiple of the page size, one that is too
+    /// large, or by halves any but 0.
+    fn odd_alignment(&mut self, id: u32) -> u32 {
+        let (page, _) = self.pages(id);
+        let wide = self.wide_alignment(id);
+        match self.random.below(6) {
+            0 => wide,
+            1 => wide + self.random.between(1, page) - page / 2,
+            2 => self
+                .random
+                .pick(&[1, 2, 4, page / 2, page - 1, page + 1, page + 4]),
+            // The first multiples above the largest.
+            3 => (MAX_ALIGNMENT / page + self.random.between(1, 3)) * page,
+            4 => self
+                .random
+                .pick(&[4_095, 4_096, 4_097, 8_192, 1 << 16, 1 << 31, u32::MAX]),
+            _ => self.odd_number(),
+        }
     }
 
     fn task(&mut self) -> u32 {
         let waiting = self.model.waiting_tasks();
         if self.is_odd() {
-            return match (self.random.below(2), self.random.pick_any(&waiting)) {
-                (0, Some(task)) => task,
+            return match (self.random.below(3), self.random.pick_any(&waiting)) {
+                (0 | 1, Some(task)) => task,
                 _ => self
                     .random
                     .pick(&[0, 17, 18, 32, 255, 256, 257, 1 << 31, u32::MAX]),
@@ -605,6 +674,56 @@ mod tests {
         ];
         for id in expected {
             assert!(odd.contains(&id), "{id}");
+        }
+    }
+
+    /// Alignments are 0, multiples of the page size up to the largest, and odd
+    /// ones; by halves all but 0 are odd.
+    #[test]
+    fn alignments_of_all_sorts_are_made_up() {
+        let mut model = Model::fresh();
+        for order in [0, 2] {
+            let create = [1 + order, 4 + 4_096 * order, 1_020, 24, order];
+            let answer = model.call(&Directive::CreateRegion.call(&create));
+            assert_eq!(answer.status, 0);
+        }
+        let mut random = Random::for_list(0, 0);
+        let mut made_up = |id: u32, odd: u32, alignments: u32| -> BTreeSet<u32> {
+            let style = Style {
+                odd,
+                alignments,
+                ..Style::default()
+            };
+            let mut author = Author {
+                random: &mut random,
+                style: &style,
+                model: &model,
+            };
+            (0..5_000).map(|_| author.alignment(id)).collect()
+        };
+        assert_eq!(made_up(1, 0, 0), [0].into());
+        assert_eq!(made_up(2, 0, 100), [0].into());
+        let allowed = made_up(1, 0, 100);
+        assert!(allowed.iter().all(|alignment| alignment % 24 == 0));
+        assert_eq!(allowed.first(), Some(&24));
+        assert_eq!(allowed.last(), Some(&4_080));
+        for id in [1, 2] {
+            let odd = made_up(id, 100, 0);
+            for alignment in [
+                1,
+                12,
+                23,
+                25,
+                48,
+                4_095,
+                4_096,
+                4_097,
+                4_104,
+                1 << 31,
+                u32::MAX,
+            ] {
+                assert!(odd.contains(&alignment), "{alignment}");
+            }
         }
     }
 

@@ -175,7 +175,7 @@ impl Builder {
     fn waiter(&mut self, index: u32, pages: u32, ticks: u32) {
         let (_, _, page) = self.load.region_shape(index);
         let task = self.waiters as u32 + 1;
-        let place = [task, id_of(index as usize, 0), pages * page, 5, ticks];
+        let place = [task, id_of(index as usize, 0), pages * page, 0, 5, ticks];
         self.record[waiter_at(self.waiters)..][..WAITER_WORDS].copy_from_slice(&place);
         self.waiters += 1;
     }
@@ -226,12 +226,13 @@ enum Target {
 }
 
 /// The rows, in the order of the table.
-pub const ROWS: [&str; 22] = [
+pub const ROWS: [&str; 23] = [
     "region create",
     "region ident",
     "region delete",
     "get segment",
     "get segment, by halves",
+    "get segment, aligned",
     "get segment, waits",
     "return segment",
     "return segment, by halves",
@@ -321,9 +322,10 @@ pub fn scene(row: &'static str, load: Load) -> Scene {
 
     let (start, length, page) = load.region_shape(last);
     let address = builder.last_held(last);
-    let get = |pages: u32, wait: u32| Call::Get {
+    let get = |pages: u32, alignment: u32, wait: u32| Call::Get {
         id,
         size: pages * page,
+        alignment,
         wait,
         task: 16,
         priority: 7,
@@ -347,8 +349,10 @@ pub fn scene(row: &'static str, load: Load) -> Scene {
             0,
         ),
         "region delete" => (Call::DeleteRegion { id }, 0),
-        "get segment" | "get segment, by halves" => (get(2, 0), 0),
-        "get segment, waits" => (get(builder.pages(last), 1), 255),
+        "get segment" | "get segment, by halves" => (get(2, 0, 0), 0),
+        // The last two pages start on it under every load.
+        "get segment, aligned" => (get(2, 2 * page, 0), 0),
+        "get segment, waits" => (get(builder.pages(last), 0, 1), 255),
         "return segment" | "return segment, by halves" | "return segment, serves one" => {
             (Call::Return { id, address }, 0)
         }

@@ -119,6 +119,7 @@ impl Script {
                 Call::Get {
                     id,
                     size: random.between(1, most * page),
+                    alignment: 0,
                     wait: random.between(0, 1),
                     task: random.between(1, 16),
                     priority: random.between(1, 255),

@@ -149,12 +149,34 @@ pub fn lines(text: &mut Vec<u8>, random: &mut Random) {
     });
 }
 
-/// Puts another text where a number stands.
+/// Takes the key of alignments away from one get or from all, as if there were
+/// none, or puts it behind the next key.
+pub fn alignments(text: &mut Vec<u8>, random: &mut Random) {
+    change_lines(text, |lines| {
+        let is_key = |place: &usize| lines[*place].starts_with(b"align=");
+        let places: Vec<usize> = (0..lines.len()).filter(is_key).collect();
+        let Some(place) = random.pick_any(&places) else {
+            return;
+        };
+        let next = (place + 1).min(lines.len() - 1);
+        match random.below(3) {
+            0 => lines.retain(|line| !line.starts_with(b"align=")),
+            1 => lines.swap(place, next),
+            _ => drop(lines.remove(place)),
+        }
+    });
+}
+
+/// Puts another text where a number stands, now and then an alignment.
 pub fn number(text: &mut Vec<u8>, random: &mut Random) {
+    let of_alignment = random.chance(20);
     replace_value(
         text,
         random,
-        |key| key != b"call",
+        |key| match of_alignment {
+            true => key == b"align",
+            false => key != b"call",
+        },
         |number, random| match random.below(4) {
             0 => format!("0{number}"),
             1 => format!("{number}0000000000"),
@@ -360,6 +382,7 @@ mod tests {
         let changes = [
             bytes,
             lines,
+            alignments,
             number,
             choice,
             cut_off,

@@ -21,11 +21,13 @@ pub enum Kind {
     Slots,
     Generations,
     Names,
+    Alignments,
     Edges,
     BadNumber,
     BadName,
     DamagedBytes,
     DamagedLines,
+    NoAlignments,
     CutOff,
     NoLastNewline,
     CarriageReturns,
@@ -50,11 +52,13 @@ impl Kind {
             Kind::Slots => "all slots in use",
             Kind::Generations => "slots used again",
             Kind::Names => "names",
+            Kind::Alignments => "alignments",
             Kind::Edges => "numbers at the edges",
             Kind::BadNumber => "bad number",
             Kind::BadName => "bad name",
             Kind::DamagedBytes => "damaged bytes",
             Kind::DamagedLines => "damaged lines",
+            Kind::NoAlignments => "gets without align",
             Kind::CutOff => "cut off",
             Kind::NoLastNewline => "no last newline",
             Kind::CarriageReturns => "carriage returns",
@@ -67,7 +71,7 @@ impl Kind {
 }
 
 /// The kinds in turn. Those with more to find come more often.
-pub const ROUND: [Kind; 54] = [
+pub const ROUND: [Kind; 59] = [
     Kind::Mixed,
     Kind::Waiting,
     Kind::Serving,
@@ -79,6 +83,7 @@ pub const ROUND: [Kind; 54] = [
     Kind::Slots,
     Kind::Generations,
     Kind::Names,
+    Kind::Alignments,
     Kind::Edges,
     Kind::BadNumber,
     Kind::DamagedBytes,
@@ -90,6 +95,7 @@ pub const ROUND: [Kind; 54] = [
     Kind::Halves,
     Kind::Layouts,
     Kind::Generations,
+    Kind::Alignments,
     Kind::DamagedLines,
     Kind::CutOff,
     Kind::BadName,
@@ -102,6 +108,8 @@ pub const ROUND: [Kind; 54] = [
     Kind::Slots,
     Kind::Resizing,
     Kind::Layouts,
+    Kind::Alignments,
+    Kind::NoAlignments,
     Kind::NoLastNewline,
     Kind::CarriageReturns,
     Kind::DamagedBytes,
@@ -115,6 +123,7 @@ pub const ROUND: [Kind; 54] = [
     Kind::Partitions,
     Kind::Generations,
     Kind::Names,
+    Kind::Alignments,
     Kind::Edges,
     Kind::BadName,
     Kind::DamagedLines,
@@ -147,6 +156,7 @@ fn script_of(kind: Kind, random: &mut Random) -> Vec<u8> {
         Kind::DamagedBytes => damage::bytes(&mut text, random),
         Kind::BadName => damage::name(&mut text, random),
         Kind::DamagedLines => damage::lines(&mut text, random),
+        Kind::NoAlignments => damage::alignments(&mut text, random),
         Kind::CutOff if random.chance(50) => damage::cut_off(&mut text, random),
         Kind::CutOff => damage::cut_off_lines(&mut text, random),
         Kind::NoLastNewline => damage::last_newline(&mut text),
@@ -179,6 +189,7 @@ fn good_script(kind: Kind, random: &mut Random) -> Option<Vec<u8>> {
         Kind::Slots => slots(&mut script),
         Kind::Generations => generations(&mut script),
         Kind::Names => names(&mut script),
+        Kind::Alignments => alignments(&mut script),
         Kind::Edges => edges(&mut script),
         _ => return None,
     }
@@ -450,6 +461,31 @@ fn names(script: &mut Script) {
         (3, ClearPartition),
         (2, One(Get)),
         (2, One(GetBuffer)),
+    ]);
+}
+
+/// Gets on wide alignments in small regions by pages, tasks that wait with
+/// them, and alignments that are refused, now and then by halves.
+fn alignments(script: &mut Script) {
+    script.style.odd = script.random.pick(&[0, 5, 30]);
+    script.style.halves = script.random.pick(&[0, 10, 40]);
+    script.style.alignments = 70;
+    script.style.small_gets = 70;
+    script.style.waits = script.random.pick(&[20, 60]);
+    script.style.longest = script.random.pick(&[400, 1_500, 12_000]);
+    script.style.largest_unit = script.random.pick(&[24, 64, 512]);
+    script.repeat(1, 4, One(CreateRegion));
+    script.fill(&[
+        (12, AlignedGet),
+        (6, AlignedQueue),
+        (6, WrongAlignment),
+        (16, One(Get)),
+        (12, One(Return)),
+        (6, One(Resize)),
+        (6, One(Tick)),
+        (2, One(Information)),
+        (3, RenewRegion),
+        (1, One(CreateRegion)),
     ]);
 }
 

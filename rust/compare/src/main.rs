@@ -29,7 +29,7 @@ Usage: compare PROGRAM SECOND [--seed N] [--scripts N]
 
 The examples of the rules run first. At the first difference the script and
 both outputs are shown. At the end the scripts, statuses, bad lines and cases of
-ids, names, page counts, serving and kinds of regions are counted.
+ids, names, page counts, alignments, serving and kinds of regions are counted.
 
 Exit code 0: no difference, and everything that should occur did.
 Exit code 1: a difference, a program that failed, or something never occurred.

@@ -4,6 +4,7 @@
 //! addresses are held. What is right is never read from it; the two programs
 //! that are compared run on their own.
 
+use author::alignments::MAX_ALIGNMENT;
 use author::{Author, Random, Style, EDGES};
 use directives::words::{is_by_halves, TASKS};
 use directives::{choices, Answer, Call, Directive, MAX_SCRIPT, SCRIPT};
@@ -36,6 +37,16 @@ pub enum Step {
     /// back that adjoin, but are no halves of one block; then both together
     /// are asked for.
     Neighbours,
+    /// A get of a few pages of a region on a wide alignment, and then one that
+    /// fits into the room before it, a resize of it, or its return.
+    AlignedGet,
+    /// All of a region is held, and a first task waits for a little of it on a
+    /// wide alignment, mostly with others behind it; then segments come back in
+    /// any order, or are made smaller.
+    AlignedQueue,
+    /// A get whose alignment is mostly refused, and now and then something else
+    /// too.
+    WrongAlignment,
     /// Returning all that a region holds, and deleting it.
     ClearRegion,
     /// Returning all that a partition holds, and deleting it.
@@ -128,6 +139,9 @@ impl Script {
             Step::TrimmedGet => self.trimmed_get(),
             Step::BlockedQueue => drop(self.blocked_queue()),
             Step::Neighbours => drop(self.neighbours()),
+            Step::AlignedGet => drop(self.aligned_get()),
+            Step::AlignedQueue => drop(self.aligned_queue()),
+            Step::WrongAlignment => self.wrong_alignment(),
             Step::ClearRegion => {
                 let id = self.author().busy_region();
                 self.clear_region(id);
@@ -182,7 +196,7 @@ impl Script {
         let id = self.author().region_id();
         let (page, _) = self.author().pages(id);
         let size = self.random.between(1, page * 3);
-        let answer = self.add(get(id, size))?;
+        let answer = self.add(get_of(id, size))?;
         (answer.status == 0).then_some((id, answer.value))
     }
 
@@ -198,16 +212,16 @@ impl Script {
         let id = self.author().region_id();
         let (page, pages) = self.author().pages(id);
         // First one page, so that the rest can be given back.
-        self.add(get(id, page));
+        self.add(get_of(id, page));
         let held = self.hold_all(id);
         let given = self.random.pick_any(&held)?;
         let back = given.length / page;
         let ticks = self.random.between(1, 2);
-        self.wait(id, page * pages.min(back + 1), 1, ticks)?;
+        self.wait(id, [page * pages.min(back + 1), 0, 1, ticks])?;
         for _ in 0..self.random.between(1, 3) {
             let size = self.random.between(1, page * back);
             let ticks = self.random.between(0, 3);
-            self.wait(id, size, 2, ticks)?;
+            self.wait(id, [size, 0, 2, ticks])?;
         }
         let address = given.address;
         if back > 1 && self.random.chance(30) {
@@ -222,7 +236,7 @@ impl Script {
     /// Asks for all that is free of a region, and gives what is held then.
     fn hold_all(&mut self, id: u32) -> Vec<Segment> {
         for free in self.model.segments_held(id, false) {
-            self.add(get(id, free.length));
+            self.add(get_of(id, free.length));
         }
         self.model.segments_held(id, true)
     }
@@ -243,19 +257,113 @@ impl Script {
         }
         let both = 2 * two[0].length;
         if self.random.chance(self.style.waits) {
-            self.wait(id, both, 1, 1)?;
+            self.wait(id, [both, 0, 1, 1])?;
         } else {
-            self.add(get(id, both))?;
+            self.add(get_of(id, both))?;
         }
         Some(())
     }
 
-    /// A get of an idle task that may wait.
-    fn wait(&mut self, id: u32, size: u32, priority: u32, ticks: u32) -> Option<Answer> {
+    /// A get of an idle task that may wait: size, alignment, priority, ticks.
+    fn wait(&mut self, id: u32, asked: [u32; 4]) -> Option<Answer> {
+        let [size, alignment, priority, ticks] = asked;
         let waiting = self.model.waiting_tasks();
         let task = (1..=TASKS as u32).find(|task| !waiting.contains(task))?;
-        let get = [id, size, 1, task, priority, ticks];
+        let get = [id, size, alignment, 1, task, priority, ticks];
         self.add(Directive::Get.call(&get))
+    }
+
+    fn aligned_get(&mut self) -> Option<()> {
+        let id = self.author().region_id();
+        let (page, _) = self.author().pages(id);
+        let alignment = self.author().wide_alignment(id);
+        let size = self.random.between(1, page * 3);
+        let get = Directive::Get.call(&[id, size, alignment, 0, 0, 0, 0]);
+        let answer = self.add(get)?;
+        let address = (answer.status == 0).then_some(answer.value)?;
+        let segments = self.model.segments(id);
+        let before = segments.iter().find(|s| s.address + s.length == address);
+        let room = before.filter(|before| !before.held)?.length;
+        match self.random.below(4) {
+            0 => {
+                let size = self.random.between(1, room);
+                self.add(get_of(id, size))
+            }
+            1 => self.add(Call::Return { id, address }),
+            _ => {
+                let size = self.random.between(1, size + room);
+                self.add(Call::Resize { id, address, size })
+            }
+        }?;
+        Some(())
+    }
+
+    fn aligned_queue(&mut self) -> Option<()> {
+        let id = self.author().region_id();
+        let (page, _) = self.author().pages(id);
+        for _ in 0..self.random.between(1, 4) {
+            let pages = self.random.between(1, 3);
+            self.add(get_of(id, page * pages));
+        }
+        let held = self.hold_all(id);
+        if self.random.chance(30) {
+            let ticks = self.random.between(1, 2);
+            let all = held.iter().map(|segment| segment.length).sum();
+            self.wait(id, [all, 0, 1, ticks])?;
+        }
+        self.aligned_waits(id)?;
+        for _ in 0..self.random.between(1, 3) {
+            self.give_back(id)?;
+        }
+        Some(())
+    }
+
+    /// A task that waits for a little of a region on a wide alignment, and
+    /// others behind it.
+    fn aligned_waits(&mut self, id: u32) -> Option<()> {
+        let (page, _) = self.author().pages(id);
+        let alignment = self.author().wide_alignment(id);
+        let size = self.random.between(1, page * 2);
+        let ticks = self.random.between(0, 3);
+        self.wait(id, [size, alignment, 2, ticks])?;
+        for _ in 0..self.random.between(0, 2) {
+            let size = self.random.between(1, page * 2);
+            let alignment = self.random.pick(&[0, 0, page, 2 * page]);
+            self.wait(id, [size, alignment, 3, 0])?;
+        }
+        Some(())
+    }
+
+    /// A held segment of a region comes back, or is made smaller.
+    fn give_back(&mut self, id: u32) -> Option<()> {
+        let (page, _) = self.author().pages(id);
+        let held = self.model.segments_held(id, true);
+        let segment = self.random.pick_any(&held)?;
+        let address = segment.address;
+        if segment.length > page && self.random.chance(40) {
+            let size = self.random.between(1, segment.length - page);
+            self.add(Call::Resize { id, address, size })?;
+        } else {
+            self.add(Call::Return { id, address })?;
+        }
+        Some(())
+    }
+
+    fn wrong_alignment(&mut self) {
+        let mut get = self.author().call_of(Directive::Get);
+        let id = get.arguments()[0];
+        let (page, pages) = self.author().pages(id);
+        let most = MAX_ALIGNMENT / page;
+        let wrong = match self.random.below(4) {
+            0 => page * self.random.between(1, pages) + self.random.between(1, page - 1),
+            1 => (most + self.random.between(1, 4)) * page,
+            2 => most * page,
+            _ => self.author().wide_alignment(id),
+        };
+        if let Call::Get { alignment, .. } = &mut get {
+            *alignment = wrong;
+        }
+        self.add(get);
     }
 
     fn clear_region(&mut self, id: u32) {
@@ -368,7 +476,7 @@ impl Script {
         let (page, pages) = self.author().pages(id);
         let all = page * pages;
         for size in [all + 1, 1, (all - page).max(1), 1] {
-            self.add(get(id, size));
+            self.add(get_of(id, size));
         }
         if self.random.chance(85) {
             self.clear_region(id);
@@ -376,9 +484,9 @@ impl Script {
     }
 }
 
-/// A get without waiting.
-fn get(id: u32, size: u32) -> Call {
-    Directive::Get.call(&[id, size, 0, 0, 0, 0])
+/// A get without an alignment and without waiting.
+fn get_of(id: u32, size: u32) -> Call {
+    Directive::Get.call(&[id, size, 0, 0, 0, 0, 0])
 }
 
 #[cfg(test)]

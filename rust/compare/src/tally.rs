@@ -13,6 +13,9 @@ const NOTICES: [u32; 2] = [0, 6];
 /// The keys that take only a few numbers.
 const CHOICES: [&str; 2] = ["order", "wait"];
 
+/// What can be wrong where the key of alignments is due.
+const ALIGNMENTS: [&str; 2] = ["align without a number", "no align"];
+
 /// Counts over all scripts that were compared.
 #[derive(Default)]
 pub struct Tally {
@@ -25,6 +28,8 @@ pub struct Tally {
     bad_lines: u64,
     /// Bad lines in which a number is no choice of this key.
     bad_choices: BTreeMap<&'static str, u64>,
+    /// Bad lines where the key of alignments is due.
+    bad_alignments: BTreeMap<&'static str, u64>,
 }
 
 impl Tally {
@@ -38,6 +43,9 @@ impl Tally {
                 self.bad_lines += 1;
                 if let Some(key) = wrong_choice(script, line) {
                     *self.bad_choices.entry(key).or_default() += 1;
+                }
+                if let Some(title) = wrong_alignment(script, line) {
+                    *self.bad_alignments.entry(title).or_default() += 1;
                 }
             }
             None => {}
@@ -94,24 +102,48 @@ impl Tally {
                 missing.push(format!("bad= for a number that is no {key}"));
             }
         }
+        for title in ALIGNMENTS {
+            if !self.bad_alignments.contains_key(title) {
+                missing.push(format!("bad= for {title}"));
+            }
+        }
         missing
     }
+}
+
+/// The lines of a script, each with its newline if it has one.
+fn lines_of(script: &[u8]) -> impl Iterator<Item = &[u8]> {
+    script.split_inclusive(|&byte| byte == b'\n')
+}
+
+/// Whether a script's bad line would be right with a key and the number 0.
+fn is_due(key: &str, script: &[u8], line: u32) -> bool {
+    let before: Vec<&[u8]> = lines_of(script).take(line as usize - 1).collect();
+    let mended = [&before.concat(), format!("{key}=0\n").as_bytes()].concat();
+    let (_, still_bad) = answers_of(&second::run(&mended));
+    still_bad != Some(line)
 }
 
 /// The key of a script's bad line, if all that is wrong there is that its
 /// number is no choice.
 fn wrong_choice(script: &[u8], line: u32) -> Option<&'static str> {
-    let lines = script.split_inclusive(|&byte| byte == b'\n');
-    let lines: Vec<&[u8]> = lines.take(line as usize).collect();
-    let (bad, before) = lines.split_last()?;
+    let bad = lines_of(script).nth(line as usize - 1)?;
     let bad = std::str::from_utf8(bad).ok()?.strip_suffix('\n')?;
     let (key, text) = bad.split_once('=')?;
     let key = CHOICES.into_iter().find(|choice| *choice == key)?;
     let number: u32 = text.parse().ok()?;
-    // With a choice the line would be right.
-    let mended = [&before.concat(), format!("{key}=0\n").as_bytes()].concat();
-    let (_, still_bad) = answers_of(&second::run(&mended));
-    (number.to_string() == text && still_bad != Some(line)).then_some(key)
+    (number.to_string() == text && is_due(key, script, line)).then_some(key)
+}
+
+/// What is wrong in a script's bad line, if the key of alignments is due there.
+fn wrong_alignment(script: &[u8], line: u32) -> Option<&'static str> {
+    let [no_number, no_key] = ALIGNMENTS;
+    let bad = lines_of(script).nth(line as usize - 1).unwrap_or_default();
+    let title = match bad.starts_with(b"align=") {
+        true => no_number,
+        false => no_key,
+    };
+    is_due("align", script, line).then_some(title)
 }
 
 /// The answers that an output has, and the number of its bad line. A value
@@ -169,6 +201,9 @@ impl fmt::Display for Tally {
         for (key, count) in &self.bad_choices {
             writeln!(out, "  {:<22}{count:>9}", format!("of these no {key}"))?;
         }
+        for (title, count) in &self.bad_alignments {
+            writeln!(out, "  {title:<22}{count:>9}")?;
+        }
         writeln!(out, "Statuses (and how often) by call:")?;
         for &directive in SCRIPT {
             write!(out, "  {:<16}", directive.name())?;
@@ -181,7 +216,7 @@ impl fmt::Display for Tally {
         }
         writeln!(
             out,
-            "Ids, names, generations, page counts, serving and kinds of regions:"
+            "Ids, names, generations, page counts, alignments, serving and kinds of regions:"
         )?;
         for (case, count) in &self.cases {
             writeln!(out, "  {:<58}{count:>9}", case.to_string())?;
@@ -256,11 +291,11 @@ mod tests {
         let create = |order: &str| {
             format!("call=create-region\nname=1\nstart=4\nlength=1020\npage=64\norder={order}\n")
         };
-        let get = |wait: &str| format!("call=tick\ncall=get\nid=1\nsize=1\nwait={wait}\n");
+        let get = |wait: &str| format!("call=tick\ncall=get\nid=1\nsize=1\nalign=0\nwait={wait}\n");
         for (script, line, key) in [
             (create("4"), 6, Some("order")),
             (create("4294967295"), 6, Some("order")),
-            (get("2"), 5, Some("wait")),
+            (get("2"), 6, Some("wait")),
             (create("4294967296"), 6, None),
             (create("04"), 6, None),
             (create(""), 6, None),
@@ -270,6 +305,26 @@ mod tests {
             let output = second::run(script.as_bytes());
             assert_eq!(answers_of(&output).1, Some(line), "{script}");
             assert_eq!(wrong_choice(script.as_bytes(), line), key, "{script}");
+        }
+    }
+
+    /// So are bad lines where the key of alignments is due.
+    #[test]
+    fn wrong_alignments_are_counted() {
+        let get = |rest: &str| format!("call=tick\ncall=get\nid=1\nsize=1\n{rest}");
+        for (script, line, title) in [
+            (get("align=\n"), 5, Some(ALIGNMENTS[0])),
+            (get("align=064\n"), 5, Some(ALIGNMENTS[0])),
+            (get("align=4294967296\nwait=0\n"), 5, Some(ALIGNMENTS[0])),
+            (get("wait=0\nalign=0\n"), 5, Some(ALIGNMENTS[1])),
+            (get(""), 5, Some(ALIGNMENTS[1])),
+            (get("align=0\nwait=2\n"), 6, None),
+            (get("align=0\nalign=0\n"), 6, None),
+            ("call=get\nid=1\nalign=0\n".to_string(), 3, None),
+        ] {
+            let output = second::run(script.as_bytes());
+            assert_eq!(answers_of(&output).1, Some(line), "{script}");
+            assert_eq!(wrong_alignment(script.as_bytes(), line), title, "{script}");
         }
     }
 }

@@ -9,10 +9,10 @@ pub mod words;
 use words::{status, ORDERS};
 
 /// Hands the table to a macro. Each row has the directive, its name in a
-/// script, its function in the library, its keys in order and the statuses
-/// that it can be answered with, beside 25 for unsound records. `SCRIPT` are
-/// the calls of a script, `LIBRARY` those that only the library has: over the
-/// words of a segment.
+/// script, its function in the library, its keys in order (with the name in a
+/// script, where that is another) and the statuses that it can be answered
+/// with, beside 25 for unsound records. `SCRIPT` are the calls of a script,
+/// `LIBRARY` those that only the library has: over the words of a segment.
 #[macro_export]
 macro_rules! with_table {
     ($callback:ident) => {
@@ -23,7 +23,8 @@ macro_rules! with_table {
                 IdentRegion "ident-region" sc_region_ident { name } [0, 3];
                 DeleteRegion "delete-region" sc_region_delete { id } [0, 4, 12];
                 Get "get" sc_region_get_segment
-                    { id, size, wait, task, priority, ticks } [0, 4, 8, 10, 13, 14, 19, 255];
+                    { id, size, alignment = "align", wait, task, priority, ticks }
+                    [0, 4, 8, 10, 11, 13, 14, 19, 255];
                 Return "return" sc_region_return_segment { id, address } [0, 4, 9];
                 Size "size" sc_region_get_segment_size { id, address } [0, 4, 9];
                 Resize "resize" sc_region_resize_segment { id, address, size } [0, 4, 8, 9, 13];
@@ -44,10 +45,21 @@ macro_rules! with_table {
     };
 }
 
+/// The name of a key in a script.
+macro_rules! name_of {
+    ($key:ident) => {
+        stringify!($key)
+    };
+    ($key:ident $name:literal) => {
+        $name
+    };
+}
+
 macro_rules! define {
     ($($GROUP:ident {
         $($Variant:ident $name:literal $function:ident
-            $({ $($key:ident),* $(; $data:ident)? })? [$($status:literal),*];)*
+            $({ $($key:ident $(= $text:literal)?),* $(; $data:ident)? })?
+            [$($status:literal),*];)*
     })*) => {
         $(
             pub const $GROUP: &[Directive] = &[$(Directive::$Variant),*];
@@ -83,10 +95,10 @@ macro_rules! define {
                 }
             }
 
-            /// The keys in a script and the arguments of the function, in order.
+            /// The keys in a script, and so the arguments of the function, in order.
             pub fn keys(self) -> &'static [&'static str] {
                 match self {
-                    $($(Directive::$Variant => &[$($(stringify!($key)),*)?],)*)*
+                    $($(Directive::$Variant => &[$($(name_of!($key $($text)?)),*)?],)*)*
                 }
             }
 
@@ -284,7 +296,7 @@ mod tests {
 
     #[test]
     fn choices_are_told_from_numbers() {
-        let get = |wait| Directive::Get.call(&[9, 9, wait, 9, 9, 9]);
+        let get = |wait| Directive::Get.call(&[9, 9, 9, wait, 9, 9, 9]);
         let create = |order| Directive::CreateRegion.call(&[9, 9, 9, 9, order]);
         for choice in [0, 1, 2, 3, 4, 256, u32::MAX] {
             assert_eq!(get(choice).has_wrong_choice(), choice > 1);
@@ -308,8 +320,8 @@ mod tests {
 
     #[test]
     fn calls_are_written_as_lines() {
-        let text = "call=get\nid=1\nsize=65\nwait=1\ntask=2\npriority=3\nticks=4\n";
-        let call = Directive::Get.call(&[1, 65, 1, 2, 3, 4]);
+        let text = "call=get\nid=1\nsize=65\nalign=128\nwait=1\ntask=2\npriority=3\nticks=4\n";
+        let call = Directive::Get.call(&[1, 65, 128, 1, 2, 3, 4]);
         assert_eq!(call.to_script(), text);
         assert_eq!(Call::Tick.to_script(), "call=tick\n");
     }

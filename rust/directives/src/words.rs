@@ -16,13 +16,13 @@ pub const ORDERS: u32 = 4;
 pub const MEMORY_WORDS: usize = 16_384;
 
 /// The words of a record.
-pub const RECORD_WORDS: usize = 192;
+pub const RECORD_WORDS: usize = 208;
 /// The words of a region's slot.
 pub const REGION_WORDS: usize = 6;
 /// The words of a partition's slot.
 pub const PARTITION_WORDS: usize = 8;
 /// The words of a waiter's place.
-pub const WAITER_WORDS: usize = 5;
+pub const WAITER_WORDS: usize = 6;
 /// Where the partitions start in a record.
 pub const PARTITIONS_AT: usize = SLOTS * REGION_WORDS;
 /// Where the waiters start in a record.
@@ -44,8 +44,9 @@ pub const FREE: usize = 7;
 pub const TASK: usize = 0;
 pub const REGION: usize = 1;
 pub const WANTED: usize = 2;
-pub const PRIORITY: usize = 3;
-pub const TICKS: usize = 4;
+pub const ALIGNMENT: usize = 3;
+pub const PRIORITY: usize = 4;
+pub const TICKS: usize = 5;
 
 /// The words of an answer: a value, six information values, 16 notices.
 pub const ANSWER_WORDS: usize = 55;
@@ -120,7 +121,8 @@ pub fn record_word_title(word: usize) -> String {
         "rear",
         "free",
     ];
-    const WAITER_TITLES: [&str; WAITER_WORDS] = ["task", "region", "size", "priority", "ticks"];
+    const WAITER_TITLES: [&str; WAITER_WORDS] =
+        ["task", "region", "size", "alignment", "priority", "ticks"];
     let title = |kind: &str, at: usize, fields: &[&str]| {
         let index = at / fields.len() + 1;
         format!("{kind} {index} {}", fields[at % fields.len()])
@@ -144,6 +146,7 @@ pub mod status {
     pub const INVALID_SIZE: u32 = 8;
     pub const INVALID_ADDRESS: u32 = 9;
     pub const INVALID_NUMBER: u32 = 10;
+    pub const NOT_DEFINED: u32 = 11;
     pub const RESOURCE_IN_USE: u32 = 12;
     pub const UNSATISFIED: u32 = 13;
     pub const INCORRECT_STATE: u32 = 14;
@@ -171,6 +174,7 @@ mod tests {
             (partition_at(0) + GENERATION, "partition 1 generation"),
             (partition_at(0) + FRONT, "partition 1 front"),
             (waiter_at(0) + REGION, "waiter 1 region"),
+            (waiter_at(1) + ALIGNMENT, "waiter 2 alignment"),
             (RECORD_WORDS - 1, "waiter 16 ticks"),
         ];
         for (word, title) in titles {

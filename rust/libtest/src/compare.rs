@@ -255,6 +255,7 @@ impl<'a, L: Library> Comparison<'a, L> {
             let call = list.call_of(Directive::Resize, random, &found);
             self.step(random, &mut found.clone(), &call)?;
         }
+        self.on_waiters(random, list, &found)?;
         // A short list leaves few blocks.
         let calls = if has_many_blocks(&found) { 16 } else { 0 };
         for _ in 0..calls {
@@ -265,6 +266,30 @@ impl<'a, L: Library> Comparison<'a, L> {
         for _ in 0..random.between(0, 8) {
             let call = list.call(random, &found);
             self.step(random, &mut found, &call)?;
+        }
+        Ok(())
+    }
+
+    /// Makes gets in which much is wrong, and calls that serve. Few lists have
+    /// tasks that wait, and fewer such with an alignment.
+    fn on_waiters(
+        &mut self,
+        random: &mut Random,
+        list: &List,
+        found: &Model,
+    ) -> Result<(), String> {
+        let waiters = found.waiters();
+        let gets = if waiters.is_empty() { 0 } else { 12 };
+        for _ in 0..gets {
+            let call = list.wrong_get(random, found);
+            self.step(random, &mut found.clone(), &call)?;
+        }
+        let has_alignment = waiters.iter().any(|waiter| waiter[ALIGNMENT] != 0);
+        let calls = if has_alignment { 6 } else { 0 };
+        for _ in 0..calls {
+            let serving = [Directive::Return, Directive::Resize, Directive::Tick];
+            let call = list.call_of(random.pick(&serving), random, found);
+            self.step(random, &mut found.clone(), &call)?;
         }
         Ok(())
     }

@@ -322,16 +322,20 @@ pub const KINDS: &[Kind] = &[
         state.memory.truncate(words - random.below(words.min(3)));
         Some(())
     }),
-    unsound("record of 191 words", |_, state| {
+    unsound("record of 207 words", |_, state| {
         state.record.truncate(RECORD_WORDS - 1);
         Some(())
     }),
-    unsound("record of 193 words", |_, state| {
+    unsound("record of 209 words", |_, state| {
         state.record.push(0);
         Some(())
     }),
     unsound("record of 176 words, as without generations", |_, state| {
         state.record.truncate(176);
+        Some(())
+    }),
+    unsound("record of 192 words, as without alignments", |_, state| {
+        state.record.truncate(192);
         Some(())
     }),
     unsound("record of 0 words", |_, state| {
@@ -724,12 +728,12 @@ pub const KINDS: &[Kind] = &[
         "halves: free neighbours, no halves of one block",
         |random, state| {
             let region = state.some_blocks(random, 4)?;
-            let pages = state.layout(region).pages;
-            let block = pages >> random.between(2, pages.ilog2());
-            let mut blocks = vec![(block, true); (pages / block) as usize];
+            let mut blocks = state.equal_blocks(random, region);
             // The second and the third of four, or of the next four.
             let low = 4 * random.below(blocks.len() / 4) + 1;
-            blocks[low..low + 2].fill((block, false));
+            for (_, held) in &mut blocks[low..low + 2] {
+                *held = false;
+            }
             state.draw_map(region, &blocks);
             Some(())
         },
@@ -779,6 +783,10 @@ pub const KINDS: &[Kind] = &[
             let region = state.some_blocks(random, 4)?;
             let are_apart =
                 |first, two: &[Segment; 2]| two[0].1 == two[1].1 && !are_halves(first, two);
+            if state.some_neighbours(random, region, are_apart).is_none() {
+                let blocks = state.equal_blocks(random, region);
+                state.draw_map(region, &blocks);
+            }
             let two = state.some_neighbours(random, region, are_apart)?;
             join(random, state, two);
             Some(())
@@ -1086,6 +1094,7 @@ pub const KINDS: &[Kind] = &[
         let at = state.some_waiter(random)?;
         let region = state.region_of(at)?;
         state.record[at + WANTED] = state.record[region + PAGE] * state.layout(region).pages;
+        state.record[at + ALIGNMENT] = 0;
         Some(())
     }),
     sound(
@@ -1100,6 +1109,73 @@ pub const KINDS: &[Kind] = &[
             Some(())
         },
     ),
+    unsound(
+        "waiter: alignment not a multiple of the page",
+        |random, state| {
+            let (at, region) = state.some_waiter_by(random, false)?;
+            let page = state.record[region + PAGE];
+            let multiple = random.pick(&state.multiples(region));
+            let near = multiple - random.between(1, page - 1);
+            state.record[at + ALIGNMENT] = random.pick(&[near, near, 1, 4, page / 2, page - 1]);
+            Some(())
+        },
+    ),
+    unsound("waiter: alignment above 4,096", |random, state| {
+        let (at, region) = state.some_waiter_by(random, false)?;
+        let page = state.record[region + PAGE];
+        let next = (4_096 / page + 1) * page;
+        let largest = MAX / page * page;
+        state.record[at + ALIGNMENT] = random.pick(&[next, next + page, 8 * 4_096 * page, largest]);
+        Some(())
+    }),
+    unsound(
+        "waiter: no multiple of its alignment in the region",
+        |random, state| {
+            let (at, region) = state.some_waiter_by(random, false)?;
+            let mut multiples = state.multiples(region);
+            multiples.retain(|alignment| state.most_on(region, *alignment) == 0);
+            state.record[at + ALIGNMENT] = random.pick_any(&multiples)?;
+            state.record[at + WANTED] = 1;
+            Some(())
+        },
+    ),
+    unsound(
+        "waiter: size above the pages behind its alignment",
+        |random, state| {
+            let (at, region) = state.some_waiter_by(random, false)?;
+            let all = state.most_on(region, 0);
+            let mut multiples = state.multiples(region);
+            multiples.retain(|alignment| (1..all).contains(&state.most_on(region, *alignment)));
+            let alignment = random.pick_any(&multiples)?;
+            let most = state.most_on(region, alignment);
+            state.record[at + ALIGNMENT] = alignment;
+            state.record[at + WANTED] = random.pick(&[most + 1, most + 1, all]);
+            Some(())
+        },
+    ),
+    sound(
+        "waiter: size all pages behind its alignment",
+        |random, state| {
+            let (at, region) = state.some_waiter_by(random, false)?;
+            let mut multiples = state.multiples(region);
+            multiples.retain(|alignment| state.most_on(region, *alignment) > 0);
+            let alignment = random.pick_any(&multiples)?;
+            state.record[at + ALIGNMENT] = alignment;
+            state.record[at + WANTED] = state.most_on(region, alignment);
+            Some(())
+        },
+    ),
+    sound("waiter: alignment the page size, or 0", |random, state| {
+        let (at, region) = state.some_waiter_by(random, false)?;
+        state.record[at + ALIGNMENT] = random.pick(&[0, state.record[region + PAGE]]);
+        Some(())
+    }),
+    unsound("waiter: alignment not 0, by halves", |random, state| {
+        let (at, region) = state.some_waiter_by(random, true)?;
+        let page = state.record[region + PAGE];
+        state.record[at + ALIGNMENT] = random.pick(&[1, page, 2 * page, 4_096, MAX]);
+        Some(())
+    }),
     unsound("waiter: priority 0", |random, state| {
         waiter_field(random, state, PRIORITY, &[0])
     }),
@@ -1133,7 +1209,15 @@ pub const KINDS: &[Kind] = &[
         let unused = state.unused_place()?;
         let places: Vec<usize> = (unused..RECORD_WORDS).step_by(WAITER_WORDS).collect();
         let at = random.pick(&places);
-        state.record[at + random.pick(&[1, 2, 3, 4])] = random.pick(&[1, 2, MAX]);
+        let fields: Vec<usize> = (1..WAITER_WORDS).collect();
+        state.record[at + random.pick(&fields)] = random.pick(&[1, 2, MAX]);
+        Some(())
+    }),
+    unsound("queue: unused place with an alignment", |random, state| {
+        let unused = state.unused_place()?;
+        let places: Vec<usize> = (unused..RECORD_WORDS).step_by(WAITER_WORDS).collect();
+        let at = random.pick(&places);
+        state.record[at + ALIGNMENT] = random.pick(&[1, 8, 64, 4_096, MAX]);
         Some(())
     }),
     any("queue: two waiters change places", |random, state| {
@@ -1197,6 +1281,17 @@ pub const KINDS: &[Kind] = &[
             let at = state.some_waiter(random)?;
             state.record[at + TICKS] = 1;
             state.plant_first_waiters(random)
+        },
+    ),
+    sound(
+        "queue: an alignment stops the first, one behind fits",
+        |random, state| {
+            state.plant_stopped_waiter(random)?;
+            // One more, whom a tick sends away.
+            if let Some(at) = state.plant_waiter(random) {
+                state.record[at + TICKS] = 1;
+            }
+            Some(())
         },
     ),
     unsound("queue: by whole ids and not by slots", |random, state| {

@@ -10,7 +10,7 @@ macro_rules! link {
     (
         SCRIPT {
             $($Variant:ident $name:literal $function:ident
-                $({ $($key:ident),* })? [$($status:literal),*];)*
+                $({ $($key:ident $(= $text:literal)?),* })? [$($status:literal),*];)*
         }
         LIBRARY { $($rest:tt)* }
     ) => {

@@ -59,7 +59,7 @@ impl<L: Library> Comparison<'_, L> {
         for (directive, arguments) in [
             (Directive::CreateRegion, &[1, 4, 124, 8, 0][..]),
             (Directive::CreatePartition, &[2, 128, 64, 16]),
-            (Directive::Get, &[id_of(0, OF_REGION), 8, 0, 0, 0, 0]),
+            (Directive::Get, &[id_of(0, OF_REGION), 8, 0, 0, 0, 0, 0]),
             (Directive::GetBuffer, &[id_of(0, OF_PARTITION)]),
         ] {
             self.step(random, &mut model, &directive.call(arguments))?;

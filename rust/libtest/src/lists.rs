@@ -19,12 +19,16 @@ impl List {
         // again; some give nothing back, some delete nothing.
         let creates = if random.chance(30) { 4 } else { 1 };
         let deletes = if random.chance(40) { 5 } else { 1 };
-        // Some halve and join many small blocks.
+        // Some halve and join many small blocks, some have many alignments.
         let halving = random.chance(20);
+        let aligning = !halving && random.chance(30);
         let weight = |directive: &Directive| {
             let usual = match directive {
                 Directive::Get if halving => 120,
                 Directive::Return if halving => 100,
+                Directive::Get if aligning => 120,
+                Directive::Return if aligning => 50,
+                Directive::Resize | Directive::Tick if aligning => 20,
                 Directive::Get => 24,
                 Directive::Return | Directive::GetBuffer => 14,
                 Directive::CreateRegion | Directive::CreatePartition => 12 * creates,
@@ -53,6 +57,7 @@ impl List {
             halves: random.pick(&[0, 50, 50, 100]),
             waits: random.pick(&[0, 30, 60, 90]),
             small_gets: random.pick(&[20, 60, 90]),
+            alignments: random.pick(&[0, 20, 60]),
             longest: bytes / random.pick(&[1, 2, 3, 8, 16, 24, 32]),
             largest_unit: random.pick(&[8, 16, 64, 64, 256, 4_096]),
         };
@@ -62,6 +67,15 @@ impl List {
             style.small_gets = 90;
             style.longest = random.pick(&[200, 600, 2_000]);
             style.largest_unit = random.pick(&[8, 16]);
+        }
+        if aligning {
+            style.odd = random.pick(&[2, 10, 25]);
+            style.halves = random.pick(&[0, 20, 50]);
+            style.waits = random.pick(&[30, 60]);
+            style.small_gets = random.pick(&[60, 90]);
+            style.alignments = random.pick(&[50, 80]);
+            style.longest = random.pick(&[200, 600, 2_000, bytes]);
+            style.largest_unit = random.pick(&[8, 24, 64]);
         }
         List { style, weights }
     }
@@ -82,14 +96,28 @@ impl List {
 
     /// A call of one directive.
     pub fn call_of(&self, directive: Directive, random: &mut Random, model: &Model) -> Call {
-        let style = &self.style;
-        let mut author = Author {
-            random,
-            style,
-            model,
-        };
-        author.call_of(directive)
+        call_in(&self.style, directive, random, model)
     }
+
+    /// A get that mostly may wait, and of which each argument is often wrong.
+    pub fn wrong_get(&self, random: &mut Random, model: &Model) -> Call {
+        let style = Style {
+            odd: 30,
+            waits: 90,
+            alignments: 50,
+            ..self.style.clone()
+        };
+        call_in(&style, Directive::Get, random, model)
+    }
+}
+
+fn call_in(style: &Style, directive: Directive, random: &mut Random, model: &Model) -> Call {
+    let mut author = Author {
+        random,
+        style,
+        model,
+    };
+    author.call_of(directive)
 }
 
 /// A memory with made-up words; small ones are the most frequent.

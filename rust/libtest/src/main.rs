@@ -27,7 +27,8 @@ them, and every function on damaged copies of the states that they pass; at last
 calls with ids of every generation. After each call the returned number, the
 answer, the record, every memory word and the words around the buffers are
 compared. At the end the calls, statuses, cases of ids, names, page counts,
-serving and kinds of regions, kinds of damage and broken clauses are counted.
+alignments, serving and kinds of regions, kinds of damage and broken clauses are
+counted.
 
 After the calls come readings of a gauge. Each is compared bit for bit with plain
 code: the returned number, both fills, whether the alarm sounds and the words

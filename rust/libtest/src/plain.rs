@@ -6,7 +6,7 @@
 //! that has no function here is the model's.
 
 use crate::call::{Buffers, Call, Library};
-use crate::sound::{self, layout, Layout};
+use crate::sound::{self, layout, pages_before, Layout};
 use crate::words::*;
 use model::Model;
 use std::cmp::Ordering;
@@ -63,11 +63,15 @@ fn directive(record: &mut [u32], memory: &mut [u32], answer: &mut [u32], call: &
         Call::Get {
             id,
             size,
+            alignment,
             wait,
             task,
             priority,
             ticks,
-        } => state.get(id, size, (wait == 1).then_some([task, priority, ticks])),
+        } => {
+            let waiter = (wait == 1).then_some([task, priority, ticks]);
+            state.get(id, size, alignment, waiter)
+        }
         Call::Return { id, address } => state.return_segment(id, address),
         Call::Size { id, address } => state.size(id, address),
         Call::Resize { id, address, size } => state.resize(id, address, size),
@@ -232,17 +236,51 @@ impl Region {
         })
     }
 
-    /// Holds so many pages from the free segment that serves, and gives the
-    /// address.
-    fn take(&self, memory: &mut [u32], pages: usize) -> Option<u32> {
+    /// Whether the alignment of a get is one that the region takes.
+    fn check_alignment(&self, alignment: u32) -> Result<(), u32> {
+        if alignment == 0 {
+            Ok(())
+        } else if self.by_halves {
+            Err(status::NOT_DEFINED)
+        } else if alignment > 4_096 || !alignment.is_multiple_of(self.page) {
+            Err(status::INVALID_SIZE)
+        } else {
+            Ok(())
+        }
+    }
+
+    /// How many pages, from one on, come before the first that is on an
+    /// alignment.
+    fn pages_before(&self, first: usize, alignment: u32) -> usize {
+        pages_before(self.address_of(first), self.page, alignment) as usize
+    }
+
+    /// Whether so many pages on an alignment have a place if nothing is held.
+    fn can_have(&self, pages: usize, alignment: u32) -> bool {
+        pages <= self.pages() && self.pages_before(0, alignment) <= self.pages() - pages
+    }
+
+    /// Holds so many pages on an alignment from the free segment that serves,
+    /// and gives the address.
+    fn take(&self, memory: &mut [u32], pages: usize, alignment: u32) -> Option<u32> {
         if self.by_halves {
             return self.take_block(memory, pages);
         }
-        let (first, room, _) = self
-            .segments(memory)
-            .find(|&(_, room, held)| !held && room >= pages)?;
-        if room > pages {
-            memory[self.word(first + pages)] = 2 * (room - pages) as u32;
+        let place = |(first, room, held): (usize, usize, bool)| {
+            if held {
+                return None;
+            }
+            let before = self.pages_before(first, alignment);
+            let behind = room.checked_sub(before + pages)?;
+            Some((first, before, behind))
+        };
+        let (free, before, behind) = self.segments(memory).find_map(place)?;
+        let first = free + before;
+        if before > 0 {
+            memory[self.word(free)] = 2 * before as u32;
+        }
+        if behind > 0 {
+            memory[self.word(first + pages)] = 2 * behind as u32;
         }
         memory[self.word(first)] = 2 * pages as u32 + 1;
         Some(self.address_of(first))
@@ -343,13 +381,20 @@ impl State<'_> {
         Ok(0)
     }
 
-    fn get(&mut self, id: u32, size: u32, waiter: Option<[u32; 3]>) -> Result<u32, u32> {
+    fn get(
+        &mut self,
+        id: u32,
+        size: u32,
+        alignment: u32,
+        waiter: Option<[u32; 3]>,
+    ) -> Result<u32, u32> {
         if size == 0 {
             return Err(status::INVALID_SIZE);
         }
         let region = Region::find(self.record, id)?;
+        region.check_alignment(alignment)?;
         let pages = region.pages_for(size);
-        if pages > region.pages() {
+        if !region.can_have(pages, alignment) {
             return Err(status::INVALID_SIZE);
         }
         if let Some([task, priority, _]) = waiter {
@@ -363,11 +408,11 @@ impl State<'_> {
                 return Err(status::INCORRECT_STATE);
             }
         }
-        if let Some(address) = region.take(self.memory, pages) {
+        if let Some(address) = region.take(self.memory, pages, alignment) {
             return Ok(address);
         }
         let [task, priority, ticks] = waiter.ok_or(status::UNSATISFIED)?;
-        self.enqueue(region.at, [task, id, size, priority, ticks]);
+        self.enqueue(region.at, [task, id, size, alignment, priority, ticks]);
         Err(status::WAITING)
     }
 
@@ -391,11 +436,12 @@ impl State<'_> {
         };
         let mut served = 0;
         for waiter in self.record[waiter_at(place)..].chunks_exact(WAITER_WORDS) {
-            let (task, size) = (waiter[TASK], waiter[WANTED]);
+            let (task, alignment) = (waiter[TASK], waiter[ALIGNMENT]);
             if task == 0 || waiter[REGION] != id {
                 break;
             }
-            let Some(address) = region.take(self.memory, region.pages_for(size)) else {
+            let pages = region.pages_for(waiter[WANTED]);
+            let Some(address) = region.take(self.memory, pages, alignment) else {
                 break;
             };
             let notice = [task, status::SUCCESSFUL, address];
@@ -709,10 +755,10 @@ mod tests {
             (Directive::CreateRegion, &[1, 4, 508, 16, 1][..]),
             (Directive::CreatePartition, &[2, 512, 100, 24]),
             (Directive::GetBuffer, &[1]),
-            (Directive::Get, &[1, 300, 0, 0, 0, 0]),
-            (Directive::Get, &[1, 300, 1, 3, 9, 2]),
-            (Directive::Get, &[1, 112, 1, 4, 9, 0]),
-            (Directive::Get, &[1, 112, 1, 5, 9, 0]),
+            (Directive::Get, &[1, 300, 0, 0, 0, 0, 0]),
+            (Directive::Get, &[1, 300, 0, 1, 3, 9, 2]),
+            (Directive::Get, &[1, 112, 0, 1, 4, 9, 0]),
+            (Directive::Get, &[1, 112, 0, 1, 5, 9, 0]),
             (Directive::Resize, &[1, 112, 288]),
             (Directive::Information, &[1]),
             (Directive::Tick, &[]),
@@ -727,16 +773,29 @@ mod tests {
             (Directive::CreatePartition, &[3, 620, 8, 8]),
             (Directive::CreateRegion, &[1, 700, 200, 16, 3]),
             (Directive::CreateRegion, &[3, 700, 200, 16, 3]),
-            (Directive::Get, &[2, 16, 0, 0, 0, 0]),
-            (Directive::Get, &[2, 40, 0, 0, 0, 0]),
-            (Directive::Get, &[2, 17, 0, 0, 0, 0]),
-            (Directive::Get, &[2, 90, 1, 6, 9, 2]),
+            (Directive::Get, &[2, 16, 0, 0, 0, 0, 0]),
+            (Directive::Get, &[2, 40, 0, 0, 0, 0, 0]),
+            (Directive::Get, &[2, 17, 0, 0, 0, 0, 0]),
+            (Directive::Get, &[2, 90, 0, 1, 6, 9, 2]),
             (Directive::Resize, &[2, 736, 1]),
             (Directive::Resize, &[2, 736, 17]),
             (Directive::Return, &[2, 800]),
             (Directive::Return, &[2, 768]),
             (Directive::Return, &[2, 736]),
             (Directive::Information, &[2]),
+            (Directive::Get, &[2, 16, 32, 0, 0, 0, 0]),
+            (Directive::CreateRegion, &[4, 900, 120, 8, 0]),
+            (Directive::Get, &[3, 8, 24, 0, 0, 0, 0]),
+            (Directive::Get, &[3, 8, 32, 0, 0, 0, 0]),
+            (Directive::Get, &[3, 8, 8, 0, 0, 0, 0]),
+            (Directive::Get, &[3, 8, 12, 0, 0, 0, 0]),
+            (Directive::Get, &[3, 8, 4_104, 0, 0, 0, 0]),
+            (Directive::Get, &[3, 8, 1_024, 0, 0, 0, 0]),
+            (Directive::Get, &[3, 72, 0, 0, 0, 0, 0]),
+            (Directive::Get, &[3, 8, 24, 1, 7, 1, 0]),
+            (Directive::Get, &[3, 8, 64, 1, 8, 1, 0]),
+            (Directive::Information, &[3]),
+            (Directive::Return, &[3, 960]),
         ] {
             let call = asked.call(arguments);
             let mut others = words.clone();

@@ -30,7 +30,7 @@ macro_rules! clauses {
 }
 
 clauses! {
-    RecordLength => "record not of 192 words",
+    RecordLength => "record not of 208 words",
     MemoryLength => "memory not of 1 to 16,384 words",
     OrderChoice => "order above 3",
     RegionSlotNotZero => "empty region slot not zero but for its generation",
@@ -79,6 +79,10 @@ clauses! {
     NothingHeld => "waiter: nothing held in the region",
     WaiterSizeZero => "waiter: size 0",
     WaiterSizeTooLarge => "waiter: size above the region's pages",
+    AlignmentByHalves => "waiter: alignment not 0, by halves",
+    AlignmentNotMultiple => "waiter: alignment not a multiple of the page",
+    AlignmentTooLarge => "waiter: alignment above 4,096",
+    AlignmentWithoutPlace => "waiter: no place on its alignment in all pages",
     WaiterPriority => "waiter: priority not 1 to 255",
     RegionsNotAscending => "queue: regions' slots not ascending",
     PriorityOrder => "queue: priorities not ascending",
@@ -99,6 +103,16 @@ pub struct Layout {
     pub first_page: u32,
     /// How many pages there are.
     pub pages: u32,
+}
+
+/// How many pages, from one at an address on, come before the first whose
+/// address is a multiple of an alignment that is allowed. Each page is on 0,
+/// which stands for the page size.
+pub fn pages_before(address: u32, page: u32, alignment: u32) -> u32 {
+    match alignment {
+        0 => 0,
+        _ => (address.next_multiple_of(alignment) - address) / page,
+    }
 }
 
 /// The layout of an area that lies inside the memory, for a region of some
@@ -348,7 +362,7 @@ fn check_waiters(
     let (mut last_index, mut last_priority) = (0, 0);
     for place in 0..TASKS {
         let waiter = &record[waiter_at(place)..][..WAITER_WORDS];
-        let (task, size, priority) = (waiter[TASK], waiter[WANTED], waiter[PRIORITY]);
+        let (task, priority) = (waiter[TASK], waiter[PRIORITY]);
         if task == 0 {
             ask(all_zero(waiter), Clause::PlaceNotZero)?;
             unused_seen = true;
@@ -361,10 +375,7 @@ fn check_waiters(
         let index = waiters_region(record, waiter[REGION])?;
         let slot = &record[region_at(index)..][..REGION_WORDS];
         ask(held[index], Clause::NothingHeld)?;
-        ask(size > 0, Clause::WaiterSizeZero)?;
-        // By halves this is rounded up, but not above the pages, a power of two.
-        let fits = size.div_ceil(slot[PAGE]) <= layouts[index].pages;
-        ask(fits, Clause::WaiterSizeTooLarge)?;
+        check_wanted(slot, &layouts[index], waiter[WANTED], waiter[ALIGNMENT])?;
         ask((1..=255).contains(&priority), Clause::WaiterPriority)?;
         ask(last_index <= index, Clause::RegionsNotAscending)?;
         if is_by_priority(slot[ORDER]) && last_index == index {
@@ -373,6 +384,24 @@ fn check_waiters(
         (last_index, last_priority) = (index, priority);
     }
     Ok(())
+}
+
+/// Checks that a region could serve some bytes on an alignment if nothing of it
+/// were held.
+fn check_wanted(slot: &[u32], layout: &Layout, size: u32, alignment: u32) -> Result<(), Clause> {
+    use Clause::*;
+    let page = slot[PAGE];
+    ask(size > 0, WaiterSizeZero)?;
+    // By halves this is rounded up, but not above the pages, a power of two.
+    let pages = size.div_ceil(page);
+    ask(pages <= layout.pages, WaiterSizeTooLarge)?;
+    let by_halves = is_by_halves(slot[ORDER]);
+    ask(alignment == 0 || !by_halves, AlignmentByHalves)?;
+    ask(alignment <= 4_096, AlignmentTooLarge)?;
+    ask(alignment.is_multiple_of(page), AlignmentNotMultiple)?;
+    // The lowest place has the most pages behind it.
+    let before = pages_before(layout.first_page, page, alignment);
+    ask(before + pages <= layout.pages, AlignmentWithoutPlace)
 }
 
 /// The index of a waiter's region, whose id must be live.

@@ -1,6 +1,6 @@
 //! The raw words that go into a call, read and changed by hand.
 
-use crate::sound::{layout, Layout};
+use crate::sound::{layout, pages_before, Layout};
 use author::Random;
 use directives::words::*;
 
@@ -176,8 +176,7 @@ impl State {
     }
 
     pub fn plant_waiter_in(&mut self, random: &mut Random, region: usize) -> Option<usize> {
-        let most = self.layout(region).pages * self.record[region + PAGE];
-        let size = random.between(1, most);
+        let [size, alignment] = self.some_wanted(random, region);
         let priority = random.pick(&[1, 2, 3, 254, 255]);
         let by_priority = is_by_priority(self.record[region + ORDER]);
         let is_ahead = |at: usize| {
@@ -186,7 +185,55 @@ impl State {
         };
         let ahead = self.waiters().iter().filter(|&&at| is_ahead(at)).count();
         let ticks = random.pick(&[0, 1, 2, MAX]);
-        self.insert_waiter(random, ahead, [self.id(region), size, priority, ticks])
+        let words = [self.id(region), size, alignment, priority, ticks];
+        self.insert_waiter(random, ahead, words)
+    }
+
+    /// The most bytes that a region could serve on an alignment with nothing
+    /// held.
+    pub fn most_on(&self, region: usize, alignment: u32) -> u32 {
+        let (page, layout) = (self.record[region + PAGE], self.layout(region));
+        let before = pages_before(layout.first_page, page, alignment);
+        layout.pages.saturating_sub(before) * page
+    }
+
+    /// The multiples of a region's page size that are allowed as alignments.
+    pub fn multiples(&self, region: usize) -> Vec<u32> {
+        let page = self.record[region + PAGE];
+        (1..=4_096 / page).map(|multiple| multiple * page).collect()
+    }
+
+    /// An alignment that a get of a region may have: 0, or a multiple that a
+    /// page of it is on.
+    fn some_alignment(&self, random: &mut Random, region: usize) -> u32 {
+        if self.is_by_halves(region) || random.chance(50) {
+            return 0;
+        }
+        let mut multiples = self.multiples(region);
+        multiples.retain(|alignment| self.most_on(region, *alignment) > 0);
+        random.pick_any(&multiples).unwrap_or(0)
+    }
+
+    /// A size and an alignment that a region could serve with nothing held.
+    fn some_wanted(&self, random: &mut Random, region: usize) -> [u32; 2] {
+        let alignment = self.some_alignment(random, region);
+        let most = self.most_on(region, alignment);
+        [random.between(1, most), alignment]
+    }
+
+    /// The most bytes for which a region has room now, on an alignment.
+    fn room_on(&self, region: usize, alignment: u32) -> u32 {
+        let (page, layout) = (self.record[region + PAGE], self.layout(region));
+        let room = |(at, pages, held): Segment| {
+            let address = layout.first_page + (at - layout.map) as u32 * page;
+            let before = pages_before(address, page, alignment);
+            match held {
+                true => 0,
+                false => pages.saturating_sub(before) * page,
+            }
+        };
+        let segments = self.segments(region).into_iter();
+        segments.map(room).max().unwrap_or(0)
     }
 
     /// Sees to it that something of a region is held and something free, if its
@@ -249,6 +296,13 @@ impl State {
         Some(region)
     }
 
+    /// Held blocks of one size, at least four, that fill a region by halves.
+    pub fn equal_blocks(&self, random: &mut Random, region: usize) -> Vec<(u32, bool)> {
+        let pages = self.layout(region).pages;
+        let block = pages >> random.between(2, pages.ilog2());
+        vec![(block, true); (pages / block) as usize]
+    }
+
     /// Two segments of a region that adjoin and are wanted, by the number of
     /// the first page and by themselves.
     pub fn some_neighbours(
@@ -270,20 +324,47 @@ impl State {
         let mut planted = None;
         for region in self.regions(true) {
             self.hold_and_free(region);
-            let free = self.segments(region).into_iter();
-            let free = free.filter(|&(_, _, held)| !held);
-            let most = free.map(|(_, pages, _)| pages).max();
-            let Some(pages) = most.filter(|_| self.anything_held(region)) else {
+            let alignment = self.some_alignment(random, region);
+            let alignments = [alignment, 0].into_iter();
+            let mut with_room = alignments.filter(|of| self.room_on(region, *of) > 0);
+            let alignment = with_room.next().filter(|_| self.anything_held(region));
+            let Some(alignment) = alignment else {
                 continue;
             };
-            let size = random.between(1, pages * self.record[region + PAGE]);
+            let size = random.between(1, self.room_on(region, alignment));
             let is_ahead = |at: usize| self.region_of(at) < Some(region);
             let ahead = self.waiters().iter().filter(|&&at| is_ahead(at)).count();
             let ticks = random.pick(&[0, 2, MAX]);
-            let words = [self.id(region), size, 1, ticks];
+            let words = [self.id(region), size, alignment, 1, ticks];
             planted = self.insert_waiter(random, ahead, words).or(planted);
         }
         planted.map(|_| ())
+    }
+
+    /// Sees to it that of a region by pages only single pages are free that are
+    /// on no multiple of two, that a first task waits for one that is, and one
+    /// behind it for any; the state stays sound.
+    pub fn plant_stopped_waiter(&mut self, random: &mut Random) -> Option<()> {
+        let mut regions = self.regions_by(false);
+        // Twice the page size must be an alignment, and a page on it.
+        regions.retain(|&region| self.record[region + PAGE] <= 2_048);
+        regions.retain(|&region| self.layout(region).pages >= 2);
+        let region = random.pick_any(&regions)?;
+        let (page, layout) = (self.record[region + PAGE], self.layout(region));
+        // Every second page is off it, from the first one or the second one on.
+        let off = (layout.first_page / page + 1) % 2;
+        let some = off + 2 * random.between(0, (layout.pages - 1 - off) / 2);
+        let is_held = |of: u32| of % 2 != off || (of != some && random.chance(60));
+        let segments = (0..layout.pages).map(is_held).map(|held| (1, held));
+        let segments: Vec<(u32, bool)> = segments.collect();
+        self.draw_map(region, &segments);
+        let is_ahead = |at: &&usize| self.region_of(**at) < Some(region);
+        let ahead = self.waiters().iter().filter(is_ahead).count();
+        for (place, alignment) in [(ahead, 2 * page), (ahead + 1, 0)] {
+            let words = [self.id(region), random.between(1, page), alignment, 1, 0];
+            self.insert_waiter(random, place, words)?;
+        }
+        Some(())
     }
 
     /// Adds a waiter behind so many others, by the words behind its task, and
@@ -355,6 +436,24 @@ impl State {
             self.plant_waiter(random);
         }
         random.pick_any(&self.waiters())
+    }
+
+    /// A used place of the queue of a region by halves, or of one by pages, with
+    /// the region's slot; one is added if there is none.
+    pub fn some_waiter_by(&mut self, random: &mut Random, halves: bool) -> Option<(usize, usize)> {
+        let regions = self.regions_by(halves);
+        let mut waiters = self.waiters();
+        waiters.retain(|at| self.region_of(*at).is_some_and(|of| regions.contains(&of)));
+        if waiters.is_empty() {
+            let region = random.pick_any(&regions)?;
+            if !self.anything_held(region) {
+                let (first, ..) = self.segments(region)[0];
+                self.memory[first] += 1;
+            }
+            waiters.push(self.plant_waiter_in(random, region)?);
+        }
+        let at = random.pick(&waiters);
+        Some((at, self.region_of(at)?))
     }
 
     /// The names in some slots.

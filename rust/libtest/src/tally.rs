@@ -21,8 +21,8 @@ pub struct Tally {
     pub lists: u64,
     statuses: BTreeMap<(Directive, u32), u64>,
     notices: BTreeMap<u32, u64>,
-    /// Cases of ids, names, generations, page counts, serving and kinds of
-    /// regions, on sound records.
+    /// Cases of ids, names, generations, page counts, alignments, serving and
+    /// kinds of regions, on sound records.
     cases: BTreeMap<Case, u64>,
     full_reads: u64,
     empty_reads: u64,
@@ -210,7 +210,7 @@ impl Tally {
     fn write_cases(&self, f: &mut fmt::Formatter) -> fmt::Result {
         writeln!(
             f,
-            "\nIds, names, generations, page counts, serving and kinds of regions:"
+            "\nIds, names, generations, page counts, alignments, serving and kinds of regions:"
         )?;
         for (case, count) in &self.cases {
             writeln!(f, "  {:<58}{count:>9}", case.to_string())?;

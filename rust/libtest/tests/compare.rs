@@ -7,10 +7,14 @@ use libtest::compare::Comparison;
 use libtest::plain::Plain;
 use libtest::sound::{self, Clause};
 
+#[path = "compare/alignments.rs"]
+mod alignments;
 #[path = "compare/halves.rs"]
 mod halves;
 #[path = "compare/names.rs"]
 mod names;
+#[path = "compare/region.rs"]
+mod region;
 
 /// Runs lists until so many calls are made, or a difference is found.
 fn run(library: &mut impl Library, calls: u64) -> Result<libtest::tally::Tally, String> {
@@ -258,6 +262,12 @@ fn is_sound(b: &Buffers) -> bool {
     sound::check(b.record, b.memory).is_ok() && b.answer.len() >= ANSWER_WORDS
 }
 
+/// Answers a call on sound words with a refusal.
+fn refuse(b: &mut Buffers, status: u32) -> usize {
+    b.answer[..ANSWER_WORDS].fill(0);
+    status as usize
+}
+
 /// The call with only some waiters in the queue; the others are put back, and
 /// have lost a tick by a tick. Where both are of one region, those that the call
 /// finds must leave by it.
@@ -426,7 +436,7 @@ fn faults_of_ticks_that_serve_are_found() {
             return plain(b, call);
         };
         // A time-out of one more task, of which nobody hears.
-        let more = [task, last[REGION], last[WANTED], 255, 1];
+        let more = [task, last[REGION], last[WANTED], 0, 255, 1];
         b.record[waiter_at(places.len())..][..WAITER_WORDS].copy_from_slice(&more);
         let returned = plain(b, call);
         let told = &mut b.answer[NOTICES_AT..ANSWER_WORDS];

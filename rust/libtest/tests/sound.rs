@@ -32,17 +32,17 @@ fn state() -> State {
         Directive::CreateRegion.call(&[7, 1_601, 399, 64, 1]),
         Directive::CreatePartition.call(&[6, PARTITION_1, 100, 24]),
         Directive::CreatePartition.call(&[8, 3_000, 16, 8]),
-        Directive::Get.call(&[1, 65, 0, 0, 0, 0]),
-        Directive::Get.call(&[1, 1, 0, 0, 0, 0]),
-        Directive::Get.call(&[2, 320, 0, 0, 0, 0]),
+        Directive::Get.call(&[1, 65, 0, 0, 0, 0, 0]),
+        Directive::Get.call(&[1, 1, 0, 0, 0, 0, 0]),
+        Directive::Get.call(&[2, 320, 0, 0, 0, 0, 0]),
         Directive::GetBuffer.call(&[1]),
         Directive::GetBuffer.call(&[2]),
         Directive::GetBuffer.call(&[2]),
-        Directive::Get.call(&[1, 960, 1, 1, 9, 3]),
-        Directive::Get.call(&[1, 960, 1, 2, 1, 3]),
-        Directive::Get.call(&[2, 1, 1, 3, 7, 3]),
-        Directive::Get.call(&[2, 1, 1, 4, 7, 3]),
-        Directive::Get.call(&[2, 1, 1, 5, 8, 3]),
+        Directive::Get.call(&[1, 960, 0, 1, 1, 9, 3]),
+        Directive::Get.call(&[1, 960, 0, 1, 2, 1, 3]),
+        Directive::Get.call(&[2, 1, 0, 1, 3, 7, 3]),
+        Directive::Get.call(&[2, 1, 0, 1, 4, 7, 3]),
+        Directive::Get.call(&[2, 1, 0, 1, 5, 8, 3]),
     ];
     made(&mut model, &calls)
 }
@@ -53,10 +53,10 @@ fn by_halves() -> State {
     let mut model = Model::new(vec![7; 200]);
     let calls = [
         Directive::CreateRegion.call(&[5, 4, 572, 64, 3]),
-        Directive::Get.call(&[1, 64, 0, 0, 0, 0]),
-        Directive::Get.call(&[1, 128, 0, 0, 0, 0]),
-        Directive::Get.call(&[1, 512, 1, 1, 7, 3]),
-        Directive::Get.call(&[1, 257, 1, 2, 8, 3]),
+        Directive::Get.call(&[1, 64, 0, 0, 0, 0, 0]),
+        Directive::Get.call(&[1, 128, 0, 0, 0, 0, 0]),
+        Directive::Get.call(&[1, 512, 0, 1, 1, 7, 3]),
+        Directive::Get.call(&[1, 257, 0, 1, 2, 8, 3]),
     ];
     made(&mut model, &calls)
 }
@@ -132,6 +132,13 @@ fn set_by_halves(word: usize, value: u32) -> Result<(), Clause> {
     changed(by_halves(), |state| state.record[word] = value)
 }
 
+/// A change of what task 1 wants of region 1: a size and an alignment.
+fn wanted(size: u32, alignment: u32) -> Result<(), Clause> {
+    after(|state| {
+        state.record[waiter(1, WANTED)..][..2].copy_from_slice(&[size, alignment]);
+    })
+}
+
 /// A change of one word of the memory, by its address.
 fn link(address: u32, value: u32) -> Result<(), Clause> {
     after(|state| state.memory[address as usize / 4] = value)
@@ -169,6 +176,15 @@ fn sound_changes_pass() {
     assert_eq!(set(waiter(5, PRIORITY), 7), Ok(()));
     // A first waiter for whom there is room: no list of calls leaves one.
     assert_eq!(set(waiter(1, WANTED), 768), Ok(()));
+    // The page size as an alignment, and wider ones with all pages behind them.
+    assert_eq!(wanted(960, 64), Ok(()));
+    assert_eq!(wanted(896, 128), Ok(()));
+    assert_eq!(wanted(832, 192), Ok(()));
+    assert_eq!(wanted(768, 256), Ok(()));
+    assert_eq!(wanted(512, 512), Ok(()));
+    assert_eq!(wanted(64, 960), Ok(()));
+    // The pages of region 2 are from 1,280 on.
+    assert_eq!(set(waiter(5, ALIGNMENT), 1_280), Ok(()));
     // Generations of regions without waiters, of partitions and of empty slots.
     assert_eq!(set(region(3, GENERATION), 65_535), Ok(()));
     assert_eq!(set(region(8, GENERATION), 65_536), Ok(()));
@@ -566,6 +582,8 @@ fn broken() -> Vec<(Clause, Vec<Result<(), Clause>>)> {
                 set(waiter(5, TASK), 0),
                 set(waiter(6, REGION), 1),
                 set(waiter(16, WANTED), 1),
+                set(waiter(6, ALIGNMENT), 64),
+                set(waiter(16, ALIGNMENT), 1),
                 set(waiter(16, PRIORITY), 1),
                 set(waiter(16, TICKS), 1),
             ],
@@ -573,10 +591,11 @@ fn broken() -> Vec<(Clause, Vec<Result<(), Clause>>)> {
         (
             UsedPlaceAfterUnused,
             vec![
-                after(|state| state.record[waiter(4, TASK)..][..5].fill(0)),
+                after(|state| state.record[waiter(4, TASK)..][..WAITER_WORDS].fill(0)),
                 after(|state| {
                     let at = waiter(5, TASK);
-                    state.record.copy_within(at..at + 5, waiter(16, TASK));
+                    let place = at..at + WAITER_WORDS;
+                    state.record.copy_within(place, waiter(16, TASK));
                     state.record[waiter(16, TASK)] = 16;
                 }),
             ],
@@ -651,6 +670,57 @@ fn broken() -> Vec<(Clause, Vec<Result<(), Clause>>)> {
                 set(waiter(1, WANTED), u32::MAX - 62),
                 set_by_halves(waiter(1, WANTED), 513),
                 set_by_halves(waiter(2, WANTED), u32::MAX),
+                // Beside an alignment that is allowed, or not.
+                wanted(961, 64),
+                wanted(u32::MAX, 65),
+            ],
+        ),
+        (
+            AlignmentByHalves,
+            vec![
+                set_by_halves(waiter(1, ALIGNMENT), 1),
+                set_by_halves(waiter(1, ALIGNMENT), 64),
+                set_by_halves(waiter(2, ALIGNMENT), 128),
+                set_by_halves(waiter(2, ALIGNMENT), 4_096),
+                set_by_halves(waiter(2, ALIGNMENT), u32::MAX),
+            ],
+        ),
+        (
+            AlignmentNotMultiple,
+            vec![
+                wanted(1, 1),
+                wanted(1, 8),
+                wanted(1, 63),
+                wanted(1, 65),
+                wanted(1, 96),
+                wanted(1, 4_095),
+                set(waiter(5, ALIGNMENT), 32),
+            ],
+        ),
+        (
+            AlignmentTooLarge,
+            vec![
+                wanted(1, 4_097),
+                wanted(1, 4_160),
+                wanted(1, 65_536),
+                wanted(1, u32::MAX - 63),
+                wanted(1, u32::MAX),
+                set(waiter(5, ALIGNMENT), 8_192),
+            ],
+        ),
+        (
+            AlignmentWithoutPlace,
+            vec![
+                // No page is on it.
+                wanted(1, 1_024),
+                wanted(1, 4_096),
+                set(waiter(5, ALIGNMENT), 1_024),
+                // Too few are behind the first that is.
+                wanted(897, 128),
+                wanted(769, 256),
+                wanted(960, 256),
+                wanted(513, 512),
+                wanted(65, 960),
             ],
         ),
         (

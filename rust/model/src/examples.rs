@@ -78,8 +78,8 @@ impl Example {
                 return;
             }
             ("set", &[word, value]) => Step::Set(word as usize, value),
-            ("queue", &[task, id, size, priority, ticks]) => {
-                Step::Queue([task, id, size, priority, ticks])
+            ("queue", &[task, id, size, alignment, priority, ticks]) => {
+                Step::Queue([task, id, size, alignment, priority, ticks])
             }
             ("memory", &[word]) => Step::Memory(word as usize, numbers(right)),
             ("record", &[word]) => Step::Record(word as usize, numbers(right)),

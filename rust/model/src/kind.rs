@@ -79,11 +79,18 @@ impl Kind {
     }
 
     /// The first page of the place for so many pages, rounded ones. By pages
-    /// it is the lowest; by halves it is the low end of a smallest free block,
-    /// and of these the lowest.
-    pub fn place(self, owners: &[u32], pages: usize) -> Option<usize> {
+    /// it is the lowest of those that may come first; by halves, where each
+    /// may, it is the low end of a smallest free block, and of these the lowest.
+    pub fn place(
+        self,
+        owners: &[u32],
+        pages: usize,
+        may_be_first: impl Fn(usize) -> bool,
+    ) -> Option<usize> {
         if self == Kind::Pages {
-            return owners.windows(pages).position(is_free);
+            let mut runs = owners.windows(pages).enumerate();
+            let place = runs.find(|(first, run)| may_be_first(*first) && is_free(run));
+            return place.map(|(first, _)| first);
         }
         let mut free = self.runs(owners);
         free.retain(|(_, block)| is_free(block) && block.len() >= pages);

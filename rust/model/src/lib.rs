@@ -29,6 +29,7 @@ const WORD: u64 = 4;
 /// Page sizes are rounded up to a multiple of this.
 const PAGE_STEP: u32 = 8;
 const MAX_PAGE: u32 = 4_096;
+const MAX_ALIGNMENT: u32 = 4_096;
 const MAX_PRIORITY: u32 = 255;
 const MIN_BUFFER: u32 = 8;
 
@@ -113,10 +114,10 @@ impl Model {
     /// Puts a waiter into its region's queue, by the words of a place. A call
     /// does so only where there is no room for it.
     pub fn put_waiter(&mut self, place: [u32; WAITER_WORDS]) {
-        let [task, region, size, priority, ticks] = place;
+        let [task, region, size, alignment, priority, ticks] = place;
         let region = self.regions.live_mut(region);
         let region = region.expect("a waiter's region is live");
-        region.enqueue(Waiter::new(task, size, priority, ticks));
+        region.enqueue(Waiter::new(task, size, alignment, priority, ticks));
     }
 
     /// The memory, word by word.
@@ -127,12 +128,10 @@ impl Model {
     /// The record, word by word.
     pub fn record(&self) -> [u32; RECORD_WORDS] {
         let mut record = [0; RECORD_WORDS];
-        let mut places = Vec::new();
         for (index, slot) in self.regions.iter().enumerate() {
             let words = &mut record[region_at(index)..][..REGION_WORDS];
             if let Some(region) = &slot.object {
                 words.copy_from_slice(&region.slot());
-                places.extend(region.places(slot.id).flatten());
             }
             words[GENERATION] = slot.generation();
         }
@@ -143,6 +142,7 @@ impl Model {
             }
             words[GENERATION] = slot.generation();
         }
+        let places = self.waiters().concat();
         record[WAITERS_AT..][..places.len()].copy_from_slice(&places);
         record
     }
@@ -194,13 +194,14 @@ impl Model {
             Call::Get {
                 id,
                 size,
+                alignment,
                 wait,
                 task,
                 priority,
                 ticks,
             } => {
-                let waiter = Waiter::new(task, size, priority, ticks);
-                self.get(id, size, (wait == 1).then_some(waiter))
+                let waiter = Waiter::new(task, size, alignment, priority, ticks);
+                self.get(id, size, alignment, (wait == 1).then_some(waiter))
             }
             Call::Return { id, address } => self.return_segment(id, address),
             Call::Size { id, address } => self.size(id, address),
@@ -255,11 +256,18 @@ impl Model {
         Ok(Answer::default())
     }
 
-    fn get(&mut self, id: u32, size: u32, waiter: Option<Waiter>) -> Result<Answer, Refusal> {
+    fn get(
+        &mut self,
+        id: u32,
+        size: u32,
+        alignment: u32,
+        waiter: Option<Waiter>,
+    ) -> Result<Answer, Refusal> {
         refuse_if(size == 0, status::INVALID_SIZE)?;
         let region = self.regions.live(id)?;
-        let pages = region.pages_for(size);
-        refuse_if(pages > region.page_count(), status::INVALID_SIZE)?;
+        region.refuse_alignment(alignment)?;
+        let is_too_large = !region.could_lend(size, alignment);
+        refuse_if(is_too_large, status::INVALID_SIZE)?;
         if let Some(Waiter { task, priority, .. }) = waiter {
             let is_task = (1..=TASKS as u32).contains(&task);
             refuse_if(!is_task, status::INVALID_NUMBER)?;
@@ -270,7 +278,7 @@ impl Model {
         }
 
         let region = self.regions.live_mut(id)?;
-        if let Some(address) = region.lend(pages) {
+        if let Some(address) = region.lend(size, alignment) {
             region.draw(&mut self.memory);
             return Ok(Answer::value(address));
         }
@@ -483,16 +491,18 @@ impl Model {
         segments
     }
 
-    /// The tasks that wait, each with its region's id: lowest slot first, then
+    /// The words of the waiters' places that are used: lowest slot first, then
     /// in the queue's order.
+    pub fn waiters(&self) -> Vec<[u32; WAITER_WORDS]> {
+        let slots = self.regions.iter();
+        let regions = slots.filter_map(|slot| Some((slot.id, slot.object.as_ref()?)));
+        regions.flat_map(|(id, region)| region.places(id)).collect()
+    }
+
+    /// The tasks that wait, each with its region's id, in the same order.
     pub fn waiting(&self) -> Vec<(u32, u32)> {
-        let places = |slot: &Slot<Region>| {
-            let queue = slot.object.iter().flat_map(|region| &region.queue);
-            queue
-                .map(|waiter| (waiter.task, slot.id))
-                .collect::<Vec<_>>()
-        };
-        self.regions.iter().flat_map(places).collect()
+        let places = self.waiters().into_iter();
+        places.map(|place| (place[TASK], place[REGION])).collect()
     }
 
     /// The tasks that wait, in the same order.

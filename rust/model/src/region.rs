@@ -2,7 +2,7 @@
 
 use crate::kind::{is_free, Kind, NOBODY};
 use crate::slots::Named;
-use crate::{Area, WORD};
+use crate::{refuse_if, Area, MAX_ALIGNMENT, WORD};
 use directives::words::{is_by_priority, status, REGION_WORDS, WAITER_WORDS};
 use directives::Notice;
 use std::collections::VecDeque;
@@ -11,16 +11,19 @@ use std::collections::VecDeque;
 pub struct Waiter {
     pub task: u32,
     pub size: u32,
+    /// As it was asked for: 0 stays 0.
+    pub alignment: u32,
     pub priority: u32,
     /// Ticks left; 0 waits for ever.
     pub ticks: u32,
 }
 
 impl Waiter {
-    pub fn new(task: u32, size: u32, priority: u32, ticks: u32) -> Waiter {
+    pub fn new(task: u32, size: u32, alignment: u32, priority: u32, ticks: u32) -> Waiter {
         Waiter {
             task,
             size,
+            alignment,
             priority,
             ticks,
         }
@@ -115,7 +118,7 @@ impl Region {
 
     /// The words of its waiters' places, by its id.
     pub fn places(&self, id: u32) -> impl Iterator<Item = [u32; WAITER_WORDS]> + '_ {
-        let words = move |w: &Waiter| [w.task, id, w.size, w.priority, w.ticks];
+        let words = move |w: &Waiter| [w.task, id, w.size, w.alignment, w.priority, w.ticks];
         self.queue.iter().map(words)
     }
 
@@ -175,15 +178,37 @@ impl Region {
         self.owners[first..end].fill(self.loans);
     }
 
-    /// The first page of the place that the kind has for so many pages.
-    fn place(&self, pages: usize) -> Option<usize> {
-        self.kind.place(&self.owners, pages)
+    /// Refuses an alignment that no get of this region may have. 0 stands for
+    /// the page size.
+    pub fn refuse_alignment(&self, alignment: u32) -> Result<(), u32> {
+        let by_halves = self.kind == Kind::Halves;
+        refuse_if(by_halves && alignment != 0, status::NOT_DEFINED)?;
+        refuse_if(alignment > MAX_ALIGNMENT, status::INVALID_SIZE)?;
+        let is_multiple = alignment.is_multiple_of(self.page);
+        refuse_if(!is_multiple, status::INVALID_SIZE)
     }
 
-    /// Lends so many pages, if there is a place, and gives the address.
-    pub fn lend(&mut self, pages: usize) -> Option<u32> {
-        let page = self.place(pages)?;
-        self.own(page, page + pages);
+    /// The first page of the place that the kind has for some bytes on an
+    /// alignment, if these are the owners of the pages. It is a page's address
+    /// that is on the alignment, and not its number.
+    fn place(&self, owners: &[u32], size: u32, alignment: u32) -> Option<usize> {
+        let is_on_it = |page: usize| {
+            let address = self.address_of(page);
+            alignment == 0 || address.is_multiple_of(alignment)
+        };
+        self.kind.place(owners, self.pages_for(size), is_on_it)
+    }
+
+    /// Whether there would be a place if nothing were held.
+    pub fn could_lend(&self, size: u32, alignment: u32) -> bool {
+        let nothing_held = vec![NOBODY; self.owners.len()];
+        self.place(&nothing_held, size, alignment).is_some()
+    }
+
+    /// Lends some bytes, if there is a place, and gives the address.
+    pub fn lend(&mut self, size: u32, alignment: u32) -> Option<u32> {
+        let page = self.place(&self.owners, size, alignment)?;
+        self.own(page, page + self.pages_for(size));
         Some(self.address_of(page))
     }
 
@@ -225,16 +250,16 @@ impl Region {
 
     /// Whether there is room for the first waiter.
     pub fn can_serve(&self) -> bool {
-        let first = self.queue.front();
-        first.is_some_and(|first| self.place(self.pages_for(first.size)).is_some())
+        let place = |first: &Waiter| self.place(&self.owners, first.size, first.alignment);
+        self.queue.front().and_then(place).is_some()
     }
 
     /// Serves the first waiter for as long as there is room for it.
     pub fn serve(&mut self) -> Vec<Notice> {
         let mut notices = Vec::new();
         while let Some(first) = self.queue.front() {
-            let (task, pages) = (first.task, self.pages_for(first.size));
-            let Some(address) = self.lend(pages) else {
+            let (task, size, alignment) = (first.task, first.size, first.alignment);
+            let Some(address) = self.lend(size, alignment) else {
                 break;
             };
             self.queue.pop_front();

@@ -30,7 +30,7 @@ fn assert_writes(input: &[u8], expected: &str) {
 #[test]
 fn the_whole_case() {
     let script = b"call=create-region\nname=1\nstart=4\nlength=1020\npage=64\norder=0\n\
-                   call=get\nid=1\nsize=65\nwait=0\ntask=0\npriority=0\nticks=0\n";
+                   call=get\nid=1\nsize=65\nalign=0\nwait=0\ntask=0\npriority=0\nticks=0\n";
     assert_writes(script, "status=0\nvalue=1\nstatus=0\nvalue=64\n");
 }
 

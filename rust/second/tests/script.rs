@@ -5,6 +5,11 @@ use second::run;
 const REGION: &str = "call=create-region\nname=1\nstart=4\nlength=1020\npage=64\norder=0\n";
 const REGION_ANSWER: &str = "status=0\nvalue=1\n";
 
+/// A get of region 1 with these texts behind two of its keys.
+fn get_of(align: &str, wait: &str) -> String {
+    format!("call=get\nid=1\nsize=1\nalign={align}\nwait={wait}\ntask=1\npriority=1\nticks=1\n")
+}
+
 /// Writes a script from one line for each call: the name and then `key=value`
 /// pairs, with spaces between.
 fn script_of(calls: &str) -> String {
@@ -58,20 +63,20 @@ fn every_call_and_every_status() {
         "create-region name=1 start=4 length=1020 page=64 order=0 -> 0 1
          create-region name=0 start=4 length=1020 page=64 order=0 -> 3 0
          ident-region name=1 -> 0 1
-         get id=1 size=448 wait=0 task=0 priority=0 ticks=0 -> 0 64
-         get id=1 size=512 wait=1 task=1 priority=1 ticks=0 -> 0 512
-         get id=1 size=64 wait=0 task=0 priority=0 ticks=0 -> 13 0
-         get id=1 size=960 wait=1 task=3 priority=1 ticks=2 -> 255 0
-         get id=1 size=64 wait=1 task=3 priority=1 ticks=2 -> 14 0
-         get id=1 size=64 wait=1 task=17 priority=1 ticks=2 -> 10 0
-         get id=1 size=64 wait=1 task=5 priority=256 ticks=2 -> 19 0
-         get id=1 size=64 wait=1 task=5 priority=255 ticks=0 -> 255 0
+         get id=1 size=448 align=0 wait=0 task=0 priority=0 ticks=0 -> 0 64
+         get id=1 size=512 align=0 wait=1 task=1 priority=1 ticks=0 -> 0 512
+         get id=1 size=64 align=0 wait=0 task=0 priority=0 ticks=0 -> 13 0
+         get id=1 size=960 align=0 wait=1 task=3 priority=1 ticks=2 -> 255 0
+         get id=1 size=64 align=0 wait=1 task=3 priority=1 ticks=2 -> 14 0
+         get id=1 size=64 align=0 wait=1 task=17 priority=1 ticks=2 -> 10 0
+         get id=1 size=64 align=0 wait=1 task=5 priority=256 ticks=2 -> 19 0
+         get id=1 size=64 align=0 wait=1 task=5 priority=255 ticks=0 -> 255 0
          tick -> 0 0
          tick -> 0 0 task 3 with 6 0
          size id=1 address=64 -> 0 448
          resize id=1 address=64 size=100 -> 0 448 task 5 with 0 192
          resize id=1 address=64 size=512 -> 13 128
-         get id=1 size=512 wait=1 task=6 priority=1 ticks=0 -> 255 0
+         get id=1 size=512 align=0 wait=1 task=6 priority=1 ticks=0 -> 255 0
          info id=1 -> 0 1 256 256 3 512 704
          return id=1 address=512 -> 0 0 task 6 with 0 256
          return id=1 address=512 -> 9 0
@@ -86,7 +91,9 @@ fn every_call_and_every_status() {
          delete-partition id=1 -> 0 0
          return id=1 address=64 -> 0 0
          return id=1 address=128 -> 9 0
-         delete-region id=1 -> 12 0",
+         delete-region id=1 -> 12 0
+         create-region name=2 start=2048 length=576 page=64 order=2 -> 0 2
+         get id=2 size=64 align=64 wait=0 task=0 priority=0 ticks=0 -> 11 0",
     );
 }
 
@@ -97,12 +104,12 @@ fn slots_are_used_again_under_other_ids() {
          delete-region id=1 -> 0 0
          create-region name=2 start=4 length=1020 page=64 order=0 -> 0 17
          ident-region name=2 -> 0 17
-         get id=1 size=960 wait=0 task=0 priority=0 ticks=0 -> 4 0
-         get id=17 size=960 wait=0 task=0 priority=0 ticks=0 -> 0 64
+         get id=1 size=960 align=0 wait=0 task=0 priority=0 ticks=0 -> 4 0
+         get id=17 size=960 align=0 wait=0 task=0 priority=0 ticks=0 -> 0 64
          create-region name=3 start=1024 length=128 page=64 order=0 -> 0 2
-         get id=2 size=64 wait=0 task=0 priority=0 ticks=0 -> 0 1088
-         get id=2 size=64 wait=1 task=1 priority=1 ticks=1 -> 255 0
-         get id=17 size=64 wait=1 task=2 priority=1 ticks=1 -> 255 0
+         get id=2 size=64 align=0 wait=0 task=0 priority=0 ticks=0 -> 0 1088
+         get id=2 size=64 align=0 wait=1 task=1 priority=1 ticks=1 -> 255 0
+         get id=17 size=64 align=0 wait=1 task=2 priority=1 ticks=1 -> 255 0
          tick -> 0 0 task 2 with 6 0 task 1 with 6 0
          create-partition name=1 start=2048 length=16 size=8 -> 0 1
          delete-partition id=1 -> 0 0
@@ -173,9 +180,9 @@ fn names_of_live_objects_are_refused() {
 fn notices_are_written_to_the_byte() {
     let script = script_of(
         "create-region name=1 start=4 length=1020 page=64 order=0
-         get id=1 size=960 wait=0 task=0 priority=0 ticks=0
-         get id=1 size=640 wait=1 task=3 priority=1 ticks=0
-         get id=1 size=64 wait=1 task=5 priority=1 ticks=0
+         get id=1 size=960 align=0 wait=0 task=0 priority=0 ticks=0
+         get id=1 size=640 align=0 wait=1 task=3 priority=1 ticks=0
+         get id=1 size=64 align=0 wait=1 task=5 priority=1 ticks=0
          return id=1 address=64",
     );
     let output = "status=0\nvalue=1\nstatus=0\nvalue=64\nstatus=255\nvalue=0\n\
@@ -189,10 +196,10 @@ fn notices_are_written_to_the_byte() {
 fn notices_of_a_resize_and_of_a_tick_are_written_to_the_byte() {
     let script = script_of(
         "create-region name=1 start=4 length=1020 page=64 order=0
-         get id=1 size=960 wait=0 task=0 priority=0 ticks=0
-         get id=1 size=64 wait=1 task=3 priority=1 ticks=0
-         get id=1 size=960 wait=1 task=4 priority=1 ticks=1
-         get id=1 size=64 wait=1 task=5 priority=1 ticks=0
+         get id=1 size=960 align=0 wait=0 task=0 priority=0 ticks=0
+         get id=1 size=64 align=0 wait=1 task=3 priority=1 ticks=0
+         get id=1 size=960 align=0 wait=1 task=4 priority=1 ticks=1
+         get id=1 size=64 align=0 wait=1 task=5 priority=1 ticks=0
          resize id=1 address=64 size=832
          tick",
     );
@@ -207,11 +214,11 @@ fn notices_of_a_resize_and_of_a_tick_are_written_to_the_byte() {
 fn resizes_and_ticks_serve() {
     assert_answers(
         "create-region name=1 start=4 length=1020 page=64 order=0 -> 0 1
-         get id=1 size=960 wait=0 task=0 priority=0 ticks=0 -> 0 64
-         get id=1 size=192 wait=1 task=3 priority=1 ticks=2 -> 255 0
-         get id=1 size=64 wait=1 task=5 priority=1 ticks=0 -> 255 0
-         get id=1 size=64 wait=1 task=6 priority=1 ticks=0 -> 255 0
-         get id=1 size=64 wait=1 task=7 priority=1 ticks=0 -> 255 0
+         get id=1 size=960 align=0 wait=0 task=0 priority=0 ticks=0 -> 0 64
+         get id=1 size=192 align=0 wait=1 task=3 priority=1 ticks=2 -> 255 0
+         get id=1 size=64 align=0 wait=1 task=5 priority=1 ticks=0 -> 255 0
+         get id=1 size=64 align=0 wait=1 task=6 priority=1 ticks=0 -> 255 0
+         get id=1 size=64 align=0 wait=1 task=7 priority=1 ticks=0 -> 255 0
          resize id=1 address=64 size=900 -> 0 960
          resize id=1 address=64 size=961 -> 13 960
          resize id=1 address=64 size=832 -> 0 960
@@ -227,24 +234,54 @@ fn regions_by_halves() {
     assert_answers(
         "create-region name=1 start=4 length=1020 page=64 order=2 -> 0 1
          info id=1 -> 0 1 512 512 0 0 0
-         get id=1 size=513 wait=0 task=0 priority=0 ticks=0 -> 8 0
-         get id=1 size=129 wait=0 task=0 priority=0 ticks=0 -> 0 64
-         get id=1 size=1 wait=0 task=0 priority=0 ticks=0 -> 0 320
+         get id=1 size=513 align=0 wait=0 task=0 priority=0 ticks=0 -> 8 0
+         get id=1 size=129 align=0 wait=0 task=0 priority=0 ticks=0 -> 0 64
+         get id=1 size=1 align=0 wait=0 task=0 priority=0 ticks=0 -> 0 320
          size id=1 address=64 -> 0 256
          resize id=1 address=64 size=250 -> 0 256
          resize id=1 address=64 size=128 -> 13 256
          return id=1 address=64 -> 0 0
-         get id=1 size=64 wait=0 task=0 priority=0 ticks=0 -> 0 384
+         get id=1 size=64 align=0 wait=0 task=0 priority=0 ticks=0 -> 0 384
          info id=1 -> 0 2 256 384 2 64 128
-         get id=1 size=512 wait=1 task=3 priority=1 ticks=0 -> 255 0
+         get id=1 size=512 align=0 wait=1 task=3 priority=1 ticks=0 -> 255 0
          return id=1 address=384 -> 0 0
          delete-region id=1 -> 12 0
          return id=1 address=320 -> 0 0 task 3 with 0 64
          create-region name=2 start=1024 length=576 page=64 order=3 -> 0 2
-         get id=2 size=300 wait=0 task=0 priority=0 ticks=0 -> 0 1088
-         get id=2 size=64 wait=1 task=4 priority=9 ticks=0 -> 255 0
-         get id=2 size=64 wait=1 task=5 priority=1 ticks=0 -> 255 0
+         get id=2 size=300 align=0 wait=0 task=0 priority=0 ticks=0 -> 0 1088
+         get id=2 size=64 align=0 wait=1 task=4 priority=9 ticks=0 -> 255 0
+         get id=2 size=64 align=0 wait=1 task=5 priority=1 ticks=0 -> 255 0
          return id=2 address=1088 -> 0 0 task 5 with 0 1088 task 4 with 0 1152",
+    );
+}
+
+#[test]
+fn segments_on_wider_boundaries() {
+    assert_answers(
+        "create-region name=1 start=4 length=1020 page=64 order=0 -> 0 1
+         get id=1 size=64 align=256 wait=0 task=0 priority=0 ticks=0 -> 0 256
+         info id=1 -> 0 2 704 896 1 64 64
+         get id=1 size=64 align=0 wait=0 task=0 priority=0 ticks=0 -> 0 64
+         get id=1 size=1 align=96 wait=0 task=0 priority=0 ticks=0 -> 8 0
+         get id=1 size=1 align=4160 wait=0 task=0 priority=0 ticks=0 -> 8 0
+         get id=1 size=1 align=1024 wait=0 task=0 priority=0 ticks=0 -> 8 0
+         get id=1 size=513 align=512 wait=1 task=3 priority=1 ticks=0 -> 8 0
+         get id=1 size=704 align=320 wait=0 task=0 priority=0 ticks=0 -> 0 320
+         get id=1 size=64 align=256 wait=0 task=0 priority=0 ticks=0 -> 13 0
+         get id=1 size=64 align=256 wait=1 task=3 priority=1 ticks=1 -> 255 0
+         get id=1 size=64 align=0 wait=1 task=5 priority=1 ticks=0 -> 0 128
+         get id=1 size=128 align=64 wait=1 task=5 priority=1 ticks=0 -> 255 0
+         return id=1 address=64 -> 0 0
+         return id=1 address=128 -> 0 0
+         tick -> 0 0 task 3 with 6 0 task 5 with 0 64
+         get id=1 size=128 align=128 wait=1 task=6 priority=1 ticks=0 -> 255 0
+         resize id=1 address=320 size=640 -> 0 704
+         resize id=1 address=320 size=512 -> 0 640 task 6 with 0 896
+         create-region name=2 start=2048 length=576 page=64 order=3 -> 0 2
+         get id=2 size=64 align=128 wait=1 task=0 priority=0 ticks=0 -> 11 0
+         get id=2 size=64 align=7 wait=0 task=0 priority=0 ticks=0 -> 11 0
+         get id=2 size=0 align=7 wait=0 task=0 priority=0 ticks=0 -> 8 0
+         get id=18 size=64 align=7 wait=0 task=0 priority=0 ticks=0 -> 4 0",
     );
 }
 
@@ -393,17 +430,52 @@ fn order_is_0_to_3_and_wait_0_or_1() {
         assert_output(&script, REGION_ANSWER);
     }
     for wait in ["2", "00", "01", "10", "4294967295", "", "yes"] {
-        let get = format!("call=get\nid=1\nsize=1\nwait={wait}\ntask=1\npriority=1\nticks=1\n");
-        assert_bad(&get, 4);
+        let get = get_of("0", wait);
+        assert_bad(&get, 5);
         assert_output(
             &format!("{REGION}{get}"),
-            &format!("{REGION_ANSWER}bad=10\n"),
+            &format!("{REGION_ANSWER}bad=11\n"),
         );
     }
     for wait in ["0", "1"] {
-        let get = format!("call=get\nid=1\nsize=1\nwait={wait}\ntask=1\npriority=1\nticks=1\n");
-        assert_output(&get, "status=4\nvalue=0\n");
+        assert_output(&get_of("0", wait), "status=4\nvalue=0\n");
     }
+}
+
+#[test]
+fn align_comes_behind_size_and_is_any_number() {
+    for align in [
+        "",
+        "00",
+        "064",
+        "4294967296",
+        "-1",
+        "+64",
+        " 64",
+        "64 ",
+        "0x40",
+        "page",
+    ] {
+        assert_bad(&get_of(align, "0"), 4);
+    }
+    for align in ["0", "1", "64", "4096", "4097", "4294967295"] {
+        assert_output(&get_of(align, "0"), "status=4\nvalue=0\n");
+    }
+    // Without it, behind the next key, before size, and twice.
+    let get = get_of("0", "0");
+    assert_bad(&get.replace("align=0\n", ""), 4);
+    assert_bad(&get.replace("align=0\nwait=0\n", "wait=0\nalign=0\n"), 4);
+    assert_bad(&get.replace("size=1\nalign=0\n", "align=0\nsize=1\n"), 3);
+    assert_bad(&get.replace("align=0\n", "align=0\nalign=0\n"), 5);
+    for key in ["alignment", "Align", "alig", "aligned"] {
+        assert_bad(&get.replace("align=", &format!("{key}=")), 4);
+    }
+    // Only a get has it.
+    assert_bad("call=resize\nid=1\naddress=64\nalign=0\nsize=1\n", 4);
+    assert_output(
+        "call=resize\nid=1\naddress=64\nsize=1\nalign=0\n",
+        "status=4\nvalue=0\nbad=5\n",
+    );
 }
 
 #[test]
@@ -438,6 +510,7 @@ fn a_last_line_without_its_newline_is_bad() {
 fn a_missing_line_has_the_next_number() {
     assert_bad("call=info\n", 2);
     assert_bad("call=get\nid=1\nsize=1\n", 4);
+    assert_bad("call=get\nid=1\nsize=1\nalign=0\n", 5);
     for lines in 1..6 {
         let script: String = REGION.split_inclusive('\n').take(lines).collect();
         assert_bad(&script, lines as u32 + 1);

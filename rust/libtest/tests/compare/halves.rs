@@ -1,77 +1,27 @@
 //! Faults in regions by halves, each put onto the words that the ordinary
 //! implementation leaves.
 
-use super::{copies, is_sound, must_be_found, plain, run, with_waiters, Faulty};
+use super::region::{Region, Segment};
+use super::{copies, must_be_found, plain, run, with_waiters, Faulty};
 use directives::words::*;
 use libtest::call::{Buffers, Call, Directive};
 use libtest::sound::layout;
 
-/// A block: its first page and its pages.
-type Block = (usize, usize);
-
 /// The region by halves that a call on sound words names.
-struct Region {
-    /// The first word of its slot.
-    slot: usize,
-    page: u32,
-    first_page: u32,
-    /// Its map before the call, and where that is in the memory.
-    map: Vec<u32>,
-    map_at: usize,
+fn region_of(b: &Buffers, call: &Call) -> Option<Region> {
+    Region::of(b, call).filter(|region| region.by_halves)
 }
 
 impl Region {
-    fn of(b: &Buffers, call: &Call) -> Option<Region> {
-        let directive = call.directive();
-        let is_of_region = directive.has_id() && !directive.is_of_partitions() && is_sound(b);
-        let id = is_of_region.then(|| call.arguments()[0])?;
-        let at = region_at(slot_of(id)?);
-        let slot = &b.record[at..][..REGION_WORDS];
-        let is_live = slot[NAME] != 0 && slot[GENERATION] == generation_of(id);
-        if !is_live || !is_by_halves(slot[ORDER]) {
-            return None;
-        }
-        let found = layout(slot[START], slot[LENGTH], slot[PAGE], slot[ORDER]);
-        Some(Region {
-            slot: at,
-            page: slot[PAGE],
-            first_page: found.first_page,
-            map: b.memory[found.map..][..found.pages as usize].to_vec(),
-            map_at: found.map,
-        })
-    }
-
-    /// The free blocks before the call, by rising address.
-    fn free(&self) -> Vec<Block> {
-        let words = self.map.iter().copied().enumerate();
-        let firsts = words.filter(|&(_, word)| word != 0 && word % 2 == 0);
-        firsts
-            .map(|(first, word)| (first, word as usize / 2))
-            .collect()
-    }
-
-    fn address_of(&self, page: usize) -> u32 {
-        self.first_page + page as u32 * self.page
-    }
-
     /// The block at an address, which is a page's.
-    fn at(&self, address: u32) -> Block {
+    fn at(&self, address: u32) -> Segment {
         let page = ((address - self.first_page) / self.page) as usize;
         (page, self.map[page] as usize / 2)
     }
 
-    /// Puts the map of before back.
-    fn restore(&self, b: &mut Buffers) {
-        b.memory[self.map_at..][..self.map.len()].copy_from_slice(&self.map);
-    }
-
-    fn set(&self, b: &mut Buffers, page: usize, word: usize) {
-        b.memory[self.map_at + page] = word as u32;
-    }
-
     /// Holds a low part of a free block of before; the rest is free in high
     /// halves.
-    fn hold(&self, b: &mut Buffers, (first, room): Block, pages: usize) {
+    fn hold_low(&self, b: &mut Buffers, (first, room): Segment, pages: usize) {
         self.restore(b);
         let mut half = room / 2;
         while half >= pages {
@@ -86,10 +36,10 @@ impl Region {
 /// A fault of gets that are granted: it is handed the region, the free blocks
 /// of before that have room, and the pages that are held now.
 fn get_fault(
-    fault: impl Fn(&mut Buffers, &Region, &[Block], usize) -> Option<()>,
+    fault: impl Fn(&mut Buffers, &Region, &[Segment], usize) -> Option<()>,
 ) -> impl FnMut(&mut Buffers, &Call) -> usize {
     move |b, call| {
-        let region = Region::of(b, call);
+        let region = region_of(b, call);
         let returned = plain(b, call);
         if let (Call::Get { .. }, 0, Some(region)) = (call, returned, region) {
             let page = (b.answer[0] - region.first_page) / region.page;
@@ -107,7 +57,7 @@ fn get_fault(
 fn words_are_set_as_they_were() {
     let gets = get_fault(|b, region, free, pages| {
         let smallest = free.iter().min_by_key(|(_, room)| *room)?;
-        region.hold(b, *smallest, pages);
+        region.hold_low(b, *smallest, pages);
         Some(())
     });
     assert!(run(&mut Faulty(gets), 50_000).is_ok());
@@ -122,14 +72,14 @@ fn faults_of_gets_by_halves_are_found() {
     must_be_found(
         "the lowest block",
         get_fault(|b, region, free, pages| {
-            region.hold(b, *free.first()?, pages);
+            region.hold_low(b, *free.first()?, pages);
             Some(())
         }),
     );
     must_be_found(
         "the highest block",
         get_fault(|b, region, free, pages| {
-            region.hold(b, *free.last()?, pages);
+            region.hold_low(b, *free.last()?, pages);
             Some(())
         }),
     );
@@ -137,7 +87,7 @@ fn faults_of_gets_by_halves_are_found() {
         "the highest of equals",
         get_fault(|b, region, free, pages| {
             let smallest = free.iter().rev().min_by_key(|(_, room)| *room)?;
-            region.hold(b, *smallest, pages);
+            region.hold_low(b, *smallest, pages);
             Some(())
         }),
     );
@@ -145,7 +95,7 @@ fn faults_of_gets_by_halves_are_found() {
         "the largest block",
         get_fault(|b, region, free, pages| {
             let largest = free.iter().rev().max_by_key(|(_, room)| *room)?;
-            region.hold(b, *largest, pages);
+            region.hold_low(b, *largest, pages);
             Some(())
         }),
     );
@@ -170,7 +120,7 @@ fn faults_of_gets_by_halves_are_found() {
         get_fault(|b, region, free, pages| {
             let smallest = *free.iter().min_by_key(|(_, room)| *room)?;
             if smallest.1 > pages {
-                region.hold(b, smallest, 2 * pages);
+                region.hold_low(b, smallest, 2 * pages);
             }
             Some(())
         }),
@@ -179,7 +129,7 @@ fn faults_of_gets_by_halves_are_found() {
         "the rest in one block",
         get_fault(|b, region, free, pages| {
             let (first, room) = *free.iter().min_by_key(|(_, room)| *room)?;
-            region.hold(b, (first, pages), pages);
+            region.hold_low(b, (first, pages), pages);
             if room > pages {
                 region.set(b, first + pages, 2 * (room - pages));
             }
@@ -187,7 +137,7 @@ fn faults_of_gets_by_halves_are_found() {
         }),
     );
     must_be_found("pages that are not rounded up", |b, call| {
-        let region = Region::of(b, call);
+        let region = region_of(b, call);
         let returned = plain(b, call);
         if let (&Call::Get { size, .. }, 0, Some(region)) = (call, returned, region) {
             let (first, pages) = (
@@ -199,7 +149,7 @@ fn faults_of_gets_by_halves_are_found() {
         returned
     });
     must_be_found("pages behind the longer map", |b, call| {
-        let region = Region::of(b, call);
+        let region = region_of(b, call);
         let returned = plain(b, call);
         if let (Call::Get { .. }, 0, Some(region)) = (call, returned, region) {
             let slot = &b.record[region.slot..][..REGION_WORDS];
@@ -214,10 +164,10 @@ fn faults_of_gets_by_halves_are_found() {
 /// that comes back, and gives the free block that is left; the words of others
 /// that it takes in are 0.
 fn return_fault(
-    fault: impl Fn(&Region, Block) -> Block,
+    fault: impl Fn(&Region, Segment) -> Segment,
 ) -> impl FnMut(&mut Buffers, &Call) -> usize {
     move |b, call| {
-        let region = Region::of(b, call);
+        let region = region_of(b, call);
         let returned = plain(b, call);
         if let (&Call::Return { address, .. }, 0, Some(region)) = (call, returned, region) {
             if b.answer[NOTICES_AT] == 0 {
@@ -235,10 +185,10 @@ fn return_fault(
 /// Joins a block with another that is free, for as long as one is found.
 fn joined(
     region: &Region,
-    mut block: Block,
+    mut block: Segment,
     most: usize,
-    other: impl Fn(Block) -> Option<usize>,
-) -> Block {
+    other: impl Fn(Segment) -> Option<usize>,
+) -> Segment {
     let free = region.free();
     for _ in 0..most {
         let (first, pages) = block;
@@ -252,7 +202,7 @@ fn joined(
     block
 }
 
-fn other_half((first, pages): Block) -> Option<usize> {
+fn other_half((first, pages): Segment) -> Option<usize> {
     Some(first ^ pages)
 }
 
@@ -311,7 +261,7 @@ fn faults_of_returns_by_halves_are_found() {
     );
     must_be_found(
         "a return by halves serves nobody",
-        |b, call| match Region::of(b, call) {
+        |b, call| match region_of(b, call) {
             Some(_) if call.directive() == Directive::Return => with_waiters(b, call, |_| false),
             _ => plain(b, call),
         },
@@ -326,7 +276,7 @@ fn faults_of_resizes_by_halves_are_found() {
         ("more pages", |old, new| new > old),
     ] {
         must_be_found(&format!("{title} by halves are done"), |b, call| {
-            let region = Region::of(b, call);
+            let region = region_of(b, call);
             let returned = plain(b, call);
             match (call, returned, region) {
                 (&Call::Resize { address, size, .. }, 13, Some(region)) => {
@@ -343,7 +293,7 @@ fn faults_of_resizes_by_halves_are_found() {
         });
     }
     must_be_found("whole pages and not rounded ones stay", |b, call| {
-        let region = Region::of(b, call);
+        let region = region_of(b, call);
         let mut words = copies(b);
         let returned = plain(b, call);
         match (call, returned, region) {
@@ -368,7 +318,7 @@ fn faults_of_resizes_by_halves_are_found() {
 /// The call, but a get that may wait with another order in the slot of its
 /// region.
 fn with_order(b: &mut Buffers, call: &Call, other: impl Fn(u32) -> u32) -> usize {
-    let region = Region::of(b, call);
+    let region = region_of(b, call);
     let (Call::Get { wait: 1, .. }, Some(region)) = (call, region) else {
         return plain(b, call);
     };
@@ -422,7 +372,7 @@ fn faults_of_orders_are_found() {
 #[test]
 fn faults_of_information_by_halves_are_found() {
     must_be_found("free neighbours counted as one", |b, call| {
-        let region = Region::of(b, call);
+        let region = region_of(b, call);
         let returned = plain(b, call);
         if let (Call::Information { .. }, Some(region)) = (call, region) {
             let free = region.free();

@@ -1,6 +1,6 @@
 //! Faults of names, each put around the ordinary implementation.
 
-use super::{copies, is_sound, must_be_found, plain, plain_on, run, Faulty};
+use super::{copies, is_sound, must_be_found, plain, plain_on, refuse, run, Faulty};
 use directives::words::*;
 use libtest::call::{Buffers, Call, Directive};
 use libtest::sound::{self, Clause};
@@ -49,12 +49,6 @@ fn holder(b: &Buffers, create: &Call, slot_at: SlotAt) -> Option<usize> {
 /// Whether a call is a kind's create, on sound words and with a choice.
 fn is_create(b: &Buffers, call: &Call, kind: &Kind) -> bool {
     call.directive() == kind.create && !call.has_wrong_choice() && is_sound(b)
-}
-
-/// Answers a call on sound words with a refusal.
-fn refuse(b: &mut Buffers, status: u32) -> usize {
-    b.answer[..ANSWER_WORDS].fill(0);
-    status as usize
 }
 
 /// A name that no object of a kind has, and that is not asked for either.
