@@ -1,10 +1,11 @@
--- WRONG ALIGNMENTS: the managers 84 to 97, each of which is wrong about which alignments a get may ask for, which page it takes then, what is
+-- WRONG ALIGNMENTS: the managers 84 to 98, each of which is wrong about which alignments a get may ask for, which page it takes then, what is
 -- left of the free segment, or what a waiter keeps. Those that show along a list of calls don't meet demand 3; those that take damaged records
 -- for sound don't meet demand 1. Assumes nothing.
-use mathlib.Core.Path.{refl}
+use mathlib.Core.Path.{_≡_, refl, ap}
 use mathlib.Core.Bool.{Bool, cond, not, _&&_, _||_}
 use mathlib.Core.List.{List, [], _∷_}
 use Prim.Native.Nat.{ℕ, _+_, _-_}
+use native.Mathlib.Omega.{arith}
 use lib.ListN.{getD, set}
 use lib.Dec.{eqb, leb}
 use Rattle.arith.specs.Round.{roundUp}
@@ -29,9 +30,10 @@ use Rattle.manager.specs.declared.Order.the-variants.{Fifo, HalvesFifo}
 use Rattle.manager.specs.declared.Wait.the-variants.{No}
 use Rattle.manager.specs.declared.Status.the-variants.{InvalidSize, NotDefined, Unsatisfied}
 use Rattle.trace.specs.Trace.{Ask, call}
-use Rattle.trace.specs.Claims.{Demand3}
+use Rattle.trace.specs.Claims.{Demand3, waitersFor, waitersOf}
+use Rattle.trace.specs.Queue.{insertBy, insertAll, waitsIn}
 use Rattle.effects.specs.Effects.{Demand1}
-use Rattle.refuted.proofs.Refute.{differs, passes-unsound}
+use Rattle.refuted.proofs.Refute.{differs, claimed, passes-unsound}
 use Rattle.refuted.proofs.Calls.{get, get-on, wait-on, return, everything}
 use Rattle.refuted.proofs.Wrong.{segment-get, segment-return, answering, but, leaving, keeping}
 use Rattle.refuted.proofs.Effects.{reached}
@@ -193,6 +195,17 @@ waitsAnywhere = but segment-get 255 λ m d c a. keeping a (unaligned (a .manager
 not-waitsAnywhere : ¬ Demand3 waitsAnywhere
 unfolding everything
 not-waitsAnywhere = differs waitsAnywhere waiting refl
+
+-- 98. ONE OF JUST THE PAGE SIZE IS KEPT AS 0: no reply shows it, the queue does
+abbrev keepsZero : Implementation
+keepsZero = but segment-get 255 λ m d c a. cond (eqb (asked c .alignment) (regionIn d c .page)) (keeping a (unaligned (a .manager))) a
+
+not-keepsZero : ¬ Demand3 keepsZero
+unfolding everything waitersFor waitersOf insertAll insertBy waitsIn
+not-keepsZero h =
+    let c = claimed keepsZero h (create ∷ get 128 ∷ wait-on 16 1 16 0 ∷ []) .region 1 _ refl in
+    let x : _≡_ {A = ℕ} 0 16 = ap (λ (ws : List Waiter). getD ws 0 noWaiter .alignment) (c .queue) in
+    omega arith
 
 -- ---- WHICH RECORDS ARE SOUND
 

@@ -170,8 +170,8 @@ module _ (i : Implementation) (s : State) (v : Inv (s .memory) (s .manager) (s .
           lowest = λ size alignment task priority ticks z a h.
               rw (status-by (GetSegment id size alignment No task priority ticks), value-by (GetSegment id size alignment No task priority ticks))
               (lowest-by n t id e q loans size alignment task priority ticks z a h);
-          aligned = λ size alignment task priority ticks o h. rw (value-by (GetSegment id size alignment No task priority ticks))
-              (aligned-by n t id e q loans size alignment task priority ticks o (sym (status-by (GetSegment id size alignment No task priority ticks)) ∙ h));
+          aligned = λ size alignment wait task priority ticks o h. rw (value-by (GetSegment id size alignment wait task priority ticks))
+              (aligned-by n t id e q loans size alignment task priority ticks wait o (sym (status-by (GetSegment id size alignment wait task priority ticks)) ∙ h));
           invalid = λ size alignment task priority ticks z k. rw (status-by (GetSegment id size alignment No task priority ticks))
               (invalid-by n t id e q loans size alignment task priority ticks z k);
           undefined = λ size alignment task priority ticks z. rw (status-by (GetSegment id size alignment No task priority ticks))

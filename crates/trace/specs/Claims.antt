@@ -20,6 +20,7 @@ use Rattle.manager.specs.declared.Notice.{Notice}
 use Rattle.manager.specs.declared.Call.{Call}
 use Rattle.manager.specs.declared.Call.the-variants.{CreateRegion, IdentRegion, GetSegment, ReturnSegment, SegmentSize, ResizeSegment, RegionInformation, CreatePartition, IdentPartition, GetBuffer, Tick}
 use Rattle.manager.specs.declared.Order.{Order}
+use Rattle.manager.specs.declared.Wait as asking
 use Rattle.manager.specs.declared.Wait.the-variants.{No}
 use Rattle.manager.specs.declared.Status.the-variants.{Successful, InvalidName, InvalidSize, NotDefined, Unsatisfied, InternalError}
 use Rattle.manager.specs.Lists.{In, Distinct}
@@ -119,10 +120,11 @@ pub record RegionClaims (i : Implementation) (s : State) (id : ℕ) (e : RegionE
       ⊎ ((p : ℕ) × Takes e (e .loans) size alignment p
       × (answer i s (GetSegment id size alignment No task priority ticks) .status ≡ Successful)
       × (answer i s (GetSegment id size alignment No task priority ticks) .value ≡ addressIn e p))
-  -- "segments that start on a multiple of a wider size": it is the segment's address that is a multiple of the alignment
-  pub aligned : (size alignment task priority ticks : ℕ) → 0 < alignment
-      → answer i s (GetSegment id size alignment No task priority ticks) .status ≡ Successful
-      → answer i s (GetSegment id size alignment No task priority ticks) .value % alignment ≡ 0
+  -- "segments that start on a multiple of a wider size": it is the segment's address that is a multiple of the alignment, whether the get might
+  -- have waited or not
+  pub aligned : (size alignment : ℕ) (wait : asking.Wait) (task priority ticks : ℕ) → 0 < alignment
+      → answer i s (GetSegment id size alignment wait task priority ticks) .status ≡ Successful
+      → answer i s (GetSegment id size alignment wait task priority ticks) .value % alignment ≡ 0
   -- "0 for the page size, else a multiple of the page size up to 4,096, else 8" and "a request that an empty region couldn't serve is 8": of an
   -- alignment that its kind knows, 8 is the answer exactly where one of the two is so; served with nothing lent, not with the loans there are now
   pub invalid : (size alignment task priority ticks : ℕ) → 0 < size → reading e .aligns alignment ≡ true

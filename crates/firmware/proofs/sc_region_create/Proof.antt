@@ -1,4 +1,4 @@
--- An order above 1 is refused; else the call is that of its order. Assumes nothing.
+-- An order above 3 is refused; else the call is that of its order. Assumes nothing.
 use borrow.Author.Needs.{needs}
 use Rattle.firmware.proofs.Laws.{choosing}
 use Rattle.firmware.proofs.sc_region_create.Statement.{statement}

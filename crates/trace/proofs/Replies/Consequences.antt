@@ -3,7 +3,7 @@
 -- an answer follows. Assumes nothing.
 use mathlib.Core.Path.{_≡_, refl, sym, ap, _∙_}
 use mathlib.Core.Bool.{Bool, true, false, cond, not, true≢false}
-use mathlib.Core.List.{List, [], _∷_}
+use mathlib.Core.List.{List, [], _∷_, _++_}
 use mathlib.Core.Logic.{_⊎_, inl, inr, _↔_}
 use mathlib.Core.Option.{some}
 use Prim.Native.Nat.{ℕ, _+_, _*_, _/_, _%_, _<_}
@@ -19,7 +19,8 @@ use Rattle.manager.specs.Result.{Check, check}
 use Rattle.manager.specs.declared.Call.the-variants.{GetSegment, ReturnSegment, SegmentSize, ResizeSegment, RegionInformation, GetBuffer}
 use Rattle.manager.specs.declared.Place.{Place}
 use Rattle.manager.specs.declared.Place.the-variants.{At, Nowhere}
-use Rattle.manager.specs.declared.Wait.the-variants.{No}
+use Rattle.manager.specs.declared.Wait as asking
+use Rattle.manager.specs.declared.Wait.the-variants.{No, Yes}
 use Rattle.manager.specs.declared.Status.the-variants.{Successful, InvalidSize, NotDefined, Unsatisfied}
 use Rattle.manager.specs.Lists.{In, every}
 use Rattle.manager.proofs.Laws.Result.{Passed}
@@ -27,25 +28,20 @@ use Rattle.trace.specs.Loans.{Loan, Lent, amend}
 use Rattle.trace.specs.Reading.{Serves}
 use Rattle.trace.specs.Receipts.{Receipts, RegionEntry, PartitionEntry, Wait, Reply, unit, spanIn, addressIn, pageIn, pageLoans, buffersIn, pagesOver, needIn, Alignment, servableIn, Servable, reading}
 use Rattle.trace.specs.Queue.{queueOf}
-use Rattle.trace.specs.Replies.{no, yes, tells, informs, resizes, decided, grantsIn, informationIn, front, byReceipts, placeIn, canHaveIn}
+use Rattle.trace.specs.Replies.{no, yes, tells, informs, resizes, decided, grantsIn, informationIn, front, waitingChecks, noPlace, byReceipts, placeIn, canHaveIn}
 use Rattle.trace.specs.Claims.{Grants, Full, Takes}
 use Rattle.trace.proofs.Segments.{law, Regular, Places, takes, full, places, lent-some, pages-lent, room-lent, regular-returned, regular-resized}
 use Rattle.trace.proofs.Servable.{allows, allowed, address-on, servable-claim}
 use Rattle.trace.proofs.Grants.{grants-are}
+use Rattle.trace.proofs.Regions.Checks.{refuses}
 use Rattle.trace.proofs.Replies.Checks.{passed}
 
 -- ---- the answers about a region
 
 module _ (n : ℕ) (t : Receipts) (id : ℕ) (e : RegionEntry) (q : t .regions id ≡ some e) (g : Regular e) where
-  -- a get that won't wait
+  -- a get
   module _ (size alignment task priority ticks : ℕ) where
-    abbrev at-once : Reply
-    at-once = byReceipts n t (GetSegment id size alignment No task priority ticks)
-
-    -- its answer by the place that is found; and the place, and its checks behind the one for 4
-    abbrev by-place : Place → Reply
-    by-place p = onPlace p (λ p. yes (addressIn e p)) (no Unsatisfied)
-
+    -- the place that it finds, and its checks by the region, behind the one for 4
     abbrev found : Place
     found = placeIn e (e .loans) size alignment
 
@@ -56,27 +52,54 @@ module _ (n : ℕ) (t : Receipts) (id : ℕ) (e : RegionEntry) (q : t .regions i
         ∷ check (not (servableIn e size alignment)) InvalidSize
         ∷ []
 
-    get-is : at-once ≡ decided (check (eqb size 0) InvalidSize ∷ []) (decided checks (by-place found))
-    unfolding byReceipts
-    get-is = rw q
-
     -- the place that it takes would serve
     chosen : (p : ℕ) → Takes e (e .loans) size alignment p → Serves (reading e) (spanIn e) (pageLoans e) (needIn e size alignment) p
     chosen = law e .chosen-serves (g .fits) (pagesFor size (unit e)) (alignment / unit e)
 
-    -- THE ADDRESS IS A MULTIPLE OF THE ALIGNMENT: a get that succeeds has passed its checks
-    pub aligned-by : 0 < alignment → at-once .status ≡ Successful → at-once .value % alignment ≡ 0
-    unfolding Passed every
-    aligned-by o h =
-        let s = passed (check (eqb size 0) InvalidSize ∷ []) _ refl (ap (λ (r : Reply). r .status) (sym get-is) ∙ h) in
-        let u = passed checks _ refl (ap (λ (r : Reply). r .status) (sym (get-is ∙ s .1)) ∙ h) in
-        let a = allows e alignment (not-false (reading e .aligns alignment) (u .0 .0)) (not-false (isAlignment (unit e) alignment) (u .0 .1 .0)) in
-        let b : at-once ≡ by-place found = get-is ∙ s .1 ∙ u .1 in
-        rw b (go a (places e g size alignment (let y = eqb-false size 0 (s .0 .0) in omega arith)) (ap (λ (r : Reply). r .status) (sym b) ∙ h))
-      where
-        go : Alignment e alignment → {p : Place} → Places e size alignment p → by-place p .status ≡ Successful → by-place p .value % alignment ≡ 0
-        go a (takes i c r) y = address-on e alignment a o i (law e .aligned alignment (a .known) o (spanIn e) (needIn e size alignment) i (chosen i c .starts))
-        go a (full f) y = absurd (let x : _≡_ {A = ℕ} 0 1 = cc in omega arith)
+    -- THE ADDRESS IS A MULTIPLE OF THE ALIGNMENT: a get that succeeds, and may wait or not, has passed its checks
+    module _ (wait : asking.Wait) where
+      abbrev asked : Reply
+      asked = byReceipts n t (GetSegment id size alignment wait task priority ticks)
+
+      -- its answer by the place
+      abbrev placing : Place → Reply
+      placing p = onPlace p (λ p. yes (addressIn e p)) (noPlace wait)
+
+      asked-is : asked ≡ decided (check (eqb size 0) InvalidSize ∷ []) (decided (checks ++ waitingChecks t wait task priority) (placing found))
+      unfolding byReceipts
+      asked-is = rw q
+
+      waits-refuse : (w : asking.Wait) → every refuses (checks ++ waitingChecks t w task priority) ≡ true
+      unfolding every
+      waits-refuse No = refl
+      waits-refuse Yes = refl
+
+      never-done : (w : asking.Wait) → ¬ (noPlace w .status ≡ Successful)
+      never-done No y = let x : _≡_ {A = ℕ} 0 1 = cc in omega arith
+      never-done Yes y = let x : _≡_ {A = ℕ} 0 1 = cc in omega arith
+
+      pub aligned-by : 0 < alignment → asked .status ≡ Successful → asked .value % alignment ≡ 0
+      unfolding Passed every
+      aligned-by o h =
+          let s = passed (check (eqb size 0) InvalidSize ∷ []) _ refl (ap (λ (r : Reply). r .status) (sym asked-is) ∙ h) in
+          let u = passed (checks ++ waitingChecks t wait task priority) _ (waits-refuse wait) (ap (λ (r : Reply). r .status) (sym (asked-is ∙ s .1)) ∙ h) in
+          let a = allows e alignment (not-false (reading e .aligns alignment) (u .0 .0)) (not-false (isAlignment (unit e) alignment) (u .0 .1 .0)) in
+          let b : asked ≡ placing found = asked-is ∙ s .1 ∙ u .1 in
+          rw b (go a (places e g size alignment (let y = eqb-false size 0 (s .0 .0) in omega arith)) (ap (λ (r : Reply). r .status) (sym b) ∙ h))
+        where
+          go : Alignment e alignment → {p : Place} → Places e size alignment p → placing p .status ≡ Successful → placing p .value % alignment ≡ 0
+          go a (takes i c r) y = address-on e alignment a o i (law e .aligned alignment (a .known) o (spanIn e) (needIn e size alignment) i (chosen i c .starts))
+          go a (full f) y = absurd (never-done wait y)
+
+    -- one that won't wait
+    abbrev at-once : Reply
+    at-once = asked No
+
+    abbrev by-place : Place → Reply
+    by-place = placing No
+
+    get-is : at-once ≡ decided (check (eqb size 0) InvalidSize ∷ []) (decided checks (by-place found))
+    get-is = asked-is No
 
     module _ (z : 0 < size) where
       -- 11 EXACTLY WHERE THE KIND DOES NOT KNOW THE ALIGNMENT
