@@ -1,4 +1,6 @@
 // Reading and writing a held segment.
+#![tactic(auto)]
+
 mod copier;
 
 ghost use Rattle.std.specs.Prelude.{◌≡◌, ◌*◌, ◌/◌};

@@ -1,5 +1,7 @@
 // Numbers: roundings to whole pages, and the layout of an area of memory. Every function is total over 32-bit
 // inputs, and no sum wraps: sums are kept in 64 bits.
+#![tactic(auto)]
+
 ghost use Rattle.std.specs.Prelude.{◌≡◌, ◌-◌, ◌<◌};
 ghost use Rattle.arith.specs.Round.{round_up, pages_for, align_up};
 ghost use Rattle.arith.specs.Power.{power_up, is_power};
@@ -7,7 +9,7 @@ ghost use Rattle.arith.specs.Layout.{largest, most_pages, any_number, layout_wit
 
 // Where the map and the pages of an area lie: the index of the map's first word, how many pages there are, and the number of the
 // first one. Page p starts at p times the page size.
-#[derive(Drop)]
+#[derive(Clone, Copy)]
 pub struct Layout {
     pub map: usize,
     pub pages: u32,

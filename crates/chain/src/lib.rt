@@ -1,5 +1,7 @@
 // The chain of the free buffers of a partition, on the words of the memory. Every function is total: a word past the memory reads 0,
 // and a store past it changes nothing.
+#![tactic(auto)]
+
 ghost use Rattle.std.specs.Prelude.{◌≡◌, ◌+◌, ◌/◌, get_or, set};
 ghost use Rattle.manager.specs.Partition.{is_buffer, next_of, set_next, set_before, link, is_free, after_get, after_return};
 

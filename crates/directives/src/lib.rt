@@ -1,4 +1,6 @@
 // One call, whichever it is.
+#![tactic(auto)]
+
 ghost use Rattle.manager.specs.Result.{Performs};
 ghost use Rattle.manager.specs.Perform.{perform as Perform·perform};
 

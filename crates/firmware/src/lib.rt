@@ -1,5 +1,7 @@
 // The directives for C and Rust to call: include/steepleclay.h says how. The caller keeps the manager record as words (`state`), lends the
 // memory, and gets the answer in words. A gauge is kept in words of its own.
+#![tactic(auto)]
+
 mod answer;
 mod call;
 mod reading;

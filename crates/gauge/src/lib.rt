@@ -1,4 +1,6 @@
 // The gauge of a region's fill, and its alarm. It is handed numbers and knows no manager record and no memory.
+#![tactic(auto)]
+
 ghost use Rattle.std.specs.Prelude.{◌≡◌, ◌+◌, ◌^◌, ◌≤◌};
 ghost use Rattle.std.specs.Float.Ieee.{is_nan};
 ghost use Rattle.gauge.specs.Gauge.{fresh, fill_of, smoothed_by, is_fill, wrong_limits, wrong, sounds_at, reading, reading_of};
@@ -6,14 +8,14 @@ ghost use Rattle.gauge.specs.Gauge.{fresh, fill_of, smoothed_by, is_fill, wrong_
 use manager::{Information, Status};
 
 // The fill at the last reading, and the smoothed fill.
-#[derive(Drop)]
+#[derive(Clone, Copy)]
 pub struct Gauge {
     pub last: f64,
     pub smoothed: f64,
 }
 
 // What the smoothed fill is compared with: a limit, or a low and a high one.
-#[derive(Drop)]
+#[derive(Clone, Copy)]
 pub enum Alarm {
     Above(f64),
     Below(f64),
@@ -21,7 +23,7 @@ pub enum Alarm {
 }
 
 // What a reading answers, with the gauge after it.
-#[derive(Drop)]
+#[derive(Clone, Copy)]
 pub struct Reading {
     pub gauge: Gauge,
     pub status: Status,

@@ -1,11 +1,13 @@
 // The types of the memory manager. What each directive does is said in specs/; this crate makes only the fresh record and the
 // numbers of the answers.
+#![tactic(auto)]
+
 ghost use Rattle.std.specs.Prelude.{◌≡◌};
 ghost use Rattle.manager.specs.Record.{fresh, emptied_region, emptied_partition};
 ghost use Rattle.manager.specs.Status.{number_of};
 
 // The discipline of a region's wait queue, by arrival or by priority, and the region's kind: of pages, or by halves.
-#[derive(Drop)]
+#[derive(Clone, Copy)]
 pub enum Order {
     Fifo,
     Priority,
@@ -14,14 +16,14 @@ pub enum Order {
 }
 
 // Whether a get may wait.
-#[derive(Drop)]
+#[derive(Clone, Copy)]
 pub enum Wait {
     No,
     Yes,
 }
 
 // The answers (rule 2.1), under their RTEMS names. `Waiting` is the house's own: the task now waits.
-#[derive(Drop)]
+#[derive(Clone, Copy)]
 pub enum Status {
     Successful,
     InvalidName,
@@ -41,7 +43,7 @@ pub enum Status {
 }
 
 // A region: its slot's generation, its area as asked for, its page size, rounded, and its order. An empty slot has name 0.
-#[derive(Drop)]
+#[derive(Clone, Copy)]
 pub struct Region {
     pub name: u32,
     pub generation: u32,
@@ -52,7 +54,7 @@ pub struct Region {
 }
 
 // A partition: its slot's generation, its area as asked for, its buffer size, and the ends and the length of the chain of free buffers.
-#[derive(Drop)]
+#[derive(Clone, Copy)]
 pub struct Partition {
     pub name: u32,
     pub generation: u32,
@@ -65,7 +67,7 @@ pub struct Partition {
 }
 
 // A task that waits for a segment of a region. An unused place has task 0.
-#[derive(Drop)]
+#[derive(Clone, Copy)]
 pub struct Waiter {
     pub task: u32,
     pub region: u32,
@@ -76,7 +78,7 @@ pub struct Waiter {
 }
 
 // What a waiting task is told: the segment that it now holds, or that its time ran out.
-#[derive(Drop)]
+#[derive(Clone, Copy)]
 pub struct Notice {
     pub task: u32,
     pub status: Status,
@@ -84,7 +86,7 @@ pub struct Notice {
 }
 
 // Count, largest and total bytes of the free segments of a region, and of the held ones.
-#[derive(Drop)]
+#[derive(Clone, Copy)]
 pub struct Information {
     pub free_count: u32,
     pub free_largest: u32,
@@ -95,28 +97,28 @@ pub struct Information {
 }
 
 // A part of the memory: `length` bytes from `start` on.
-#[derive(Drop)]
+#[derive(Clone, Copy)]
 pub struct Area {
     pub start: u32,
     pub length: u32,
 }
 
 // What a search for pages looks for: so many, from a page on whose number is a multiple of `every`; from any page where that is 0.
-#[derive(Drop)]
+#[derive(Clone, Copy)]
 pub struct Need {
     pub pages: u64,
     pub every: u32,
 }
 
 // Where a search for pages ends: at a page, or nowhere.
-#[derive(Drop)]
+#[derive(Clone, Copy)]
 pub enum Place {
     At(usize),
     Nowhere,
 }
 
 // The manager record (the paper's desk). The queue is kept by region, and within one in the order in which it is served.
-#[derive(Drop)]
+#[derive(Clone, Copy)]
 pub struct Manager {
     pub regions: [Region; Manager::SLOTS],
     pub partitions: [Partition; Manager::SLOTS],
@@ -124,7 +126,7 @@ pub struct Manager {
 }
 
 // What a call answers, with the manager record after it.
-#[derive(Drop)]
+#[derive(Clone, Copy)]
 pub struct Answer {
     pub status: Status,
     pub value: u32,
@@ -134,7 +136,7 @@ pub struct Answer {
 }
 
 // A directive with its arguments, as a script has it.
-#[derive(Drop)]
+#[derive(Clone, Copy)]
 pub enum Call {
     CreateRegion {
         name: u32,

@@ -1,4 +1,6 @@
 // Where a region's map lies in the memory, and what its words say. Every function is total: any words are read, sound or not.
+#![tactic(auto)]
+
 mod halves;
 
 ghost use Rattle.std.specs.Prelude.{◌≡◌, ◌-◌, ◌/◌};

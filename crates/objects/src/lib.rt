@@ -1,4 +1,6 @@
 // Finding objects and areas in the manager record. Every function is total, and nothing but the record is read.
+#![tactic(auto)]
+
 ghost use Rattle.std.specs.Prelude.{◌≡◌, not, cond, ◌+◌, ◌*◌, ◌<◌, ◌≤◌, ltb, drop, take};
 ghost use Rattle.manager.specs.Record.{slots, slot_of, generation_of, id_of, has_id, unspent, region_of, partition_of, with_region, with_partition};
 ghost use Rattle.manager.specs.Lists.{every, pairwise};
@@ -233,7 +235,7 @@ fn overlap(a: Area, b: Area) -> bool
 const AREAS: usize = 2 * Manager::SLOTS;
 
 // The areas of the objects, in front of places that count for nothing. Those of empty slots are left out: they meet none.
-#[derive(Drop)]
+#[derive(Clone, Copy)]
 struct Gathered {
     all: [Area; AREAS],
     count: usize,

@@ -1,4 +1,6 @@
 // The manager record as words that a caller keeps, and back.
+#![tactic(auto)]
+
 mod reading;
 mod writing;
 
@@ -40,7 +42,7 @@ pub fn order_at(word: u32) -> Order
 }
 
 // What words say: a record, if they say one.
-#[derive(Drop)]
+#[derive(Clone, Copy)]
 pub struct Unpacked {
     pub ok: bool,
     pub manager: Manager,

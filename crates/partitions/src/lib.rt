@@ -1,5 +1,7 @@
 // The directives on partitions: rules 12. Each answers 25 first, where the records are not sound. Every function
 // is total: any record, memory and numbers have their answer.
+#![tactic(auto)]
+
 mod buffers;
 mod create;
 mod slots;

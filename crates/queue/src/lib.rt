@@ -1,5 +1,7 @@
 // The wait queue of the manager record: who goes before whom, entering and leaving it, and the clock tick. Every function is
 // total.
+#![tactic(auto)]
+
 ghost use Rattle.std.specs.Prelude.{◌≡◌, ◌++◌, take, drop};
 ghost use Rattle.manager.specs.Lists.{index_of};
 ghost use Rattle.manager.specs.Queue.{by_priority, goes_before, push, remove_at, enqueue, dequeue, first_of, waiting, aged, expired, leaving, after_tick};

@@ -1,5 +1,7 @@
 // The directives on whole regions: rules 11. Each answers 25 first, where the records are not sound. Every function
 // here is total: any record, memory and numbers have their answer.
+#![tactic(auto)]
+
 mod create;
 mod slots;
 mod tally;

@@ -1,4 +1,6 @@
 // Answers without information: without notices, and with those that serving or a tick leaves.
+#![tactic(auto)]
+
 ghost use Rattle.std.specs.Prelude.{◌≡◌, [], replicate};
 ghost use Rattle.manager.specs.Record.{tasks, no_notice, no_information};
 ghost use Rattle.manager.specs.Result.{answer_of, replied};
@@ -7,7 +9,7 @@ ghost use Rattle.reply.specs.Notices.{Notices, answer_with};
 use manager::{Answer, Information, Manager, Notice, Status};
 
 // The manager record, and the notices that serving or a tick leaves: so many, and unused places are zero.
-#[derive(Drop)]
+#[derive(Clone, Copy)]
 pub struct Noticed {
     pub manager: Manager,
     pub notices: [Notice; Manager::TASKS],

@@ -1,4 +1,6 @@
 // The whole program on slices: runs the calls of a script over a memory, and puts what it answers into a buffer.
+#![tactic(auto)]
+
 mod output;
 
 ghost use Rattle.std.specs.Prelude.{◌≡◌, ◌+◌, ◌≤◌, length};

@@ -1,4 +1,6 @@
 // Reads the calls of a script by tables: nothing here names a directive.
+#![tactic(auto)]
+
 mod table;
 
 ghost use Rattle.std.specs.Prelude.{◌≡◌, [], ◌≤◌, ◌<◌, length, get_or, drop};
@@ -12,7 +14,7 @@ use text::{Entry, field, starts_with};
 
 // What reading at a place finds: a call, whether its answer has six values, and where the next line starts; where the first bad or missing
 // line starts; nothing left.
-#[derive(Drop)]
+#[derive(Clone, Copy)]
 pub enum ReadCall {
     One(Call, bool, usize),
     BadAt(usize),
@@ -20,7 +22,7 @@ pub enum ReadCall {
 }
 
 // What the lines of a call's keys are: all there, and where the next line starts; or where the first bad one starts.
-#[derive(Drop)]
+#[derive(Clone, Copy)]
 enum Fields {
     All(usize),
     Wrong(usize),

@@ -6,7 +6,7 @@ ghost use Rattle.segments.specs.Verdicts.{verdict_of, ask_checks};
 use arith::Layout;
 use manager::{Manager, Need, Region, Status, Wait};
 
-#[derive(Drop)]
+#[derive(Clone, Copy)]
 pub(crate) enum Verdict {
     Good,
     Bad(Status),

@@ -1,5 +1,7 @@
 // The directives on the segments of a region, and the clock tick: rules 11.4 to 11.7 and 11.9. Each answers 25 first, where the records are
 // not sound, and then makes its checks in their order. Every function here is total: any record, memory and numbers have their answer.
+#![tactic(auto)]
+
 mod allocation;
 mod checks;
 mod halves;

@@ -21,7 +21,7 @@ pub(crate) fn address_of(r: Region, p: usize) -> u32
 }
 
 // A turn of serving: nobody can be served, or the waiter at a place of the queue gets its notice.
-#[derive(Drop)]
+#[derive(Clone, Copy)]
 pub(crate) enum Turn {
     Stop,
     Serve(usize, Notice),

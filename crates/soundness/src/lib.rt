@@ -1,5 +1,7 @@
 // The check of all records: whether the manager record and the memory's words are as rules 10 have them. It ends on
 // any input, however damaged, and changes nothing.
+#![tactic(auto)]
+
 mod chains;
 mod places;
 mod slots;

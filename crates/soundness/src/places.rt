@@ -37,7 +37,7 @@ fn empty_waiter(w: Waiter) -> bool
 
 // What the check of a waiter asks of what is in its region's slot, worked out once for the waiters that stand together: where its pages
 // lie, and whether it is the region, live with something held.
-#[derive(Drop)]
+#[derive(Clone, Copy)]
 struct Facts {
     id: u32,
     region: Region,

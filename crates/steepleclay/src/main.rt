@@ -1,11 +1,13 @@
 // Reads a script from standard input, runs it over a zeroed memory of 16,384 words, and writes what it answers.
+#![tactic(auto)]
+
 ghost use Rattle.std.specs.Prelude.{◌≤◌, length};
 ghost use Rattle.steepleclay.specs.Input.{Reaches};
 
 use libc::{STDERR_FILENO, STDIN_FILENO, STDOUT_FILENO};
 
 // How far a buffer is filled, or that reading failed.
-#[derive(Drop)]
+#[derive(Clone, Copy)]
 enum Input {
     Filled(usize),
     Failed,

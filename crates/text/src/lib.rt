@@ -1,22 +1,24 @@
 // Reads the lines of a script: a number, a line's end, a key, a line of a key and a number.
+#![tactic(auto)]
+
 ghost use Rattle.std.specs.Prelude.{◌≡◌};
 ghost use Rattle.text.specs.Lines.{number_of, line_at, starts, field_at};
 
-#[derive(Drop)]
+#[derive(Clone, Copy)]
 pub enum Num {
     Is(u32),
     Not,
 }
 
 // Where a line ends: the place of its newline.
-#[derive(Drop)]
+#[derive(Clone, Copy)]
 pub enum Line {
     Ends(usize),
     Never,
 }
 
 // A line of a key and a number: the number, and where the next line starts.
-#[derive(Drop)]
+#[derive(Clone, Copy)]
 pub enum Entry {
     Took { value: u32, next: usize },
     Bad,
