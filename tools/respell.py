@@ -55,6 +55,8 @@ def code(text):
 
 
 def is_own(module, crates):
+    if re.match(r"(?!Prim\b|Rattle\b)[A-Z]", module):
+        return True
     m = re.match(r"Rattle\.(\w+)\.(specs|proofs)", module)
     return bool(m) and m[1] in crates and not GENERATED.search(module)
 
@@ -121,7 +123,11 @@ def main(argv):
             if n not in spelled or n in foreign:
                 return n
             if n in LEMMAS and not (mine.get(n) or n in declared.get(p, ())):
-                return n
+                to = re.search(r"([\w]+)\.$", t[: m.start()])
+                module = to and re.search(rf"(?m)^use Rattle\.(\w+)\.(\S+) as {to[1]}$", t)
+                path = module and os.path.join(root, "crates", module[1], module[2].replace(".", "/") + ".antt")
+                if not module or n not in declared.get(path, ()):
+                    return n
             before = t[max(0, m.start() - 1):m.start()]
             if p in proofs and (before == "." or not mine.get(n)):
                 return n

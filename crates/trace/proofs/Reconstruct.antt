@@ -27,20 +27,20 @@ use Rattle.manager.proofs.Laws.Names.{region_names, partition_names}
 use Rattle.manager.proofs.Laws.Partition.Live.{partition_generation_lem, empty_partition_lem}
 use Rattle.trace.specs.Receipts.{Receipts}
 use Rattle.trace.proofs.Invariant.{RegionSlotIs, PartitionSlotIs, Inv}
-use Region.{slotEntry, no-region, region-read}
-use Partition.{partitionSlot, no-partition, partition-read}
-use Waits.{waitsOf}
-use Queue.{waits-read}
+use Region.{slot_entry, no_region_lem, region_read}
+use Partition.{partition_slot, no_partition_lem, partition_read}
+use Waits.{waits_of}
+use Queue.{waits_read}
 
 -- what a record says of loans and waits, and of deletes: a slot's generation
 abbrev pub receipts_of : List ℕ → Manager → Receipts
 receipts_of m d =
     record {
-      regions = λ id. slotEntry m (region_of d id);
-      partitions = λ id. partitionSlot m (partition_of d id);
+      regions = λ id. slot_entry m (region_of d id);
+      partitions = λ id. partition_slot m (partition_of d id);
       region_deletes = region_generation d;
       partition_deletes = partition_generation d;
-      waits = waitsOf d.waiters;
+      waits = waits_of d.waiters;
     }
 
 module _ (m : List ℕ) (d : Manager) (nr : length d.regions ≡ slots) (np : length d.partitions ≡ slots) where
@@ -66,13 +66,13 @@ module _ (m : List ℕ) (d : Manager) (nr : length d.regions ≡ slots) (np : le
   region_slot e i h =
       let r = get_or d.regions i no_region in
       let s = every_at (sound_region m) d.regions i no_region e (omega arith) in
-      record { same = refl; sound = region_generation_lem m r s; empty = λ n. no-region r n (empty_of m r s (eq-eqb r.name 0 n)) }
+      record { same = refl; sound = region_generation_lem m r s; empty = λ n. no_region_lem r n (empty_of m r s (eq-eqb r.name 0 n)) }
 
   partition_slot_lem : every (sound_partition m) d.partitions ≡ true → (i : ℕ) → i < slots → PartitionSlotIs (get_or d.partitions i no_partition) (partition_generation d i)
   partition_slot_lem e i h =
       let p = get_or d.partitions i no_partition in
       let s = every_at (sound_partition m) d.partitions i no_partition e (omega arith) in
-      record { same = refl; sound = partition_generation_lem m p s; empty = λ n. no-partition p n (empty_partition_lem m p s (eq-eqb p.name 0 n)) }
+      record { same = refl; sound = partition_generation_lem m p s; empty = λ n. no_partition_lem p n (empty_partition_lem m p s (eq-eqb p.name 0 n)) }
 
   -- a live id is the one that its slot has now
   id_now_lem : (id : ℕ) → ¬ ((region_of d id).name ≡ 0) → id ≡ id_of (slot_of id) (region_generation d (slot_of id))
@@ -91,13 +91,13 @@ module _ (m : List ℕ) (d : Manager) (nr : length d.regions ≡ slots) (np : le
           words = sound_length_lem m d e;
           region_slots = nr;
           partition_slots = np;
-          regions = λ id. region-read m (region_of d id) (region_clause rs id);
-          partitions = λ id. partition-read m (partition_of d id) (partition_clause ps id);
+          regions = λ id. region_read m (region_of d id) (region_clause rs id);
+          partitions = λ id. partition_read m (partition_of d id) (partition_clause ps id);
           region_is = region_slot rs;
           partition_is = partition_slot_lem ps;
           region_names = region_names d (sound_names_lem m d e);
           partition_names = partition_names d (sound_names_lem m d e);
           areas = sound_areas_lem m d e;
         };
-        waits = waits-read m d (receipts_of m d) (λ id. refl) (region_clause rs) id_now_lem nw refl (sound_queue_lem m d e);
+        waits = waits_read m d (receipts_of m d) (λ id. refl) (region_clause rs) id_now_lem nw refl (sound_queue_lem m d e);
       }

@@ -91,7 +91,7 @@ module _ (e : RegionEntry) (g : Regular e) where
 
   pub pages_lent : (a k : ℕ) → Lent e.loans a k → pages_at a e.loans ≡ k
   pages_lent a k x =
-      found_pages a e.loans k x (λ n y. lawful.lent_one (law e) g.fits (page_in e a) n k (loan_holds a n y).lent (loan_holds a k x).lent)
+      found_pages a e.loans k x (λ n y. lawful.lent_one_lem (law e) g.fits (page_in e a) n k (loan_holds a n y).lent (loan_holds a k x).lent)
 
   -- where a get is placed
   pub places : (size alignment : ℕ) → 0 < size → Places e size alignment (place_in e e.loans size alignment)

@@ -1,7 +1,7 @@
 -- LOANS THAT ARE ALIGNED AND APART DRAW A MAP BY HALVES, which says them again. A loan of all pages of a block is the only one in it. With
 -- none such each loan lies in one half, since it starts at a multiple of its own length, and the halves are drawn each from its own loans;
 -- not both are wholly free, since some loan lies in one of them. Assumes nothing.
-use mathlib.Core.Path.{◌≡◌, refl, sym, ap, ◌∙◌}
+use mathlib.Core.Path.{◌≡◌, refl, sym, ap, ◌∙◌, subst}
 use mathlib.Core.Bool.{Bool, true, false, ◌&&◌}
 use mathlib.Core.List.{List, [], ◌∷◌, ◌++◌}
 use mathlib.Core.Logic.{◌⊎◌, inl, inr}
@@ -200,5 +200,5 @@ fitted (suc j) at (loan a k ∷ l) o h =
     let t = loan a k ∷ l in
     let e : at + 2 ^ suc j ≡ at + 2 ^ j + 2 ^ j = omega (arith, double j) in
     by_eqb k (2 ^ suc j) (λ (b : Bool). Fitted (suc j) at t) (λ whole. fitted_whole (suc j) at a k l o whole)
-    (λ less. fitted_halves j at t (rw e at o) (some_loan a k l) (λ p i x. side j at p i (h p i x) (none_whole (2 ^ suc j) at a k l o less p i x))
+    (λ less. fitted_halves j at t (subst (λ (x : ℕ). Ordered x at t) e o) (some_loan a k l) (λ p i x. side j at p i (h p i x) (none_whole (2 ^ suc j) at a k l o less p i x))
     (λ t v g. fitted j at t v g) (λ t v g. fitted j (at + 2 ^ j) t v g))
