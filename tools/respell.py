@@ -57,8 +57,8 @@ def code(text):
 def is_own(module, crates):
     if re.match(r"(?!Prim\b|Rattle\b)[A-Z]", module):
         return True
-    m = re.match(r"Rattle\.(\w+)\.(specs|proofs)", module)
-    return bool(m) and m[1] in crates and not GENERATED.search(module)
+    m = re.match(r"Rattle\.(\w+)\.(specs|proofs)\.(\S+)", module)
+    return bool(m) and m[1] in crates and ((m[1], m[2], m[3]) in crates[m[1]] or not GENERATED.search(module))
 
 
 def imports(text, crates):
@@ -76,7 +76,7 @@ def main(argv):
     check = "--check" in argv
     rest = [a for a in argv if a != "--check"]
     root = rest[0] if rest else os.path.dirname(os.path.dirname(os.path.abspath(__file__)))
-    crates = set(own_crates(root))
+    crates = {c: set() for c in own_crates(root)}
     files = {}
     for c in sorted(crates):
         for kind in ("specs", "proofs", "src", "must-fail"):
@@ -85,6 +85,8 @@ def main(argv):
                     if n.endswith((".antt", ".rt", ".edit")):
                         path = os.path.join(folder, n)
                         files[path] = read(path)
+                        inside = os.path.relpath(path, os.path.join(root, "crates", c, kind))
+                        crates[c].add((c, kind, inside[: -len(".antt")].replace("/", ".")))
     proofs = {p for p in files if os.path.basename(p) == "Proof.antt"}
     own, where = set(), collections.defaultdict(set)
     declared = {}
@@ -120,6 +122,8 @@ def main(argv):
 
         def replace(m, p=p, mine=mine, foreign=foreign, t=t, made=made):
             n = m[0]
+            if n not in spelled and mine.get(n) and wants(n):
+                return turned(n)
             if n not in spelled or n in foreign:
                 return n
             if n in LEMMAS and not (mine.get(n) or n in declared.get(p, ())):

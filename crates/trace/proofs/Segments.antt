@@ -21,11 +21,11 @@ use Rattle.trace.proofs.Loans.Addresses.{pages_back, address_lent, enter_address
 use Rattle.trace.proofs.Loans.Lawful as lawful
 use Rattle.trace.proofs.Loans.Lawful.{Lawful, Found, found, nowhere, drawn_is, place_found}
 use Rattle.trace.proofs.Loans.Says.{found_pages}
-use Rattle.trace.proofs.Loans.Kinds.{lawful-of}
+use Rattle.trace.proofs.Loans.Kinds.{lawful_of}
 
 -- the laws of a region's kind
 abbrev pub law : (e : RegionEntry) → Lawful (kind_of e.order) (reading e)
-law e = lawful-of e.order
+law e = lawful_of e.order
 
 -- WHAT THE RECEIPTS SAY OF A LIVE REGION'S LOANS, whatever the memory: it has pages, each loan is at the address of one, and they fit
 pub record Regular (e : RegionEntry) : Type 0 where
