@@ -1,0 +1,10 @@
+-- `is_sound` meets its contract: the check of its own kind. Assumes nothing.
+use borrow.Author.Rules.{rules}
+use Rattle.map.proofs.Order.{kinds}
+use Rattle.map.proofs.is_sound.Goals as goal
+
+pub returns-then-by_halves : goal.returns-then-by_halves
+returns-then-by_halves c = search (rules, kinds)
+
+pub returns : goal.returns
+returns c = search (rules, kinds)

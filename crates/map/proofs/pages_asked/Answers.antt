@@ -1,0 +1,10 @@
+-- `pages_asked` meets its contract: the pages that its kind gives. Assumes nothing.
+use borrow.Author.Rules.{rules}
+use Rattle.map.proofs.Order.{kinds}
+use Rattle.map.proofs.pages_asked.Goals as goal
+
+pub returns-then-by_halves : goal.returns-then-by_halves
+returns-then-by_halves c = search (rules, kinds)
+
+pub returns : goal.returns
+returns c = search (rules, kinds)
