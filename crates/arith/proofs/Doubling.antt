@@ -9,7 +9,7 @@ use mir.Syntax.{w32}
 use mir.Val.{Fits}
 use mir.Facts.{Fits-le}
 use Rattle.arith.specs.Power.{power_up, is_power}
-use Rattle.arith.specs.Layout.{fits, largest, any_number, page_count, layout_with, layout_of}
+use Rattle.arith.specs.Layout.{largest, any_number, page_count, layout_with, layout_of}
 use Rattle.arith.specs.declared.Layout.{Layout}
 use Rattle.arith.proofs.Laws.Layout.{largest_under, largest_most, largest_passes, count_under, count_fits, count_allowed, count_zero, count_over, count_most, fits_less}
 use Rattle.arith.proofs.Laws.Power.{is_power_lem, power_some, next_power, least_is, largest_is}

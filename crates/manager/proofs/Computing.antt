@@ -1,6 +1,5 @@
 -- All that a worked example computes with, in three parts: maps of both kinds and checks of lists; the queue, the chain and the sound record; serving and
 -- the directives. An example unfolds these names. Assumes nothing.
-use Prim.Native.Nat.{◌+◌}
 use Rattle.arith.specs.Power.{level_from}
 use Rattle.arith.specs.Layout.{largest, most_pages, page_count}
 use Rattle.manager.specs.Record.{slot_of, generation_of, id_of, object_of}

@@ -11,7 +11,7 @@ use lib.ListN.{length, get_or}
 use Rattle.manager.specs.Lists.{any}
 use Rattle.manager.proofs.Laws.Map.{head_parts, rest_parts, no_end, decode_start, decode_skip, size_of_lem, total_cons, total_decoded, sized_decoded, redraw, Sized, sound_tiled, sound_proper}
 use Rattle.manager.proofs.Laws.Kinds.{Keeps, keeps}
-use Rattle.manager.specs.Map.{Segment, free, held, segment_of, is_held, is_held_segment, draw, decode, tiled_from, tiled, sound_map, total}
+use Rattle.manager.specs.Map.{Segment, free, segment_of, is_held, is_held_segment, draw, decode, tiled_from, tiled, sound_map, total}
 use Rattle.manager.specs.Kind.{Kind, held_from}
 use Rattle.manager.specs.Record.{region_of}
 use Rattle.manager.specs.Region.{kind, layout_of, pages_of, first_page_of, map_words, segments, held_at, any_held}

@@ -11,7 +11,7 @@ use Rattle.manager.specs.Perform.{Implementation, perform}
 use Rattle.manager.specs.declared.Order.TheVariants.{Fifo}
 use Rattle.trace.specs.Loans.{Loan, loan, Lent}
 use Rattle.trace.specs.Receipts.{RegionEntry}
-use Rattle.trace.specs.Trace.{start, region, segment}
+use Rattle.trace.specs.Trace.{region, segment}
 use Rattle.trace.specs.Claims.{Demand3}
 use Rattle.refuted.proofs.Refute.{claimed}
 use Rattle.refuted.proofs.Calls.{create, get, everything}

@@ -22,7 +22,7 @@ use Rattle.manager.specs.declared.Wait.TheVariants.{No, Yes}
 use Rattle.manager.specs.declared.Status.TheVariants.{Timeout}
 use Rattle.trace.specs.Trace.{Ask, State, start}
 use Rattle.effects.specs.Effects.{refusing, Whole, Demand1}
-use Rattle.refuted.proofs.Refute.{words, after_all, writes_other, refuses_otherwise, answers_otherwise, passes_unsound}
+use Rattle.refuted.proofs.Refute.{after_all, writes_other, refuses_otherwise, answers_otherwise, passes_unsound}
 use Rattle.refuted.proofs.Calls.{create, get, wait, divide, everything}
 use Rattle.refuted.proofs.Wrong.{segment_get, segment_resize, region_delete, buffer_get, answering, but, valued, leaving, keeping, emptied}
 

@@ -10,7 +10,7 @@ use lib.ListN.{length, replicate}
 use lib.Dec.{eqb}
 use borrow.Author.Tests.{not-true, not-false}
 use Rattle.manager.specs.Record.{slots, tasks, no_waiter}
-use Rattle.manager.specs.Lists.{every, count}
+use Rattle.manager.specs.Lists.{every}
 use Rattle.manager.specs.Result.{Performs, checked, refused}
 use Rattle.manager.specs.Queue.{staying, leaving, aged, expired, after_tick}
 use Rattle.manager.specs.Serve.{serve_all, serve_after}
@@ -26,7 +26,7 @@ use Rattle.manager.proofs.Laws.Appended.{by_case, and_both, every_behind, count_
 use Rattle.manager.proofs.Laws.Result.{performs_replied}
 use Rattle.manager.proofs.Laws.Sites.{sound_sites, sites_queue}
 use Rattle.objects.proofs.Laws.{unmapped}
-use Rattle.reply.specs.Notices.{Notices, told, answer_with}
+use Rattle.reply.specs.Notices.{Notices, answer_with}
 use Rattle.reply.specs.declared.Noticed.{Noticed}
 use Rattle.reply.proofs.Laws.{notices_told, performs_noticed}
 use Rattle.segments.specs.Serving.{asks, Asking, used, Ready, Serves}

@@ -7,7 +7,7 @@ use lib.ListN.{get_or}
 use Rattle.manager.specs.Access.{write_segment}
 use Rattle.manager.specs.Perform.{defined}
 use Rattle.trace.specs.Receipts.{Reply}
-use Rattle.trace.specs.Trace.{Ask, call, read, write, State, after, region, partition, Owned}
+use Rattle.trace.specs.Trace.{Ask, call, read, write, State, after, Owned}
 use Rattle.trace.specs.Claims.{written, Claims, Demand3}
 use Rattle.trace.proofs.Invariant.{Inv}
 use Rattle.trace.proofs.Start.{start_inv}

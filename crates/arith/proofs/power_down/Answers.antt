@@ -1,5 +1,4 @@
 -- `power_down` meets its contract: it doubles from 1 on up to the last power of two at or below n. Assumes nothing.
-use Prim.Native.Nat.{◌-◌}
 use borrow.Author.Rules.{rules}
 use Rattle.arith.proofs.Doubling.{below}
 use Rattle.arith.proofs.power_down.Goals as goal

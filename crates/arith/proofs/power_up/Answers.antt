@@ -1,5 +1,4 @@
 -- `power_up` meets its contract: it doubles from 1 on up to the first power of two that reaches k. Assumes nothing.
-use Prim.Native.Nat.{◌-◌}
 use borrow.Author.Rules.{rules}
 use Rattle.arith.proofs.Doubling.{rising}
 use Rattle.arith.proofs.power_up.Goals as goal

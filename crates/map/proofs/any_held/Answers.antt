@@ -1,5 +1,4 @@
 -- `any_held` meets its contract: it is a search for an odd word. Assumes nothing.
-use Prim.Native.Nat.{◌-◌}
 use borrow.Author.Rules.{rules}
 use Rattle.map.proofs.Scan.{finding}
 use Rattle.map.proofs.any_held.Goals as goal

@@ -1,5 +1,4 @@
 -- `is_apart` meets its contract: one pass over the words says both that they are tiled and that no two free segments adjoin (`soundFrom`). Assumes nothing.
-use Prim.Native.Nat.{◌-◌}
 use borrow.Author.Rules.{rules}
 use Rattle.map.proofs.Check.{checking}
 use Rattle.map.proofs.is_apart.Goals as goal

@@ -1,7 +1,6 @@
 -- `room_from` meets its contract: the gap before the first page on the alignment is left out. Assumes nothing.
 use borrow.Author.Rules.{rules}
 use Rattle.map.proofs.Alignment.{aligning}
-use Rattle.arith.proofs.gap_to.Reads as gap-to-reads
 use Rattle.map.proofs.room_from.Goals as goal
 
 pub returns-then-n-gap : goal.returns-then-n-gap

@@ -1,5 +1,4 @@
 -- No area before place i meets one behind it. Assumes nothing.
-use Prim.Native.Nat.{◌-◌}
 use mathlib.Core.Bool.{not}
 use Rattle.objects.proofs.Live.{pairs_met, pairs_clear, pairs_of, parting}
 use borrow.Author.Rules.{rules}

@@ -1,5 +1,4 @@
 -- No area between the first place and i meets this one. Assumes nothing.
-use Prim.Native.Nat.{◌-◌}
 use Rattle.objects.proofs.Live.{clearing}
 use borrow.Author.Rules.{rules}
 use Rattle.objects.proofs.meets_none.Goals as goal

@@ -1,5 +1,4 @@
 -- The areas of the regions and of the partition slots before k are gathered. Assumes nothing.
-use Prim.Native.Nat.{◌-◌}
 use Rattle.objects.proofs.Live.{gathering}
 use borrow.Author.Rules.{rules}
 use Rattle.objects.proofs.object_areas.Goals as goal

@@ -1,5 +1,4 @@
 -- Each slot before this one is empty or the first with its name. Assumes nothing.
-use Prim.Native.Nat.{◌-◌}
 use Rattle.objects.proofs.Names.{differing, differ_empty, differ_first}
 use borrow.Author.Rules.{rules}
 use Rattle.objects.proofs.partition_names_differ.Goals as goal

@@ -1,5 +1,4 @@
 -- The areas of the slots before i are gathered. Assumes nothing.
-use Prim.Native.Nat.{◌-◌}
 use Rattle.objects.proofs.Live.{gathering}
 use borrow.Author.Rules.{rules}
 use Rattle.objects.proofs.region_areas.Goals as goal

@@ -1,5 +1,4 @@
 -- No slot before this one has the name, so what is left from here on gives the answer. Assumes nothing.
-use Prim.Native.Nat.{◌-◌}
 use Rattle.objects.proofs.Laws.{naming}
 use borrow.Author.Rules.{rules}
 use Rattle.objects.proofs.region_named.Goals as goal

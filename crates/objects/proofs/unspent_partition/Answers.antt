@@ -1,5 +1,4 @@
 -- No slot before this one may be taken, so what is left from here on gives the answer. Assumes nothing.
-use Prim.Native.Nat.{◌-◌}
 use Rattle.objects.proofs.Laws.{seeking}
 use borrow.Author.Rules.{rules}
 use Rattle.objects.proofs.unspent_partition.Goals as goal

@@ -1,5 +1,4 @@
 -- Of the places before i, those that stay and the notices of those that leave are in the arrays. Assumes nothing.
-use Prim.Native.Nat.{◌-◌}
 use Rattle.queue.proofs.Ticks.{ticking}
 use borrow.Author.Rules.{rules}
 use Rattle.queue.proofs.after_tick.Goals as goal

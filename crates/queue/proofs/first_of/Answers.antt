@@ -1,5 +1,4 @@
 -- No place before i holds a waiter of the region. Assumes nothing.
-use Prim.Native.Nat.{◌-◌}
 use Rattle.queue.proofs.Laws.{finding}
 use borrow.Author.Rules.{rules}
 use Rattle.queue.proofs.first_of.Goals as goal

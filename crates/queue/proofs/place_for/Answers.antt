@@ -1,5 +1,4 @@
 -- None before place i is one that w goes before. Assumes nothing.
-use Prim.Native.Nat.{◌-◌}
 use Rattle.manager.proofs.Laws.Lists.{index_loop}
 use borrow.Author.Rules.{rules}
 use Rattle.queue.proofs.place_for.Goals as goal

@@ -1,5 +1,4 @@
 -- What stands before place i is done, and c goes to place i. Assumes nothing.
-use Prim.Native.Nat.{◌-◌}
 use Rattle.queue.proofs.Laws.{pushing}
 use borrow.Author.Rules.{rules}
 use Rattle.queue.proofs.push_at.Goals as goal

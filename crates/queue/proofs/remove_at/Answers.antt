@@ -1,5 +1,4 @@
 -- Those before place i are done; each behind it goes one place on. Assumes nothing.
-use Prim.Native.Nat.{◌-◌}
 use Rattle.queue.proofs.Laws.{pulling}
 use borrow.Author.Rules.{rules}
 use Rattle.queue.proofs.remove_at.Goals as goal

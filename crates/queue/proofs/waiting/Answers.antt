@@ -1,6 +1,4 @@
 -- No place before i has the task. Assumes nothing.
-use Prim.Native.Nat.{◌-◌}
-use Rattle.manager.specs.Queue as queue
 use Rattle.queue.proofs.Laws.{finding}
 use borrow.Author.Rules.{rules}
 use Rattle.queue.proofs.waiting.Goals as goal

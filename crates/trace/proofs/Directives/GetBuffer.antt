@@ -33,7 +33,7 @@ use Rattle.trace.proofs.Buffers.{strike_here, within_strike, strike_other, strik
 use Rattle.trace.proofs.Regions.Checks.{Kept, kept_checked, Right}
 use Rattle.trace.proofs.Regions.Queue.{sound_inv}
 use Rattle.trace.proofs.Partitions.Slot.{unlent_once, partition_entry_lem, on_partition_lem, outside, kept_done, free_unlent, put_live}
-use Rattle.trace.proofs.Replies.Checks.{Answers, same, answers, at_partition}
+use Rattle.trace.proofs.Replies.Checks.{Answers, answers, at_partition}
 
 -- the entry with one buffer more lent
 abbrev lent_one : ℕ → PartitionEntry → PartitionEntry

@@ -36,7 +36,7 @@ use Rattle.trace.proofs.Regions.Checks.{Kept, kept_checked, Right}
 use Rattle.trace.proofs.Regions.Queue.{sound_inv}
 use Rattle.trace.proofs.Partitions.Slot.{partition_entry_lem, keeping, on_partition_lem, outside, kept_done, put_live}
 use Rattle.trace.proofs.Queue.Line.{true_false}
-use Rattle.trace.proofs.Replies.Checks.{Answers, same, answers, at_partition}
+use Rattle.trace.proofs.Replies.Checks.{Answers, answers, at_partition}
 
 -- a number added at the end of a list
 last_within : (a : ℕ) (l : List ℕ) → In a (l ++ (a ∷ []))

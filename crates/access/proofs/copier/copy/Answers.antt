@@ -1,5 +1,4 @@
 -- `copy` meets its contract: the words left to copy, stored from here on, give the whole. Assumes nothing.
-use Prim.Native.Nat.{◌-◌}
 use borrow.Author.Rules.{rules}
 use Rattle.access.proofs.Laws.{copying}
 use Rattle.access.proofs.copier.copy.Goals as goal

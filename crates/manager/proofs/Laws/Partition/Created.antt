@@ -3,14 +3,14 @@ use Prim.Native.Nat.{ℕ, zero, suc, ◌+◌, ◌-◌, ◌*◌, ◌/◌, ◌≤�
 use mathlib.Core.Path.{◌≡◌, refl, ap, sym, ◌∙◌}
 use mathlib.Core.Bool.{true, cond}
 use mathlib.Core.List.{List, [], ◌∷◌}
-use mathlib.Core.Logic.{◌⊎◌, ⊎_elim}
+use mathlib.Core.Logic.{⊎_elim}
 use native.Mathlib.Omega.{arith}
 use lib.ListN.{length, get_or, length-set}
 use lib.Seq.{get_or-set_same, get_or-set_other}
 use lib.Dec.{eqb}
 use borrow.Author.Tests.{ne_eqb}
 use Rattle.manager.specs.Partition.{buffers, buffer_at, is_buffer, next_of, before_of, set_next, link, follow, chain, linked, sound_chain, link_all}
-use Rattle.manager.proofs.Laws.Distinct.{same_or_not, few}
+use Rattle.manager.proofs.Laws.Distinct.{same_or_not}
 use Rattle.manager.specs.Sound.{inside, Shaped, LaidPartition}
 use Rattle.manager.specs.declared.Partition.{Partition}
 use Rattle.manager.proofs.Laws.Partition.Buffers.{Buffer, of_buffer, buffer_at_lem, placed, further, words_cross, words_apart}

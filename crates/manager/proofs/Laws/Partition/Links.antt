@@ -3,7 +3,7 @@ use Prim.Native.Nat.{ℕ, zero, suc, ◌+◌, ◌-◌, ◌/◌, ◌<◌}
 use mathlib.Core.Path.{◌≡◌, refl, ap, sym, ◌∙◌, subst}
 use mathlib.Core.Bool.{true, false, cond}
 use mathlib.Core.List.{List, [], ◌∷◌, ◌++◌}
-use mathlib.Core.Logic.{◌⊎◌, ⊎_elim}
+use mathlib.Core.Logic.{⊎_elim}
 use native.Mathlib.Omega.{arith}
 use native.Mathlib.Numerals.{add-one}
 use lib.ListN.{length, length-set}
@@ -12,7 +12,7 @@ use lib.Dec.{eqb}
 use borrow.Author.Tests.{eq-eqb, ne_eqb}
 use Rattle.manager.specs.Partition.{is_buffer, next_of, before_of, set_next, set_before, link, follow, chain, is_free, linked, sound_chain, after_get, gotten, after_return, returned}
 use Rattle.manager.proofs.Laws.Distinct.{On, Off, on_off, on_nil, on_head, on_tail, on_cases, distinct, distinct_head, distinct_tail}
-use Rattle.manager.specs.Sound.{inside, LaidPartition}
+use Rattle.manager.specs.Sound.{LaidPartition}
 use Rattle.manager.specs.declared.Partition.{Partition}
 use Rattle.manager.proofs.Laws.Partition.Buffers.{Buffer, buffer_of, placed, words_cross, words_apart, not_zero}
 use Rattle.manager.proofs.Laws.Partition.Chain.{linked_buffer, linked_before, linked_rest, linked_last, linked_rear, linked_more, linked_end, linked_on, rear_on}

@@ -1,6 +1,6 @@
 -- A chain has no repeats. A chain whose links agree both ways can't come back to a buffer that it passed, since the buffer before that
 -- one would be met twice too, down to the first. Assumes nothing.
-use Prim.Native.Nat.{ℕ, zero, suc, ◌-◌, ◌<◌}
+use Prim.Native.Nat.{ℕ, zero, suc, ◌<◌}
 use mathlib.Core.Path.{◌≡◌, refl, sym, ◌∙◌}
 use mathlib.Core.Bool.{true, false}
 use mathlib.Core.List.{List, [], ◌∷◌}

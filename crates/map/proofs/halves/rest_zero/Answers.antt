@@ -1,5 +1,4 @@
 -- `rest_zero` meets its contract: word by word from the second on. Assumes nothing.
-use Prim.Native.Nat.{◌-◌}
 use borrow.Author.Rules.{rules}
 use Rattle.map.proofs.Block.{resting}
 use Rattle.map.proofs.halves.rest_zero.Goals as goal

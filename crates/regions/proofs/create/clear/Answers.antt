@@ -1,5 +1,4 @@
 -- `clear` meets its contract: all words 0, and then the first one's. Assumes nothing.
-use Prim.Native.Nat.{◌-◌}
 use lib.ListN.{length-set}
 use Rattle.regions.proofs.Clear.{clearing}
 use borrow.Author.Rules.{rules}

@@ -1,6 +1,5 @@
 -- `count` meets its contract: a walk from segment to segment, each turn of which counts one. Assumes nothing.
 use native.Mathlib.Omega.{arith}
-use Prim.Native.Nat.{◌-◌}
 use Rattle.manager.proofs.Laws.Map.{next_in, next_past}
 use Rattle.regions.proofs.Count.{counting}
 use borrow.Author.Rules.{rules}

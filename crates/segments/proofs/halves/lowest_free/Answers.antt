@@ -1,6 +1,5 @@
 -- `lowest_free` meets its contract: a walk from segment to segment, each turn of which is a step of the definition. Assumes nothing.
 use native.Mathlib.Omega.{arith}
-use Prim.Native.Nat.{◌-◌}
 use Rattle.manager.proofs.Laws.Map.{walk_step}
 use Rattle.segments.proofs.Blocks.Search.{finding}
 use borrow.Author.Rules.{rules}

@@ -1,6 +1,5 @@
 -- `smallest` meets its contract: a walk from segment to segment; what was found before and what is left give the whole. Assumes nothing.
 use native.Mathlib.Omega.{arith}
-use Prim.Native.Nat.{◌-◌}
 use Rattle.manager.proofs.Laws.Map.{walk_step}
 use Rattle.segments.proofs.Blocks.Search.{choosing}
 use borrow.Author.Rules.{rules}

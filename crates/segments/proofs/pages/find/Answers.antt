@@ -1,6 +1,5 @@
 -- `find` meets its contract: a walk from segment to segment, each turn of which is a step of the definition. Assumes nothing.
 use native.Mathlib.Omega.{arith}
-use Prim.Native.Nat.{◌-◌}
 use Rattle.manager.proofs.Laws.Map.{next_in, next_past}
 use Rattle.segments.proofs.Walk.{placing}
 use borrow.Author.Rules.{rules}

@@ -1,6 +1,5 @@
 -- `previous` meets its contract: a walk from segment to segment that keeps the last page. Assumes nothing.
 use native.Mathlib.Omega.{arith}
-use Prim.Native.Nat.{◌-◌}
 use Rattle.manager.proofs.Laws.Map.{next_in, next_past}
 use Rattle.segments.proofs.Walk.{seeking}
 use borrow.Author.Rules.{rules}

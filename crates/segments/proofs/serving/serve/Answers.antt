@@ -1,5 +1,4 @@
 -- `serve` meets its contract: each turn is one of the definition, and each end is where the definition ends. Assumes nothing.
-use Prim.Native.Nat.{◌-◌}
 use Rattle.segments.proofs.Serve.{serving, serve_full, serve_stop}
 use borrow.Author.Rules.{rules}
 use Rattle.segments.proofs.serving.serve.Goals as goal

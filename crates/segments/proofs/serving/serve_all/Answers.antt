@@ -1,5 +1,4 @@
 -- `serve_all` meets its contract: after i slots, what is left to serve gives what serving all gives. Assumes nothing.
-use Prim.Native.Nat.{◌-◌}
 use Rattle.segments.proofs.Rounds.{rounds}
 use borrow.Author.Rules.{rules}
 use Rattle.segments.proofs.serving.serve_all.Goals as goal

@@ -1,5 +1,4 @@
 -- `sound_queue` meets its contract: what is left of the queue answers as the whole. Assumes nothing.
-use Prim.Native.Nat.{◌-◌}
 use Rattle.soundness.proofs.Queue.{walking_queue}
 use borrow.Author.Rules.{rules}
 use Rattle.soundness.proofs.places.sound_queue.Goals as goal

@@ -1,5 +1,4 @@
 -- `sound_partitions` meets its contract: a loop over the places, by the laws of the test over a list. Assumes nothing.
-use Prim.Native.Nat.{◌-◌}
 use Rattle.soundness.proofs.Tests.{each}
 use borrow.Author.Rules.{rules}
 use Rattle.soundness.proofs.slots.sound_partitions.Goals as goal
