@@ -1,7 +1,9 @@
 -- No area before place i meets one behind it. Assumes nothing.
 use Prim.Native.Nat.{◌-◌}
+use mathlib.Core.Bool.{not}
 use Rattle.objects.proofs.Live.{pairs_met, pairs_clear, pairs_of, parting}
 use borrow.Author.Rules.{rules}
+use mathlib.Core.Path.{ap}
 use Rattle.objects.proofs.apart.Goals as goal
 
 pub object_areas-g-requires : goal.object_areas-g-requires
@@ -26,7 +28,7 @@ pub returns-then-not-meets_none : goal.returns-then-not-meets_none
 returns-then-not-meets_none c =
     pairs_of _ _ c.object_areas-g.ensures _
     (pairs_met _ _ _ _ c.loop-i.invariant c.loop-i-test.true _ _
-    c.meets_none.ensures c.if-not-meets_none.true)
+    c.meets_none.ensures (ap not c.if-not-meets_none.true))
 
 pub loop-i-smaller : goal.loop-i-smaller
 loop-i-smaller c = search (rules, parting)
@@ -34,7 +36,7 @@ loop-i-smaller c = search (rules, parting)
 pub loop-i-preserved : goal.loop-i-preserved
 loop-i-preserved c =
     pairs_clear _ _ _ _ c.loop-i.invariant c.loop-i-test.true _ _
-    c.meets_none.ensures c.if-not-meets_none.false
+    c.meets_none.ensures (ap not c.if-not-meets_none.false)
 
 pub returns : goal.returns
 returns c = search (rules, parting)

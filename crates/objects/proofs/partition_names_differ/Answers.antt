@@ -1,9 +1,9 @@
 -- Each slot before this one is empty or the first with its name. Assumes nothing.
 use Prim.Native.Nat.{◌-◌}
-use mathlib.Core.Logic.{⊎_elim}
 use Rattle.objects.proofs.Names.{differing, differ_empty, differ_first}
 use borrow.Author.Rules.{rules}
 use Rattle.objects.proofs.partition_names_differ.Goals as goal
+use Rattle.objects.proofs.partition_names_differ.Goals.{else-p-ne0, then-p-ne0+else-partition_named-k}
 
 pub loop-k-init : goal.loop-k-init
 loop-k-init c = search (rules, differing)
@@ -30,10 +30,7 @@ pub loop-k-preserved : goal.loop-k-preserved
 loop-k-preserved c =
     let inv = c.loop-k.invariant in
     let within = c.loop-k-test.true in
-    ⊎_elim
-    (λ w. differ_first _ _ _ _ inv within _ w.1.ensures w.2.left)
-    (λ w. differ_empty _ _ _ _ inv within w.left)
-    c.if-p-ne0.branch
+    elim c.if-p-ne0.branch [ then-p-ne0+else-partition_named-k w ↦ differ_first _ _ _ _ inv within _ w.partition_named.ensures w.if-partition_named-k.false | else-p-ne0 w ↦ differ_empty _ _ _ _ inv within w.if-p-ne0.false ]
 
 pub returns : goal.returns
 returns c = search (rules, differing)

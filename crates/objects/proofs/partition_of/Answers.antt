@@ -14,11 +14,11 @@ bounds-d-i c = search (rules, unmapped)
 
 pub returns-then-has_id : goal.returns-then-has_id
 returns-then-has_id c =
-    let size : length c.args.t1.partitions ≡ slots = search (rules, unmapped) in
+    let size : length c.args.d.partitions ≡ slots = search (rules, unmapped) in
     that_object _ _ _ _ _ _ _ size c.slot_of-i.ensures _ c.if-i-ge-SLOTS.false _ c.has_id.ensures c.if-has_id.true
 
 pub returns : goal.returns
 returns c =
-    let size : length c.args.t1.partitions ≡ slots = search (rules, unmapped) in
+    let size : length c.args.d.partitions ≡ slots = search (rules, unmapped) in
     other_object _ _ _ _ _ _ _ size c.slot_of-i.ensures _ c.if-i-ge-SLOTS.false _ c.has_id.ensures
     c.if-has_id.false _ c.emptied-2.ensures

@@ -1,9 +1,9 @@
 -- Each slot before this one is empty or the first with its name. Assumes nothing.
 use Prim.Native.Nat.{◌-◌}
-use mathlib.Core.Logic.{⊎_elim}
 use Rattle.objects.proofs.Names.{differing, differ_empty, differ_first}
 use borrow.Author.Rules.{rules}
 use Rattle.objects.proofs.region_names_differ.Goals as goal
+use Rattle.objects.proofs.region_names_differ.Goals.{else-r-ne0, then-r-ne0+else-region_named-i}
 
 pub loop-i-init : goal.loop-i-init
 loop-i-init c = search (rules, differing)
@@ -30,10 +30,7 @@ pub loop-i-preserved : goal.loop-i-preserved
 loop-i-preserved c =
     let inv = c.loop-i.invariant in
     let within = c.loop-i-test.true in
-    ⊎_elim
-    (λ w. differ_first _ _ _ _ inv within _ w.1.ensures w.2.left)
-    (λ w. differ_empty _ _ _ _ inv within w.left)
-    c.if-r-ne0.branch
+    elim c.if-r-ne0.branch [ then-r-ne0+else-region_named-i w ↦ differ_first _ _ _ _ inv within _ w.region_named.ensures w.if-region_named-i.false | else-r-ne0 w ↦ differ_empty _ _ _ _ inv within w.if-r-ne0.false ]
 
 pub returns : goal.returns
 returns c = search (rules, differing)
