@@ -1,7 +1,7 @@
 -- `run::line_number` meets its contract. The invariant: `n` counts the newlines before `i`, and one. Assumes nothing.
 use native.Mathlib.Omega.{arith}
 use mathlib.Core.Path.{◌≡◌, refl, ◌∙◌, ap}
-use Prim.Native.Nat.{ℕ, ◌+◌, ◌-◌}
+use Prim.Native.Nat.{ℕ, ◌+◌}
 use Rattle.run.specs.Output.{newlines}
 use Rattle.run.proofs.Laws.{newline_hit, newline_miss, newlines_out}
 use Rattle.run.proofs.line_number.Goals as goal

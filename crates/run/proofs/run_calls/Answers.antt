@@ -1,7 +1,6 @@
 -- `run::run_calls` meets its contract. The invariant is `Running`; the measure is what is left of the script. Assumes nothing.
 use native.Mathlib.Omega.{arith}
 use mathlib.Core.Path.{refl, ◌∙◌}
-use Prim.Native.Nat.{◌-◌}
 use Rattle.run.proofs.Running.{running_start, running_one, running_end, running_out, running_bad, room, room_one, forward}
 use Rattle.run.proofs.run_calls.Goals as goal
 

@@ -2,7 +2,6 @@
 use native.Mathlib.Omega.{arith}
 use borrow.Author.Rules.{rules}
 use mathlib.Core.Path.{refl, ◌∙◌}
-use Prim.Native.Nat.{◌-◌}
 use Rattle.run.proofs.Notices.{notice_room, notices_put}
 use Rattle.run.proofs.output.put_notices.Goals as goal
 
