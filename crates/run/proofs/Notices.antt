@@ -1,5 +1,5 @@
 -- The loop of `put_notices`. `NoticesLeft` says what holds after i of the notices: what is left to put is the text of those from i on, and what
--- was put has at most `mostNotice` bytes for each. Assumes nothing.
+-- was put has at most `most_notice` bytes for each. Assumes nothing.
 use mathlib.Core.Path.{◌≡◌}
 use Prim.Native.Nat.{ℕ, ◌+◌, ◌*◌, ◌≤◌, ◌<◌}
 use mathlib.Core.List.{List}

@@ -1,6 +1,6 @@
 -- The run in its loop. `Running` says what holds whenever the next call is to be read: what is left to put is what the rest of the script gives,
--- from the memory and the record as they are now. A call takes 10 bytes of the script or more and puts at most `mostAnswer`, so what is put is at
--- most `mostPerByte` bytes for each byte read. Assumes nothing.
+-- from the memory and the record as they are now. A call takes 10 bytes of the script or more and puts at most `most_answer`, so what is put is at
+-- most `most_per_byte` bytes for each byte read. Assumes nothing.
 use mathlib.Core.Path.{◌≡◌, refl, sym, ◌∙◌, ap, subst}
 use Prim.Native.Nat.{ℕ, suc, ◌+◌, ◌*◌, ◌-◌, ◌≤◌, ◌<◌}
 use mathlib.Core.List.{List, [], ◌++◌, append_assoc}

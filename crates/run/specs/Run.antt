@@ -30,7 +30,7 @@ most_script = 32768
 unfoldable pub run_all : List ℕ → List ℕ → List ℕ
 run_all s m = cond (ltb most_script (length s)) (line "bad=" 0) (run_script s m fresh (read_all s))
 
--- what any script can write: a call takes 10 bytes or more, so the answers have at most `mostPerByte` bytes for each byte of the script
+-- what any script can write: a call takes 10 bytes or more, so the answers have at most `most_per_byte` bytes for each byte of the script
 abbrev pub least_call : ℕ
 least_call = 10
 

@@ -106,28 +106,28 @@ abbrev pub row : String → List Key → Bool → (List ℕ → Call) → Row
 row word keys six_values call = record { line = bytes ("call=" ++ (word ++ "\n")); keys = keys; six_values = six_values; call = call }
 
 abbrev pub create_region_row : Row
-create_region_row = row "create_region_lem" (name_key ∷ start_key ∷ length_key ∷ page_key ∷ order_key ∷ []) one λ v. CreateRegion (number v 0) (number v 1) (number v 2) (number v 3) (order_of (number v 4))
+create_region_row = row "create-region" (name_key ∷ start_key ∷ length_key ∷ page_key ∷ order_key ∷ []) one λ v. CreateRegion (number v 0) (number v 1) (number v 2) (number v 3) (order_of (number v 4))
 
 abbrev pub create_partition_row : Row
-create_partition_row = row "create_partition_lem" (name_key ∷ start_key ∷ length_key ∷ size_key ∷ []) one λ v. CreatePartition (number v 0) (number v 1) (number v 2) (number v 3)
+create_partition_row = row "create-partition" (name_key ∷ start_key ∷ length_key ∷ size_key ∷ []) one λ v. CreatePartition (number v 0) (number v 1) (number v 2) (number v 3)
 
 abbrev pub ident_region_row : Row
-ident_region_row = row "ident_region_lem" (name_key ∷ []) one λ v. IdentRegion (number v 0)
+ident_region_row = row "ident-region" (name_key ∷ []) one λ v. IdentRegion (number v 0)
 
 abbrev pub ident_partition_row : Row
-ident_partition_row = row "ident_partition_lem" (name_key ∷ []) one λ v. IdentPartition (number v 0)
+ident_partition_row = row "ident-partition" (name_key ∷ []) one λ v. IdentPartition (number v 0)
 
 abbrev pub delete_region_row : Row
-delete_region_row = row "delete_region_lem" (id_key ∷ []) one λ v. DeleteRegion (number v 0)
+delete_region_row = row "delete-region" (id_key ∷ []) one λ v. DeleteRegion (number v 0)
 
 abbrev pub delete_partition_row : Row
-delete_partition_row = row "delete_partition_lem" (id_key ∷ []) one λ v. DeletePartition (number v 0)
+delete_partition_row = row "delete-partition" (id_key ∷ []) one λ v. DeletePartition (number v 0)
 
 abbrev pub information_row : Row
 information_row = row "info" (id_key ∷ []) six λ v. RegionInformation (number v 0)
 
 abbrev pub get_buffer_row : Row
-get_buffer_row = row "get_buffer_lem" (id_key ∷ []) one λ v. GetBuffer (number v 0)
+get_buffer_row = row "get-buffer" (id_key ∷ []) one λ v. GetBuffer (number v 0)
 
 abbrev pub get_segment_row : Row
 get_segment_row = row "get" (id_key ∷ size_key ∷ align_key ∷ wait_key ∷ task_key ∷ priority_key ∷ ticks_key ∷ []) one λ v. GetSegment (number v 0) (number v 1) (number v 2) (wait_of (number v 3)) (number v 4) (number v 5) (number v 6)
@@ -139,7 +139,7 @@ abbrev pub segment_size_row : Row
 segment_size_row = row "size" (id_key ∷ address_key ∷ []) one λ v. SegmentSize (number v 0) (number v 1)
 
 abbrev pub return_buffer_row : Row
-return_buffer_row = row "return_buffer_lem" (id_key ∷ address_key ∷ []) one λ v. ReturnBuffer (number v 0) (number v 1)
+return_buffer_row = row "return-buffer" (id_key ∷ address_key ∷ []) one λ v. ReturnBuffer (number v 0) (number v 1)
 
 abbrev pub resize_segment_row : Row
 resize_segment_row = row "resize" (id_key ∷ address_key ∷ size_key ∷ []) one λ v. ResizeSegment (number v 0) (number v 1) (number v 2)

@@ -4,7 +4,7 @@
 ghost use Rattle.std.specs.Prelude.{◌≤◌, length};
 ghost use Rattle.steepleclay.specs.Input.{Reaches};
 
-use libc::{STDERR_FILENO, STDIN_FILENO, STDOUT_FILENO};
+use std::io::{Print, Read, Stdin};
 
 // How far a buffer is filled, or that reading failed.
 #[derive(Clone, Copy)]
@@ -14,24 +14,23 @@ enum Input {
 }
 
 // Reads once, into the part of the buffer from `from` on.
-fn read_once(fd: i32, buf: &mut [u8], from: usize) -> Input
+fn read_once(mut input: Stdin, buf: &mut [u8], from: usize) -> Input
     requires { from ≤ length buf.old }
     ensures { Reaches from (length buf.new) result }
 {
-    let got = libc::read(fd, &mut buf[from..]);
-    if got < 0 {
+    let Ok(got) = input.read(&mut buf[from..]) else {
         return Input::Failed;
-    }
-    Input::Filled(from + io::count(got, &buf[from..]))
+    };
+    Input::Filled(from + got)
 }
 
 // Reads until the buffer is full or the input ends.
-fn read_all(fd: i32, buf: &mut [u8]) -> Input
+fn read_all(input: Stdin, buf: &mut [u8]) -> Input
     ensures { Reaches 0 (length buf.new) result }
 {
     let mut done = 0;
     while done < buf.len() {
-        let Input::Filled(next) = read_once(fd, buf, done) else {
+        let Input::Filled(next) = read_once(input, buf, done) else {
             return Input::Failed;
         };
         if next <= done {
@@ -43,17 +42,17 @@ fn read_all(fd: i32, buf: &mut [u8]) -> Input
 }
 
 // One byte more than a script may have is read, so that a longer one is told from one that just fits.
-fn main() {
+fn main(rt: HostRuntime) {
     let mut src = [0u8; run::SCRIPT + 1];
-    let Input::Filled(n) = read_all(STDIN_FILENO, &mut src) else {
-        io::write_all(STDERR_FILENO, b"steepleclay: reading failed\n");
+    let Input::Filled(n) = read_all(rt.stdin(), &mut src) else {
+        let _ = rt.stderr().write_all(b"steepleclay: reading failed\n");
         return;
     };
     let mut mem = [0u32; 16384];
     let mut out = [0u8; run::OUTPUT];
     let k = run::run(&src[..n], &mut mem, &mut out);
-    if io::write_all(STDOUT_FILENO, &out[..k]) {
+    if rt.stdout().write_all(&out[..k]).is_ok() {
         return;
     }
-    io::write_all(STDERR_FILENO, b"steepleclay: writing failed\n");
+    let _ = rt.stderr().write_all(b"steepleclay: writing failed\n");
 }

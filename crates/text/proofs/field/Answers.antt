@@ -2,46 +2,47 @@
 -- Assumes nothing.
 use native.Mathlib.Omega.{arith}
 use borrow.Author.Rules.{rules}
-use mathlib.Core.Path.{◌≡◌, sym, ◌∙◌}
-use Prim.Native.Nat.{◌+◌, ◌≤◌, ◌<◌}
+use mathlib.Core.Path.{◌≡◌, sym}
+use mathlib.Core.Bool.{true}
+use mathlib.Core.List.{List}
+use Prim.Native.Nat.{ℕ, ◌+◌, ◌≤◌, ◌<◌}
 use lib.ListN.{length}
-use Rattle.text.specs.Lines.{line_at}
+use Rattle.text.specs.Lines.{line_at, part, starts}
 use Rattle.text.specs.declared.Line.TheVariants.{Ends}
 use Rattle.text.proofs.Laws.{line_within, starts_part, field_answers}
 use Rattle.text.proofs.field.Goals as goal
 
-is-line : (k : tie.After-known-told) → line_at k.before.before.before.before.before.before.args.src.now k.before.before.before.before.before.before.args.at ≡ Ends k.before.e.given.0.0
-is-line k = sym k.before.before.before.line-end.ensures ∙ k.before.e.given.1
+-- the line ends at or after its start, and within the text
+within : (s : List ℕ) (at e : ℕ) → Ends e ≡ line_at s at → (at ≤ e) × (e < length s)
+within s at e h = line_within s at e (sym h)
 
-within : (k : tie.After-known-told) → (k.before.before.before.before.before.before.args.at ≤ k.before.e.given.0.0) × (k.before.e.given.0.0 < length k.before.before.before.before.before.before.args.src.now)
-within k = line_within _ _ _ (is-line k)
-
-keyed : (k : tie.Then1) → k.before.before.before.before.before.before.before.before.before.args.at + length k.before.before.before.before.before.before.before.before.before.args.key.now ≤ k.before.before.before.before.e.given.0.0
-keyed k = starts_part _ _ _ _ (within k.before.before.before).0 (sym k.before.starts_with.ensures ∙ k.if1.true)
+-- the key is within the line
+keyed : (k s : List ℕ) (at e : ℕ) → Ends e ≡ line_at s at → true ≡ starts k (part s at e) → at + length k ≤ e
+keyed k s at e h u = starts_part k s at e (within s at e h).0 (sym u)
 
 pub returns-in_default : goal.returns-in_default
 returns-in_default c = search (rules, field_answers)
 
 pub slice_bounds-starts_with-count : goal.slice_bounds-starts_with-count
-slice_bounds-starts_with-count c = (within c).0
+slice_bounds-starts_with-count c = (within _ _ _ c.in-Ends.ensures).0
 
 pub slice_bounds-starts_with-start : goal.slice_bounds-starts_with-start
-slice_bounds-starts_with-start c = (within c).0
+slice_bounds-starts_with-start c = (within _ _ _ c.in-Ends.ensures).0
 
 pub slice_bounds-starts_with-end : goal.slice_bounds-starts_with-end
-slice_bounds-starts_with-end c = let w = within c in omega arith
+slice_bounds-starts_with-end c = let w = within _ _ _ c.in-Ends.ensures in omega arith
 
 pub overflow_add-from : goal.overflow_add-from
-overflow_add-from c = let w = within c in let k = keyed c in omega arith
+overflow_add-from c = let w = within _ _ _ c.in-Ends.ensures in let k = keyed c.args.key.now c.args.src.now _ _ c.in-Ends.ensures c.if-starts_with.ensures in omega arith
 
 pub slice_bounds-number-count : goal.slice_bounds-number-count
-slice_bounds-number-count c = keyed c
+slice_bounds-number-count c = keyed c.args.key.now c.args.src.now _ _ c.in-Ends.ensures c.if-starts_with.ensures
 
 pub slice_bounds-number-start : goal.slice_bounds-number-start
-slice_bounds-number-start c = keyed c
+slice_bounds-number-start c = keyed c.args.key.now c.args.src.now _ _ c.in-Ends.ensures c.if-starts_with.ensures
 
 pub slice_bounds-number-end : goal.slice_bounds-number-end
-slice_bounds-number-end c = let w = within c in omega arith
+slice_bounds-number-end c = let w = within _ _ _ c.in-Ends.ensures in omega arith
 
 pub returns-in_default-number : goal.returns-in_default-number
 returns-in_default-number c = search (rules, field_answers)
@@ -50,7 +51,7 @@ pub returns-then-most-v : goal.returns-then-most-v
 returns-then-most-v c = search (rules, field_answers)
 
 pub overflow_add-result : goal.overflow_add-result
-overflow_add-result c = let w = within c in omega arith
+overflow_add-result c = let w = within _ _ _ c.in-Ends.ensures in omega arith
 
 pub returns-else-most-v : goal.returns-else-most-v
 returns-else-most-v c = search (rules, field_answers)

@@ -2,7 +2,6 @@
 -- Assumes nothing.
 use native.Mathlib.Omega.{arith}
 use mathlib.Core.Path.{refl, sym, ◌∙◌}
-use Prim.Native.Nat.{◌-◌}
 use Rattle.text.proofs.Laws.{line_none, line_out, line_hit, line_miss}
 use Rattle.text.proofs.line_end.Goals as goal
 

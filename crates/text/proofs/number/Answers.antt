@@ -2,9 +2,7 @@
 -- Assumes nothing.
 use native.Mathlib.Omega.{arith}
 use mathlib.Core.Path.{sym}
-use mathlib.Core.Logic.{⊎_elim}
-use Prim.Native.Nat.{◌-◌}
-use Rattle.text.proofs.Laws.{left_one, left_many, number_none, number_zero, number_answers}
+use Rattle.text.proofs.Laws.{number_none, number_zero, number_answers}
 use borrow.Author.Rules.{rules}
 use Rattle.text.proofs.number.Goals as goal
 
@@ -15,7 +13,7 @@ pub returns-then-text-eq48 : goal.returns-then-text-eq48
 returns-then-text-eq48 c = sym (number_zero _ (omega arith) c.if-text-eq48.true)
 
 pub loop-i-init : goal.loop-i-init
-loop-i-init c = ⊎_elim (λ w. left_many _ (omega arith) w.2.left) (λ w. left_one _ (omega arith) (omega arith)) c.if-text-gt1.branch
+loop-i-init c = search (rules, number_answers)
 
 pub returns-then-b-lt48 : goal.returns-then-b-lt48
 returns-then-b-lt48 c = search (rules, number_answers)

@@ -2,7 +2,6 @@
 -- rest of the other. Assumes nothing.
 use native.Mathlib.Omega.{arith}
 use mathlib.Core.Path.{refl, sym, ◌∙◌}
-use Prim.Native.Nat.{◌-◌}
 use Rattle.text.proofs.Laws.{starts_all, starts_out, starts_miss, starts_more}
 use Rattle.text.proofs.starts_with.Goals as goal
 
