@@ -1,8 +1,8 @@
 /*
  * Steepleclay: regions and partitions over one lent memory, proved.
  *
- * Platform: x86-64 Linux (System V calling convention). Link with libfirmware.a, made by `rt
- * staticlib firmware`; it needs memcpy and memset of the C library and nothing else. No function
+ * Platform: x86-64 Linux (System V calling convention). Link with libfirmware.a, made by
+ * `tools/library`; it needs memcpy and memset of the C library and nothing else. No function
  * allocates, blocks, keeps state of its own or calls back. A call needs at most SC_STACK_BYTES of
  * stack.
  *

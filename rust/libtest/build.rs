@@ -15,7 +15,7 @@ fn main() {
     if !archive.is_file() {
         eprintln!(
             "The library under test is missing: {}\n\
-             Make it with `rt staticlib firmware` at the root of the repository.",
+             Make it with `tools/library` at the root of the repository.",
             archive.display()
         );
         std::process::exit(1);

@@ -1,5 +1,5 @@
-// The directives for C and Rust to call: include/steepleclay.h says how. The caller keeps the manager record as words (`state`), lends the
-// memory, and gets the answer in words. A gauge is kept in words of its own.
+// The directives for C and Rust to call: include/steepleclay.h says how, and `firmware_c` has the symbols. The caller keeps the manager record
+// as words (`state`), lends the memory, and gets the answer in words. A gauge is kept in words of its own.
 #![tactic(auto)]
 
 mod answer;
@@ -15,8 +15,7 @@ use manager::Call;
 use reading::{INFORMATION_WORDS, LAST_ALARM, alarm_at, gauge_at, information_at, leave};
 
 // Makes a region.
-#[unsafe(no_mangle)]
-pub extern "C" fn sc_region_create(
+pub fn sc_region_create(
     state: &mut [u32],
     memory: &mut [u32],
     answer: &mut [u32],
@@ -48,13 +47,7 @@ pub extern "C" fn sc_region_create(
 }
 
 // The id of the region with a name.
-#[unsafe(no_mangle)]
-pub extern "C" fn sc_region_ident(
-    state: &mut [u32],
-    memory: &mut [u32],
-    answer: &mut [u32],
-    name: u32,
-) -> u32
+pub fn sc_region_ident(state: &mut [u32], memory: &mut [u32], answer: &mut [u32], name: u32) -> u32
     ensures { Leaves (called state.old memory.old answer.old (Call.IdentRegion name))
         state.new memory.new answer.new result }
 {
@@ -62,13 +55,7 @@ pub extern "C" fn sc_region_ident(
 }
 
 // Deletes a region of which nothing is held.
-#[unsafe(no_mangle)]
-pub extern "C" fn sc_region_delete(
-    state: &mut [u32],
-    memory: &mut [u32],
-    answer: &mut [u32],
-    id: u32,
-) -> u32
+pub fn sc_region_delete(state: &mut [u32], memory: &mut [u32], answer: &mut [u32], id: u32) -> u32
     ensures { Leaves (called state.old memory.old answer.old (Call.DeleteRegion id))
         state.new memory.new answer.new result }
 {
@@ -76,8 +63,7 @@ pub extern "C" fn sc_region_delete(
 }
 
 // Gets a segment that starts on an alignment, or waits for one.
-#[unsafe(no_mangle)]
-pub extern "C" fn sc_region_get_segment(
+pub fn sc_region_get_segment(
     state: &mut [u32],
     memory: &mut [u32],
     answer: &mut [u32],
@@ -113,8 +99,7 @@ pub extern "C" fn sc_region_get_segment(
 }
 
 // Takes a held segment back and serves the queue.
-#[unsafe(no_mangle)]
-pub extern "C" fn sc_region_return_segment(
+pub fn sc_region_return_segment(
     state: &mut [u32],
     memory: &mut [u32],
     answer: &mut [u32],
@@ -128,8 +113,7 @@ pub extern "C" fn sc_region_return_segment(
 }
 
 // The length of a held segment.
-#[unsafe(no_mangle)]
-pub extern "C" fn sc_region_get_segment_size(
+pub fn sc_region_get_segment_size(
     state: &mut [u32],
     memory: &mut [u32],
     answer: &mut [u32],
@@ -143,8 +127,7 @@ pub extern "C" fn sc_region_get_segment_size(
 }
 
 // Shrinks or grows a held segment in place and serves the queue.
-#[unsafe(no_mangle)]
-pub extern "C" fn sc_region_resize_segment(
+pub fn sc_region_resize_segment(
     state: &mut [u32],
     memory: &mut [u32],
     answer: &mut [u32],
@@ -164,8 +147,7 @@ pub extern "C" fn sc_region_resize_segment(
 }
 
 // Count, largest and total bytes of the free and of the held segments.
-#[unsafe(no_mangle)]
-pub extern "C" fn sc_region_get_information(
+pub fn sc_region_get_information(
     state: &mut [u32],
     memory: &mut [u32],
     answer: &mut [u32],
@@ -178,8 +160,7 @@ pub extern "C" fn sc_region_get_information(
 }
 
 // Makes a partition.
-#[unsafe(no_mangle)]
-pub extern "C" fn sc_partition_create(
+pub fn sc_partition_create(
     state: &mut [u32],
     memory: &mut [u32],
     answer: &mut [u32],
@@ -205,8 +186,7 @@ pub extern "C" fn sc_partition_create(
 }
 
 // The id of the partition with a name.
-#[unsafe(no_mangle)]
-pub extern "C" fn sc_partition_ident(
+pub fn sc_partition_ident(
     state: &mut [u32],
     memory: &mut [u32],
     answer: &mut [u32],
@@ -219,8 +199,7 @@ pub extern "C" fn sc_partition_ident(
 }
 
 // Deletes a partition of which no buffer is held.
-#[unsafe(no_mangle)]
-pub extern "C" fn sc_partition_delete(
+pub fn sc_partition_delete(
     state: &mut [u32],
     memory: &mut [u32],
     answer: &mut [u32],
@@ -233,8 +212,7 @@ pub extern "C" fn sc_partition_delete(
 }
 
 // Gets a buffer.
-#[unsafe(no_mangle)]
-pub extern "C" fn sc_partition_get_buffer(
+pub fn sc_partition_get_buffer(
     state: &mut [u32],
     memory: &mut [u32],
     answer: &mut [u32],
@@ -247,8 +225,7 @@ pub extern "C" fn sc_partition_get_buffer(
 }
 
 // Takes a held buffer back.
-#[unsafe(no_mangle)]
-pub extern "C" fn sc_partition_return_buffer(
+pub fn sc_partition_return_buffer(
     state: &mut [u32],
     memory: &mut [u32],
     answer: &mut [u32],
@@ -262,8 +239,7 @@ pub extern "C" fn sc_partition_return_buffer(
 }
 
 // The clock goes on by one tick; where that sends anyone away, the queues are served.
-#[unsafe(no_mangle)]
-pub extern "C" fn sc_clock_tick(state: &mut [u32], memory: &mut [u32], answer: &mut [u32]) -> u32
+pub fn sc_clock_tick(state: &mut [u32], memory: &mut [u32], answer: &mut [u32]) -> u32
     ensures { Leaves (called state.old memory.old answer.old Call.Tick)
         state.new memory.new answer.new result }
 {
@@ -271,8 +247,7 @@ pub extern "C" fn sc_clock_tick(state: &mut [u32], memory: &mut [u32], answer: &
 }
 
 // Copies the words of a held segment, as many as there is room for; returns how many it has, 0 where it is refused.
-#[unsafe(no_mangle)]
-pub extern "C" fn sc_segment_read(
+pub fn sc_segment_read(
     state: &[u32],
     memory: &[u32],
     words: &mut [u32],
@@ -292,8 +267,7 @@ pub extern "C" fn sc_segment_read(
 }
 
 // Copies words into a held segment, from its word `first` on.
-#[unsafe(no_mangle)]
-pub extern "C" fn sc_segment_write(
+pub fn sc_segment_write(
     state: &[u32],
     memory: &mut [u32],
     words: &[u32],
@@ -314,8 +288,7 @@ pub extern "C" fn sc_segment_write(
 }
 
 // Reads a gauge: so many held bytes of a total.
-#[unsafe(no_mangle)]
-pub extern "C" fn sc_gauge_read(
+pub fn sc_gauge_read(
     words: &mut [u64; 2],
     sounds: &mut u32,
     alarm: u32,
@@ -337,8 +310,7 @@ pub extern "C" fn sc_gauge_read(
 }
 
 // Reads a gauge by the answer to a call for a region's information.
-#[unsafe(no_mangle)]
-pub extern "C" fn sc_gauge_read_information(
+pub fn sc_gauge_read_information(
     words: &mut [u64; 2],
     sounds: &mut u32,
     alarm: u32,

@@ -9,7 +9,7 @@ use native.Mathlib.Omega.{arith}
 use native.Mathlib.Nat.{le_refl, le_of_lt}
 use borrow.Author.Tests.{ne_eqb, le-ltb}
 use lib.Dec.{T, eqb, ltb}
-use lib.Ieee.{Float, fin, binary64, up, down, round, le, fits}
+use lib.Ieee.{Float, nan, inf, fin, binary64, up, down, round, le, fits}
 use lib.Ieee.Fits.{and_i}
 use Rattle.manager.specs.Map.{sum_of}
 use Rattle.manager.specs.Record.{region_of}
@@ -86,6 +86,8 @@ after_kept (r ∷ rs) g k = after_kept rs (answer g r).gauge (answer_kept g r k)
 -- ---- a refusal is for what the reading is handed
 both_pass : (l s a b : Bool) → T l → T s → (a || (not l || (not s || b))) ≡ (a || b)
 both_pass true true a b p q = refl
+both_pass false s a b p q = elim p [ ]
+both_pass true false a b p q = elim q [ ]
 
 wrong_is : (g : Gauge) (r : Asked) → Kept g → wrong g r.alarm r.held r.total ≡ wrong_asked r
 unfolding wrong
@@ -120,6 +122,9 @@ on_the_way_lem s x p q = subst (λ (y : Float). T (on_the_way s x y)) (sym (smoo
 
 fill_le_itself : (x : Float) → Fill binary64 x → T (le x x)
 fill_le_itself (fin false m e) h = le_of_order m e m e (le_refl (m * up e * down e))
+fill_le_itself nan h = elim h [ ]
+fill_le_itself (inf _) h = elim h [ ]
+fill_le_itself (fin true m e) h = elim h [ ]
 
 stays_put : (s x : Float) → Fill binary64 s → Fill binary64 x → T (on_the_way s x s)
 stays_put (fin false m e) (fin false n d) p q =
@@ -129,6 +134,12 @@ stays_put (fin false m e) (fin false n d) p q =
       | inl h ↦ rising s x s (fill_le_itself s p) (le_of_order m e n d h)
       | inr h ↦ falling s x s (le_of_order n d m e (le_of_lt h)) (fill_le_itself s p)
     ]
+stays_put nan _ p q = elim p [ ]
+stays_put (inf _) _ p q = elim p [ ]
+stays_put (fin false m e) nan p q = elim q [ ]
+stays_put (fin false m e) (inf _) p q = elim q [ ]
+stays_put (fin false m e) (fin true n d) p q = elim q [ ]
+stays_put (fin true m e) _ p q = elim p [ ]
 
 answer_way : (g : Gauge) (r : Asked) → Kept g → T (on_the_way g.smoothed (answer g r).gauge.last (answer g r).gauge.smoothed)
 unfolding reading

@@ -60,6 +60,10 @@ ratio x d h y b t p q =
     omega arith
 
 div_values : (f : Format) (x y : Float) (h t : ℕ) → HasValue x false h 1 → HasValue y false t 1 → 0 < t → div f x y ≡ round f false h t
+div_values f nan y h t v w P = elim v [ ]
+div_values f (inf _) y h t v w P = elim v [ ]
+div_values f (fin false m e) nan h t v w P = elim w [ ]
+div_values f (fin false m e) (inf _) h t v w P = elim w [ ]
 div_values f (fin true m e) y h t v w P = absurd (true≢false v.0)
 div_values f (fin false m e) (fin true n d) h t v w P = absurd (true≢false w.0)
 div_values f (fin false m e) (fin false n d) h t v w P = div_is f m e n d ∙ go (eqb n 0) (eqb→eq n 0)
@@ -104,6 +108,9 @@ fill_passes x h =
 pub fill_number : (x : Float) → Fill binary64 x → T (not (is_nan x))
 unfolding is_nan
 fill_number (fin false m e) h = tt
+fill_number nan h = elim h [ ]
+fill_number (inf _) h = elim h [ ]
+fill_number (fin true m e) h = elim h [ ]
 
 -- what passes the test is a fill, or -0
 not_nothing : (m u d : ℕ) → 0 < u → 0 * d ≡ suc m * u * 1 → ⊥

@@ -76,6 +76,8 @@ carried x d g l a c L e h = le_of_mul-le-mul_right {k = l} (product x d g l a c 
 
 at_most : (x : Float) (s : Bool) (g l a c : ℕ) → 0 < l → HasValue x s g l → g * c ≤ a * l → AtMost x s a c
 at_most (fin t m e) s g l a c L v h = (v.0, carried (m * up e) (down e) g l a c L v.1 h)
+at_most nan s g l a c L v h = elim v [ ]
+at_most (inf _) s g l a c L v h = elim v [ ]
 
 twice : (g c a l : ℕ) → g * c ≤ 2 * (a * l) → g * c ≤ 2 * a * l
 twice g c a l h = omega arith
@@ -175,6 +177,10 @@ le_from (fin false k i) (fin false n d) m e a c v w t =
     le_of_order m e n d (carried (m * up e) (down e) (k * up i) (down i) (n * up d) (down d) (down_pos i) (sym v.1) (order_of_le k i n d t))
 le_from (fin true k i) y m e a c v w t = absurd (true≢false v.0)
 le_from (fin false k i) (fin true n d) m e a c v w t = absurd (true≢false w.0)
+le_from nan y m e a c v w t = elim v [ ]
+le_from (inf _) y m e a c v w t = elim v [ ]
+le_from (fin false k i) nan m e a c v w t = elim w [ ]
+le_from (fin false k i) (inf _) m e a c v w t = elim w [ ]
 
 le_to : (z y : Float) (m : ℕ) (e : ℤ) (a c : ℕ) → HasValue z false (m * up e) (down e) → AtMost y false a c → T (le y z) → T (le y (fin false m e))
 le_to (fin false k i) (fin false n d) m e a c v w t =
@@ -188,6 +194,10 @@ le_to (fin false k i) (fin false n d) m e a c v w t =
         product y d g l x b p h = omega arith
 le_to (fin true k i) y m e a c v w t = absurd (true≢false v.0)
 le_to (fin false k i) (fin true n d) m e a c v w t = absurd (true≢false w.0)
+le_to nan y m e a c v w t = elim v [ ]
+le_to (inf _) y m e a c v w t = elim v [ ]
+le_to (fin false k i) nan m e a c v w t = elim w [ ]
+le_to (fin false k i) (inf _) m e a c v w t = elim w [ ]
 
 -- ---- a fraction up to 1 rounds to no less than a held value that it is no less than, and to no more than one that it is no more than
 pub le_round : (f : Format) (m : ℕ) (e : ℤ) (a c : ℕ) → T (fits f (fin false m e)) → 0 < c → a ≤ c → m * up e * c ≤ a * down e

@@ -27,6 +27,9 @@ one_fits binary64 = tt
 
 pub fill_fits : (f : Format) (x : Float) → Fill f x → T (fits f x)
 fill_fits f (fin false m e) h = h.0
+fill_fits f nan h = elim h [ ]
+fill_fits f (inf _) h = elim h [ ]
+fill_fits f (fin true m e) h = elim h [ ]
 
 under_one : (x d : ℕ) → x * 1 ≤ 1 * d → x ≤ d
 under_one x d h = omega arith
@@ -36,12 +39,18 @@ over_zero x d = omega arith
 
 pub zero_le_fill : (f : Format) (x : Float) → Fill f x → T (le (fin false 0 (pos 0)) x)
 zero_le_fill f (fin false m e) h = le_of_order 0 (pos 0) m e (over_zero (m * up e) (down e))
+zero_le_fill f nan h = elim h [ ]
+zero_le_fill f (inf _) h = elim h [ ]
+zero_le_fill f (fin true m e) h = elim h [ ]
 
 one_up : (x d : ℕ) → x ≤ d → x * 1 ≤ 1 * d
 one_up x d h = omega arith
 
 pub fill_le_one : (f : Format) (x : Float) → Fill f x → T (le x (fin false 1 (pos 0)))
 fill_le_one f (fin false m e) h = le_of_order m e 1 (pos 0) (one_up (m * up e) (down e) h.1)
+fill_le_one f nan h = elim h [ ]
+fill_le_one f (inf _) h = elim h [ ]
+fill_le_one f (fin true m e) h = elim h [ ]
 
 pub fill_of_lem : (f : Format) (m : ℕ) (e : ℤ) → T (fits f (fin false m e)) → T (le (fin false m e) (fin false 1 (pos 0))) → Fill f (fin false m e)
 fill_of_lem f m e t h = (t, under_one (m * up e) (down e) (order_of_le m e 1 (pos 0) h))
@@ -49,6 +58,8 @@ fill_of_lem f m e t h = (t, under_one (m * up e) (down e) (order_of_le m e 1 (po
 made : (f : Format) (x : Float) (a c : ℕ) → AtMost x false a c → T (fits f x) → T (le x (fin false 1 (pos 0))) → Fill f x
 made f (fin true m e) a c b t h = absurd (true≢false b.0)
 made f (fin false m e) a c b t h = fill_of_lem f m e t h
+made f nan a c b t h = elim b [ ]
+made f (inf _) a c b t h = elim b [ ]
 
 -- a fraction up to 1 rounds to a fill
 pub round_fill : (f : Format) (a c : ℕ) → 0 < c → a ≤ c → Fill f (round f false a c)
@@ -71,6 +82,8 @@ quarter_size q b x d a c D h k = le_of_mul-le-mul_right {k = d} (product q b x d
 
 shrunk : (y : Float) (s : Bool) (x d a c : ℕ) → 0 < d → AtMost y s (2 * (x * 1)) (d * 4) → x * c ≤ 2 * a * d → AtMost y s a c
 shrunk (fin t n i) s x d a c D h k = (h.0, quarter_size (n * up i) (down i) x d a c D h.1 k)
+shrunk nan s x d a c D h k = elim h [ ]
+shrunk (inf _) s x d a c D h k = elim h [ ]
 
 times_plain : (f : Format) (s : Bool) (m : ℕ) (e : ℤ) → mul f (fin s m e) (fin false 1 (negsuc 1)) ≡ round f s (m * up e * 1) (down e * 4)
 unfolding mul
@@ -84,6 +97,8 @@ quarter_at_most f (fin t m e) s a c C h b =
     subst (λ (z : Float). AtMost z s a c) (sym (ap (λ (u : Bool). mul f (fin u m e) (fin false 1 (negsuc 1))) b.0 ∙ times_plain f s m e))
     (shrunk (round f s (m * up e * 1) (down e * 4)) s (m * up e) (down e) a c (down_pos e)
     (round_double f s (m * up e * 1) (down e * 4) (mul-pos (down_pos e) four) (quarter_under (m * up e) (down e) a c C h b.1)) b.1)
+quarter_at_most f nan s a c C h b = elim b [ ]
+quarter_at_most f (inf _) s a c C h b = elim b [ ]
 
 -- ---- sums and differences of two values, as one rounding
 plus : (f : Format) (a b c : ℕ) → sum f false a false b c ≡ round f false (a + b) c
@@ -196,6 +211,8 @@ rise f m e n d (fin false k i) s x h b =
     (sym (add_is f false m e false k i ∙ plus f (S * down i) (Q * down e) (down e * down i)))
     (between f m e n d (S * down i + Q * down e) (down e * down i) s.0 x.0 (mul-pos (down_pos e) (down_pos i))
     (rise_one S (down e) X (down d) Q (down i) (down_pos d) x.1 u) (rise_over S (down e) Q (down i)) u)
+rise f m e n d nan s x h b = elim b [ ]
+rise f m e n d (inf _) s x h b = elim b [ ]
 
 -- ---- down from S / s towards X / x, by Q / q
 fall_some : (S s X x Q q : ℕ) → 0 < x → Q * (s * x) + X * s * q ≤ S * x * q → Q * s ≤ S * q
@@ -236,6 +253,8 @@ fall f m e n d (fin true k i) s x h b =
     (sym (add_is f false m e true k i ∙ minus f (S * down i) (Q * down e) (down e * down i) g))
     (between f n d m e (S * down i - Q * down e) (down e * down i) x.0 s.0 (mul-pos (down_pos e) (down_pos i))
     (fall_one S (down e) Q (down i) s.1) (fall_over S (down e) X (down d) Q (down i) g w) (fall_under S (down e) Q (down i)))
+fall f m e n d nan s x h b = elim b [ ]
+fall f m e n d (inf _) s x h b = elim b [ ]
 
 -- ---- the smoothed fill
 abbrev pub smooth : Format → Float → Float → Float
@@ -247,6 +266,12 @@ smooth_between f (fin false m e) (fin false n d) s x =
       | inl h ↦ inl (rise f m e n d (part f (fin false m e) (fin false n d)) s x h (part_up f m e n d x.1 h))
       | inr h ↦ inr (fall f m e n d (part f (fin false m e) (fin false n d)) s x (le_of_lt h) (part_down f m e n d s.1 h))
     ]
+smooth_between f nan _ s x = elim s [ ]
+smooth_between f (inf _) _ s x = elim s [ ]
+smooth_between f (fin false m e) nan s x = elim x [ ]
+smooth_between f (fin false m e) (inf _) s x = elim x [ ]
+smooth_between f (fin false m e) (fin true n d) s x = elim x [ ]
+smooth_between f (fin true m e) _ s x = elim s [ ]
 
 pub smooth_fill : (f : Format) (s x : Float) → Fill f s → Fill f x → Fill f (smooth f s x)
 smooth_fill f s x p q = elim (smooth_between f s x p q) [ inl b ↦ b.fill | inr b ↦ b.fill ]
@@ -276,6 +301,7 @@ minus_zero_plus f (suc b) c = go (ltb 0 (suc b)) (lt→ltb 0 (suc b) (zero-lt-su
   where
     go : (t : Bool) → T t → cond t (round f false (suc b - 0) c) (round f (ltb (suc b) 0) (0 - suc b) c) ≡ round f false (suc b) c
     go true k = ap (λ (z : ℕ). round f false z c) (sub-zero (suc b))
+    go false k = elim k [ ]
 
 none_more : (a u b : ℕ) → 0 * u * b + a ≡ a
 none_more a u b = omega arith
@@ -295,9 +321,14 @@ add_zeros f e (fin false k i) a c b =
   where
     none_under_is : (u b : ℕ) → 0 * u * b ≡ 0
     none_under_is u b = omega arith
+add_zeros f e nan a c b = elim b [ ]
+add_zeros f e (inf _) a c b = elim b [ ]
 
 pub smooth_zeros : (f : Format) (e : ℤ) (x : Float) → Fill f x → smooth f (fin true 0 e) x ≡ smooth f (fin false 0 e) x
 smooth_zeros f e (fin false n d) h =
     ap (λ (z : Float). add f (fin true 0 e) (mul f z (fin false 1 (negsuc 1)))) (sub_zeros f n d e)
     ∙ add_zeros f e (part f (fin false 0 e) (fin false n d)) (n * up d * down e - 0 * up e * down d) (down d * down e)
     (part_up f 0 e n d h.1 (none_under (up e) (down d) (n * up d * down e)))
+smooth_zeros f e nan h = elim h [ ]
+smooth_zeros f e (inf _) h = elim h [ ]
+smooth_zeros f e (fin true n d) h = elim h [ ]

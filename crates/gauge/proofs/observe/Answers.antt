@@ -8,6 +8,5 @@ returns-then-refuses c = reading_refused _ _ _ _ (sym c.refuses.ensures ∙ c.if
 
 pub returns : goal.returns
 returns c =
-    let at-start = c in
-    reading_taken at-start.before.args.gauge at-start.before.args.alarm _ _ _ _ _ (sym at-start.refuses.ensures ∙ c.if-refuses.false)
-    c.fill-last.ensures c.smooth-smoothed.ensures c.sounds.ensures
+    reading_taken c.args.gauge c.args.alarm _ _ _ _ _ (sym c.refuses.ensures ∙ c.if-refuses.false) c.fill-last.ensures c.smooth-smoothed.ensures
+    c.sounds.ensures
