@@ -54,6 +54,12 @@ def code(text):
     return re.sub(r"(?m)(?:^|(?<=[\s(){},;]))--.*$", lambda m: " " * len(m[0]), text)
 
 
+def unquoted(replace, text):
+    """Turns the words of a text, but for what stands in quotes."""
+    spans = [m.span() for m in re.finditer(r'"(?:\\.|[^"\\\n])*"', code(text))]
+    return WORD.sub(lambda m: m[0] if any(a <= m.start() < b for a, b in spans) else replace(m), text)
+
+
 def is_own(module, crates):
     if re.match(r"(?!Prim\b|Rattle\b)[A-Z]", module):
         return True
@@ -140,10 +146,10 @@ def main(argv):
 
         if p.endswith(".rt"):
             new = WORD.sub(replace, t)
+        elif p.endswith(".antt"):
+            new = unquoted(replace, t)
         elif p.endswith(".edit"):
             new = re.sub(r"(?m)^(?:old|new): .*$", lambda m: m[0][:5] + WORD.sub(replace, m[0][5:]), t)
-        else:
-            new = WORD.sub(replace, t)
         there = set(WORD.findall(code(t))) & made
         if check and there:
             print(f"there: {os.path.relpath(p, root)}: {sorted(there)}")

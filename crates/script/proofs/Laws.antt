@@ -14,7 +14,9 @@ use Rattle.text.specs.Lines.{starts}
 use Rattle.text.specs.declared.Entry.{Entry}
 use Rattle.text.specs.declared.Entry.TheVariants.{Took, Bad}
 use Rattle.text.proofs.Laws.{starts_fits}
-use Rattle.script.specs.Table.{Key, keys, no_key, Row, calls, no_row}
+use Rattle.manager.specs.declared.Order.TheVariants.{HalvesPriority}
+use Rattle.manager.specs.declared.Wait.TheVariants.{Yes}
+use Rattle.script.specs.Table.{Key, keys, no_key, Row, calls, no_row, order_of, wait_of}
 use Rattle.script.specs.Reading.{find_row, key_at, numbers, wrong, numbers_from, on_numbers, on_row, fields_of, read_call}
 use Rattle.script.specs.declared.Fields.{Fields}
 use Rattle.script.specs.declared.Fields.TheVariants.{All, Wrong}
@@ -22,6 +24,18 @@ use Rattle.script.specs.declared.ReadCall.TheVariants.{One, BadAt, End}
 use Rattle.manager.specs.declared.Call.{Call}
 use Rattle.script.proofs.Rows.{whole}
 use Rattle.script.proofs.Tables.{sequence, sequence_from, keys_of, key_number, counted, numbered, line_size, line_length, six_values, six_values_lem}
+
+-- ---- choices
+
+pub order_other : (n : ℕ) → (n ≡ 0 → ⊥) → (n ≡ 1 → ⊥) → (n ≡ 2 → ⊥) → HalvesPriority ≡ order_of n
+order_other zero h k l = absurd (h refl)
+order_other (suc zero) h k l = absurd (k refl)
+order_other (suc (suc zero)) h k l = absurd (l refl)
+order_other (suc (suc (suc n))) h k l = refl
+
+pub wait_other : (n : ℕ) → (n ≡ 0 → ⊥) → Yes ≡ wait_of n
+wait_other zero h = absurd (h refl)
+wait_other (suc n) h = refl
 
 -- ---- the call's row
 
@@ -229,3 +243,15 @@ pub ruleset call_answers = (answers_end, answers_none, answers_wrong, answers_ca
 
 pub row_call : (k n : ℕ) (v : List ℕ) (c : Call) → k ≡ n → c ≡ (get_or calls n no_row).call v → c ≡ (get_or calls k no_row).call v
 row_call k n v c e h = rw e h
+
+-- what the last arm of a `match` knows: none of the n numbers from a on; so that only the one behind them is left
+abbrev NoneOf : ℕ → ℕ → ℕ → Type 0
+NoneOf zero a k = Unit {0}
+NoneOf (suc n) a k = NoneOf n a k × (k ≡ a + n → ⊥)
+
+past_arms : (n a k : ℕ) → a ≤ k → NoneOf n a k → a + n ≤ k
+past_arms zero a k l h = omega arith
+past_arms (suc n) a k l h = let u = past_arms n a k l h.0 in omega (arith, h.1)
+
+pub last_arm : (n a k : ℕ) → a ≤ k → k < suc (a + n) → NoneOf n a k → k ≡ a + n
+last_arm n a k l u h = let v = past_arms n a k l h in omega arith
