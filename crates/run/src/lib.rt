@@ -44,10 +44,10 @@ fn line_number(src: &[u8], p: usize) -> u32
 
 // Runs a script that is not too long.
 fn run_calls(src: &[u8], mem: &mut [u32], out: &mut [u8]) -> usize
-    requires src_len_bound { length src.now ≤ most_script }
-    requires most_output_in_bounds { most_output ≤ length out.old }
+    requires script_fits { length src.now ≤ most_script }
+    requires output_fits { most_output ≤ length out.old }
     ensures puts { Puts most_output out.old 0 (run_script src.now mem.old fresh (read_all src.now)) out.new result }
-    ensures mem_after { mem.new ≡ memory_after mem.old fresh (read_all src.now).calls }
+    ensures memory { mem.new ≡ memory_after mem.old fresh (read_all src.now).calls }
 {
     let mut d = Manager::new();
     let mut at = 0;
@@ -74,8 +74,8 @@ fn run_calls(src: &[u8], mem: &mut [u32], out: &mut [u8]) -> usize
 // Runs a script, and answers how many bytes of output it put at the start of out.
 pub fn run(src: &[u8], mem: &mut [u32], out: &mut [u8; OUTPUT]) -> usize
     ensures puts { Puts most_output out.old 0 (run_all src.now mem.old) out.new result }
-    ensures mem_after { mem.new ≡ memory_all src.now mem.old }
-    ensures upper_bound { result ≤ length out.new }
+    ensures memory { mem.new ≡ memory_all src.now mem.old }
+    ensures within { result ≤ length out.new }
 {
     if SCRIPT < src.len() {
         return put_bad(out, 0, 0);

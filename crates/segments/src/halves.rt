@@ -61,8 +61,8 @@ fn lowest_free(map: &[u32], b: u32) -> Place
 // Halves a block, of whose words all but the first are 0, again and again until it has k pages or fewer, the low half going on. What is left
 // of it is held, and the high halves are free.
 fn carve(map: &mut [u32], k: u32)
-    requires map_value { (is_power (length map.old) ≡ true) × (length map.old ≤ 16384) × (1 ≤ k) }
-    requires map_value_2 { drop 1 map.old ≡ replicate (length map.old - 1) 0 }
+    requires block { (is_power (length map.old) ≡ true) × (length map.old ≤ 16384) × (1 ≤ k) }
+    requires blank { drop 1 map.old ≡ replicate (length map.old - 1) 0 }
     ensures { map.new ≡ draw (carve (level (length map.old)) k (length map.old)) }
 {
     let n = map.len();
@@ -78,8 +78,8 @@ fn carve(map: &mut [u32], k: u32)
 
 // Takes the pages where there is room, and says where: the place of their word.
 pub(crate) fn allocate(map: &mut [u32], n: Need) -> Place
-    requires map_value { (sound_map halves.proper map.old ≡ true) × (length map.old ≤ 16384) }
-    requires le_pages { 1 ≤ n.pages }
+    requires sound { (sound_map halves.proper map.old ≡ true) × (length map.old ≤ 16384) }
+    requires some { 1 ≤ n.pages }
     ensures { (result ≡ halves.place n 0 (decode map.old)) × (map.new ≡ draw (allocate halves n 0 (decode map.old))) }
 {
     let k = n.pages;
@@ -99,8 +99,8 @@ pub(crate) fn allocate(map: &mut [u32], n: Need) -> Place
 
 // Frees the held block at page p. A block that it makes whole with its other half joins the other half of that, and so on upwards.
 pub(crate) fn release(map: &mut [u32], p: usize)
-    requires map_value { (sound_map halves.proper map.old ≡ true) × (length map.old ≤ 16384) }
-    requires bound { 1 ≤ held_from p 0 (decode map.old) }
+    requires sound { (sound_map halves.proper map.old ≡ true) × (length map.old ≤ 16384) }
+    requires held { 1 ≤ held_from p 0 (decode map.old) }
     ensures { map.new ≡ draw (release_block (level (length map.old)) p 0 (decode map.old)) }
 {
     let n = map.len();
@@ -120,8 +120,8 @@ pub(crate) fn release(map: &mut [u32], p: usize)
 
 // The two halves of a block, each of so many pages, become one where both are wholly free.
 fn join(map: &mut [u32], half: usize)
-    requires le_half { (1 ≤ half) × (half ≤ 8192) × (length map.old ≡ half + half) }
-    requires map_value { (tiled (take half map.old) ≡ true) × (tiled (drop half map.old) ≡ true) }
+    requires halved { (1 ≤ half) × (half ≤ 8192) × (length map.old ≡ half + half) }
+    requires both_tiled { (tiled (take half map.old) ≡ true) × (tiled (drop half map.old) ≡ true) }
     ensures { map.new ≡ draw (join (decode (take half map.old)) (decode (drop half map.old))) }
 {
     let size = half as u32 * 2;

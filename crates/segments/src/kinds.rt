@@ -10,8 +10,8 @@ use manager::{Need, Order, Place};
 
 // Takes the pages where there is room, and says where: the number of the first one. The map's first page is page `first`.
 pub(crate) fn allocate(map: &mut [u32], o: Order, first: u64, n: Need) -> Place
-    requires map_value { (sound_map (kind_of o).proper map.old ≡ true) × (length map.old ≤ 16384) }
-    requires le_pages { (1 ≤ n.pages) × (first ≤ 65536) }
+    requires sound { (sound_map (kind_of o).proper map.old ≡ true) × (length map.old ≤ 16384) }
+    requires some { (1 ≤ n.pages) × (first ≤ 65536) }
     ensures { (result ≡ (kind_of o).place n first (decode map.old)) × (map.new ≡ draw (allocate (kind_of o) n first (decode map.old))) }
 {
     if !map::by_halves(o) {
@@ -28,8 +28,8 @@ pub(crate) fn allocate(map: &mut [u32], o: Order, first: u64, n: Need) -> Place
 
 // Frees the held segment at page p.
 pub(crate) fn release_at(map: &mut [u32], o: Order, p: usize)
-    requires map_value { (sound_map (kind_of o).proper map.old ≡ true) × (length map.old ≤ 16384) }
-    requires bound { 1 ≤ held_from p 0 (decode map.old) }
+    requires sound { (sound_map (kind_of o).proper map.old ≡ true) × (length map.old ≤ 16384) }
+    requires held { 1 ≤ held_from p 0 (decode map.old) }
     ensures { map.new ≡ draw ((kind_of o).change p 0 0 (decode map.old)) }
 {
     if map::by_halves(o) {
@@ -41,8 +41,8 @@ pub(crate) fn release_at(map: &mut [u32], o: Order, p: usize)
 
 // Whether the held segment at page p can have k pages.
 pub(crate) fn can_have(map: &[u32], o: Order, p: usize, k: u64) -> bool
-    requires map_value { (sound_map (kind_of o).proper map.now ≡ true) × (length map.now ≤ 16384) }
-    requires bound { 1 ≤ held_from p 0 (decode map.now) }
+    requires sound { (sound_map (kind_of o).proper map.now ≡ true) × (length map.now ≤ 16384) }
+    requires held { 1 ≤ held_from p 0 (decode map.now) }
     ensures { result ≡ (kind_of o).can_have p k 0 (decode map.now) }
 {
     if map::by_halves(o) {
@@ -53,8 +53,8 @@ pub(crate) fn can_have(map: &[u32], o: Order, p: usize, k: u64) -> bool
 
 // The held segment at page p has k pages from now on, which it can have.
 pub(crate) fn resize_at(map: &mut [u32], o: Order, p: usize, k: u32)
-    requires map_value { (sound_map (kind_of o).proper map.old ≡ true) × (length map.old ≤ 16384) }
-    requires le_k { (1 ≤ k) × (1 ≤ held_from p 0 (decode map.old)) × ((kind_of o).can_have p k 0 (decode map.old) ≡ true) }
+    requires sound { (sound_map (kind_of o).proper map.old ≡ true) × (length map.old ≤ 16384) }
+    requires fits { (1 ≤ k) × (1 ≤ held_from p 0 (decode map.old)) × ((kind_of o).can_have p k 0 (decode map.old) ≡ true) }
     ensures { map.new ≡ draw ((kind_of o).change p k 0 (decode map.old)) }
 {
     if map::by_halves(o) {

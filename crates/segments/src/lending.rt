@@ -46,7 +46,7 @@ pub(crate) fn can_have(mem: &[u32], r: Region, l: Layout, address: u32, k: u64) 
 // The held segment at an address has k pages from now on, which it can have.
 pub(crate) fn resize_pages(mem: &mut [u32], r: Region, l: Layout, address: u32, k: u64)
     requires sited { (Sited mem.old r) × (l ≡ layout_of r) × (1 ≤ held_at mem.old r address) }
-    requires le_k { (1 ≤ k) × (can_have mem.old r address k ≡ true) }
+    requires fits { (1 ≤ k) × (can_have mem.old r address k ≡ true) }
     ensures { Changes r address k mem.old mem.new }
 {
     let at = l.map;

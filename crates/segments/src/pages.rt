@@ -43,8 +43,8 @@ fn cut(map: &mut [u32], i: usize, pages: u32, k: u32, mark: u32)
 
 // Takes k pages of the free segment at page i, from `gap` pages behind its first one on. Those before them stay free, as do those behind.
 fn take_at(map: &mut [u32], i: usize, gap: u32, k: u32)
-    requires le_k { (1 ≤ k) × (gap + k ≤ get_or map.old i 0 / 2) }
-    requires i_in_bounds { (i + get_or map.old i 0 / 2 ≤ length map.old) × (length map.old ≤ 16384) }
+    requires some { (1 ≤ k) × (gap + k ≤ get_or map.old i 0 / 2) }
+    requires within { (i + get_or map.old i 0 / 2 ≤ length map.old) × (length map.old ≤ 16384) }
     ensures { map.new ≡ taking i gap k map.old }
 {
     let pages = map[i] / 2;
@@ -59,8 +59,8 @@ fn take_at(map: &mut [u32], i: usize, gap: u32, k: u32)
 
 // Takes the pages where there is room, and says where: the number of the first one.
 pub(crate) fn allocate(map: &mut [u32], first: u64, n: Need) -> Place
-    requires map_value { (sound_map apart map.old ≡ true) × (length map.old ≤ 16384) }
-    requires le_pages { (1 ≤ n.pages) × (first ≤ 65536) }
+    requires sound { (sound_map apart map.old ≡ true) × (length map.old ≤ 16384) }
+    requires some { (1 ≤ n.pages) × (first ≤ 65536) }
     ensures { (result ≡ place_from n first (decode map.old)) × (map.new ≡ draw (allocate paged n first (decode map.old))) }
 {
     match find(map, first, n) {
@@ -77,8 +77,8 @@ pub(crate) fn allocate(map: &mut [u32], first: u64, n: Need) -> Place
 
 // The held segment at page p takes in a free follower. Its pages then.
 fn extend(map: &mut [u32], p: usize) -> u32
-    requires map_value { (sound_map apart map.old ≡ true) × (length map.old ≤ 16384) }
-    requires bound { 1 ≤ held_from p 0 (decode map.old) }
+    requires sound { (sound_map apart map.old ≡ true) × (length map.old ≤ 16384) }
+    requires held { 1 ≤ held_from p 0 (decode map.old) }
     ensures { Extends p map.old result map.new }
 {
     let pages = map[p] / 2;
@@ -98,8 +98,8 @@ fn extend(map: &mut [u32], p: usize) -> u32
 
 // The most pages that the held segment at page p can have: its own and those of a free follower.
 pub(crate) fn reach_at(map: &[u32], p: usize) -> u32
-    requires map_value { (sound_map apart map.now ≡ true) × (length map.now ≤ 16384) }
-    requires bound { 1 ≤ held_from p 0 (decode map.now) }
+    requires sound { (sound_map apart map.now ≡ true) × (length map.now ≤ 16384) }
+    requires held { 1 ≤ held_from p 0 (decode map.now) }
     ensures { result ≡ reach_from p 0 (decode map.now) }
 {
     let pages = map[p] / 2;
@@ -133,9 +133,9 @@ fn previous(map: &[u32], p: usize) -> usize
 
 // Frees the held segment of so many pages at page p, which has no free follower; q is what `previous` says.
 fn release(map: &mut [u32], p: usize, q: usize, pages: u32)
-    requires map_value { (sound_map apart map.old ≡ true) × (length map.old ≤ 16384) }
-    requires le_pages { (1 ≤ pages) × (held_from p 0 (decode map.old) ≡ pages) × (reach_from p 0 (decode map.old) ≡ pages) }
-    requires q_value { q ≡ before_from p p 0 (decode map.old) }
+    requires sound { (sound_map apart map.old ≡ true) × (length map.old ≤ 16384) }
+    requires held { (1 ≤ pages) × (held_from p 0 (decode map.old) ≡ pages) × (reach_from p 0 (decode map.old) ≡ pages) }
+    requires previous { q ≡ before_from p p 0 (decode map.old) }
     ensures { map.new ≡ draw (change_from p 0 0 (decode map.old)) }
 {
     let w = map[q];
@@ -149,9 +149,9 @@ fn release(map: &mut [u32], p: usize, q: usize, pages: u32)
 
 // The held segment at page p has k pages from now on.
 pub(crate) fn resize_at(map: &mut [u32], p: usize, k: u32)
-    requires map_value { (sound_map apart map.old ≡ true) × (length map.old ≤ 16384) }
-    requires bound { 1 ≤ held_from p 0 (decode map.old) }
-    requires le_k { (1 ≤ k) × (k ≤ reach_from p 0 (decode map.old)) }
+    requires sound { (sound_map apart map.old ≡ true) × (length map.old ≤ 16384) }
+    requires held { 1 ≤ held_from p 0 (decode map.old) }
+    requires reached { (1 ≤ k) × (k ≤ reach_from p 0 (decode map.old)) }
     ensures { map.new ≡ draw (change_from p k 0 (decode map.old)) }
 {
     let pages = extend(map, p);
@@ -160,8 +160,8 @@ pub(crate) fn resize_at(map: &mut [u32], p: usize, k: u32)
 
 // Frees the held segment at page p, and joins it to its free neighbours.
 pub(crate) fn release_at(map: &mut [u32], p: usize)
-    requires map_value { (sound_map apart map.old ≡ true) × (length map.old ≤ 16384) }
-    requires bound { 1 ≤ held_from p 0 (decode map.old) }
+    requires sound { (sound_map apart map.old ≡ true) × (length map.old ≤ 16384) }
+    requires held { 1 ≤ held_from p 0 (decode map.old) }
     ensures { map.new ≡ draw (change_from p 0 0 (decode map.old)) }
 {
     let pages = extend(map, p);

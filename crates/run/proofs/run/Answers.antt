@@ -7,10 +7,10 @@ pub returns-then-src-gt-SCRIPT : goal.returns-then-src-gt-SCRIPT
 returns-then-src-gt-SCRIPT c =
     let h = c.if-src-gt-SCRIPT.true in
     let p = c.put_bad.ensures in
-    record { puts = too_long _ _ h p; mem_after = too_long_memory _ _ h; upper_bound = ends_within p (omega arith) c.put_bad.auto.out }
+    record { puts = too_long _ _ h p; memory = too_long_memory _ _ h; within = ends_within p (omega arith) c.put_bad.auto.out }
 
 pub returns : goal.returns
 returns c =
     let h = c.if-src-gt-SCRIPT.false in
     let r = c.run_calls.ensures in
-    record { puts = all_run _ _ h (r.puts, r.mem_after); mem_after = all_memory _ _ h (r.puts, r.mem_after); upper_bound = ends_within r.puts (omega arith) c.run_calls.auto.out }
+    record { puts = all_run _ _ h (r.puts, r.memory); memory = all_memory _ _ h (r.puts, r.memory); within = ends_within r.puts (omega arith) c.run_calls.auto.out }

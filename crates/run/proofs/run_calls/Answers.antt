@@ -15,11 +15,11 @@ shape_of-out-in-End c = c.loop-at.invariant.2
 
 pub returns-in-End : goal.returns-in-End
 returns-in-End c =
-    let e = running_end c.loop-at.invariant.0 _ c.requires.src_len_bound c.read_call.ensures c.in-End.is in
-    record { puts = e.0; mem_after = e.1 }
+    let e = running_end c.loop-at.invariant.0 _ c.requires.script_fits c.read_call.ensures c.in-End.is in
+    record { puts = e.0; memory = e.1 }
 
 pub put_bad-requires : goal.put_bad-requires
-put_bad-requires c = omega (arith, room c.loop-at.invariant.0 c.requires.src_len_bound)
+put_bad-requires c = omega (arith, room c.loop-at.invariant.0 c.requires.script_fits)
 
 pub shape_of-mem-in-BadAt : goal.shape_of-mem-in-BadAt
 shape_of-mem-in-BadAt c = c.loop-at.invariant.1
@@ -32,14 +32,14 @@ returns-in-BadAt c =
     let r = c.loop-at.invariant.0 in
     let b = c.in-BadAt.is in
     let f = c.read_call.ensures in
-    let e = running_bad r _ _ _ c.requires.src_len_bound f b c.line_number.ensures c.put_bad.ensures in
-    record { puts = e.0; mem_after = e.1 }
+    let e = running_bad r _ _ _ c.requires.script_fits f b c.line_number.ensures c.put_bad.ensures in
+    record { puts = e.0; memory = e.1 }
 
 pub put_answer-n-requires : goal.put_answer-n-requires
 put_answer-n-requires c =
     let r = c.loop-at.invariant.0 in
     let f = c.read_call.ensures in
-    omega (arith, room_one r _ _ _ _ f c.in-One.is c.requires.src_len_bound)
+    omega (arith, room_one r _ _ _ _ f c.in-One.is c.requires.script_fits)
 
 pub loop-at-smaller : goal.loop-at-smaller
 loop-at-smaller c =
@@ -67,5 +67,5 @@ shape_of-out c = c.loop-at.invariant.2
 
 pub returns : goal.returns
 returns c =
-    let e = running_out c.loop-at.invariant.0 c.requires.src_len_bound c.loop-at-test.false in
-    record { puts = e.0; mem_after = e.1 }
+    let e = running_out c.loop-at.invariant.0 c.requires.script_fits c.loop-at-test.false in
+    record { puts = e.0; memory = e.1 }

@@ -15,10 +15,10 @@ blank : (map : List ℕ) (k : ℕ) → (is_power (length map) ≡ true) × (leng
 blank map k p z = record { power = p.0; zeros = z; some = p.2 }
 
 pub bounds-map-0 : goal.bounds-map-0
-bounds-map-0 t c = has_pages (blank _ _ c.requires.map_value c.requires.map_value_2)
+bounds-map-0 t c = has_pages (blank _ _ c.requires.block c.requires.blank)
 
 pub returns-then-n-k : goal.returns-then-n-k
-returns-then-n-k t c = carve_last (blank _ _ c.requires.map_value c.requires.map_value_2) c.if-n-k.true
+returns-then-n-k t c = carve_last (blank _ _ c.requires.block c.requires.blank) c.if-n-k.true
 
 pub slice_bounds-carve-end : goal.slice_bounds-carve-end
 slice_bounds-carve-end t c = simp length-set (omega arith)
@@ -26,14 +26,14 @@ slice_bounds-carve-end t c = simp length-set (omega arith)
 pub carve-requires : goal.carve-requires
 carve-requires t c =
     let l = c.if-n-k.false in
-    let b = part_blank (blank _ _ c.requires.map_value c.requires.map_value_2) l in
-    let n = part_long (blank _ _ c.requires.map_value c.requires.map_value_2) l in
-    (omega (arith, n), ((b.power, omega (arith, c.requires.map_value.1, n), b.some), b.zeros))
+    let b = part_blank (blank _ _ c.requires.block c.requires.blank) l in
+    let n = part_long (blank _ _ c.requires.block c.requires.blank) l in
+    (omega (arith, n), ((b.power, omega (arith, c.requires.block.1, n), b.some), b.zeros))
 
 pub shape_of-map : goal.shape_of-map
 shape_of-map t c =
-    carve_long (blank _ _ c.requires.map_value c.requires.map_value_2) c.if-n-k.false _ c.carve.ensures
+    carve_long (blank _ _ c.requires.block c.requires.blank) c.if-n-k.false _ c.carve.ensures
 
 pub returns : goal.returns
 returns t c =
-    carve_on (blank _ _ c.requires.map_value c.requires.map_value_2) c.if-n-k.false _ c.carve.ensures
+    carve_on (blank _ _ c.requires.block c.requires.blank) c.if-n-k.false _ c.carve.ensures

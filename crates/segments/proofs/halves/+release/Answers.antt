@@ -19,45 +19,45 @@ holds : (p : ℕ) (map : List ℕ) → (sound_map halves.proper map ≡ true) ×
 holds p map s h = record { sound = s.0; held = h }
 
 pub bounds-map-0 : goal.bounds-map-0
-bounds-map-0 t c = some_pages (holds _ _ c.requires.map_value c.requires.bound)
+bounds-map-0 t c = some_pages (holds _ _ c.requires.sound c.requires.held)
 
 pub bounds-map-0-then-map-all : goal.bounds-map-0-then-map-all
-bounds-map-0-then-map-all t c = some_pages (holds _ _ c.requires.map_value c.requires.bound)
+bounds-map-0-then-map-all t c = some_pages (holds _ _ c.requires.sound c.requires.held)
 
 pub returns-then-map-all : goal.returns-then-map-all
-returns-then-map-all t c = released (holds _ _ c.requires.map_value c.requires.bound) c.if-map-all.true
+returns-then-map-all t c = released (holds _ _ c.requires.sound c.requires.held) c.if-map-all.true
 
 pub slice_bounds-release-end : goal.slice_bounds-release-end
 slice_bounds-release-end t c = omega arith
 
 pub slice_bounds-release-end-then-p-half : goal.slice_bounds-release-end-then-p-half
 slice_bounds-release-end-then-p-half t c =
-    sym (lent_low (holds _ _ c.requires.map_value c.requires.bound) c.if-map-all.false c.if-p-half.true).long
+    sym (lent_low (holds _ _ c.requires.sound c.requires.held) c.if-map-all.false c.if-p-half.true).long
 
 pub release-requires : goal.release-requires
 release-requires t c =
-    let l = lent_low (holds _ _ c.requires.map_value c.requires.bound) c.if-map-all.false c.if-p-half.true in
-    let n = twice (holds _ _ c.requires.map_value c.requires.bound) c.if-map-all.false in
-    (omega (arith, l.long, n), ((l.holds.sound, omega (arith, l.long, n, c.requires.map_value.1)), l.holds.held))
+    let l = lent_low (holds _ _ c.requires.sound c.requires.held) c.if-map-all.false c.if-p-half.true in
+    let n = twice (holds _ _ c.requires.sound c.requires.held) c.if-map-all.false in
+    (omega (arith, l.long, n), ((l.holds.sound, omega (arith, l.long, n, c.requires.sound.1)), l.holds.held))
 
 pub release-requires-else-p-half : goal.release-requires-else-p-half
 release-requires-else-p-half t c =
-    let l = lent_high (holds _ _ c.requires.map_value c.requires.bound) c.if-map-all.false c.if-p-half.false in
-    let n = twice (holds _ _ c.requires.map_value c.requires.bound) c.if-map-all.false in
-    (omega (arith, l.long, n), ((l.holds.sound, omega (arith, l.long, n, c.requires.map_value.1)), l.holds.held))
+    let l = lent_high (holds _ _ c.requires.sound c.requires.held) c.if-map-all.false c.if-p-half.false in
+    let n = twice (holds _ _ c.requires.sound c.requires.held) c.if-map-all.false in
+    (omega (arith, l.long, n), ((l.holds.sound, omega (arith, l.long, n, c.requires.sound.1)), l.holds.held))
 
 pub join-requires : goal.join-requires
 join-requires t c =
-    let f : Freed c.args.p c.args.map.now c.if-p-half.map = (let h = holds _ _ c.requires.map_value c.requires.bound in let ne = c.if-map-all.false in elim c.if-p-half.branch [ then-p-half w ↦ rw w.map-is (freed_low h ne w.if-p-half.true _ w.release.ensures) | else-p-half w ↦ rw w.map-is (freed_high h ne w.if-p-half.false _ w.release-else-p-half.ensures) ]) in
-    let n = twice (holds _ _ c.requires.map_value c.requires.bound) c.if-map-all.false in
-    record { le_half = (n.0, omega (arith, n, c.requires.map_value.1), f.long ∙ n.1); map_value = (f.low, f.high) }
+    let f : Freed c.args.p c.args.map.now c.if-p-half.map = (let h = holds _ _ c.requires.sound c.requires.held in let ne = c.if-map-all.false in elim c.if-p-half.branch [ then-p-half w ↦ rw w.map-is (freed_low h ne w.if-p-half.true _ w.release.ensures) | else-p-half w ↦ rw w.map-is (freed_high h ne w.if-p-half.false _ w.release-else-p-half.ensures) ]) in
+    let n = twice (holds _ _ c.requires.sound c.requires.held) c.if-map-all.false in
+    record { halved = (n.0, omega (arith, n, c.requires.sound.1), f.long ∙ n.1); both_tiled = (f.low, f.high) }
 
 pub shape_of-map : goal.shape_of-map
 shape_of-map t c =
-    let f : Freed c.args.p c.args.map.now c.if-p-half.map = (let h = holds _ _ c.requires.map_value c.requires.bound in let ne = c.if-map-all.false in elim c.if-p-half.branch [ then-p-half w ↦ rw w.map-is (freed_low h ne w.if-p-half.true _ w.release.ensures) | else-p-half w ↦ rw w.map-is (freed_high h ne w.if-p-half.false _ w.release-else-p-half.ensures) ]) in
+    let f : Freed c.args.p c.args.map.now c.if-p-half.map = (let h = holds _ _ c.requires.sound c.requires.held in let ne = c.if-map-all.false in elim c.if-p-half.branch [ then-p-half w ↦ rw w.map-is (freed_low h ne w.if-p-half.true _ w.release.ensures) | else-p-half w ↦ rw w.map-is (freed_high h ne w.if-p-half.false _ w.release-else-p-half.ensures) ]) in
     c.join.auto.map ∙ f.long
 
 pub returns : goal.returns
 returns t c =
-    let f : Freed c.args.p c.args.map.now c.if-p-half.map = (let h = holds _ _ c.requires.map_value c.requires.bound in let ne = c.if-map-all.false in elim c.if-p-half.branch [ then-p-half w ↦ rw w.map-is (freed_low h ne w.if-p-half.true _ w.release.ensures) | else-p-half w ↦ rw w.map-is (freed_high h ne w.if-p-half.false _ w.release-else-p-half.ensures) ]) in
+    let f : Freed c.args.p c.args.map.now c.if-p-half.map = (let h = holds _ _ c.requires.sound c.requires.held in let ne = c.if-map-all.false in elim c.if-p-half.branch [ then-p-half w ↦ rw w.map-is (freed_low h ne w.if-p-half.true _ w.release.ensures) | else-p-half w ↦ rw w.map-is (freed_high h ne w.if-p-half.false _ w.release-else-p-half.ensures) ]) in
     c.join.ensures ∙ f.joined

@@ -11,40 +11,40 @@ smallest-b-requires c = search (rules, sound_tiled)
 
 pub returns-then-b-eq0 : goal.returns-then-b-eq0
 returns-then-b-eq0 c =
-    untaken _ c.args.n c.requires.map_value.0 (none_large _ c.args.n c.requires.map_value.0 _ c.smallest-b.ensures c.if-b-eq0.true)
+    untaken _ c.args.n c.requires.sound.0 (none_large _ c.args.n c.requires.sound.0 _ c.smallest-b.ensures c.if-b-eq0.true)
 
 pub lowest_free-requires : goal.lowest_free-requires
 lowest_free-requires c = search (rules, sound_tiled)
 
 pub overflow_add-end : goal.overflow_add-end
-overflow_add-end c = let f = (let b = c.smallest-b in let e = sym c.lowest_free.ensures ∙ c.in-At.is in took _ c.args.n c.requires.map_value.0 _ _ c.requires.le_pages b.ensures c.if-b-eq0.false e) in omega arith
+overflow_add-end c = let f = (let b = c.smallest-b in let e = sym c.lowest_free.ensures ∙ c.in-At.is in took _ c.args.n c.requires.sound.0 _ _ c.requires.some b.ensures c.if-b-eq0.false e) in omega arith
 
 pub offset_bounds-map-i : goal.offset_bounds-map-i
-offset_bounds-map-i c = let f = (let b = c.smallest-b in let e = sym c.lowest_free.ensures ∙ c.in-At.is in took _ c.args.n c.requires.map_value.0 _ _ c.requires.le_pages b.ensures c.if-b-eq0.false e) in omega arith
+offset_bounds-map-i c = let f = (let b = c.smallest-b in let e = sym c.lowest_free.ensures ∙ c.in-At.is in took _ c.args.n c.requires.sound.0 _ _ c.requires.some b.ensures c.if-b-eq0.false e) in omega arith
 
 pub slice_bounds-carve-count : goal.slice_bounds-carve-count
-slice_bounds-carve-count c = let f = (let b = c.smallest-b in let e = sym c.lowest_free.ensures ∙ c.in-At.is in took _ c.args.n c.requires.map_value.0 _ _ c.requires.le_pages b.ensures c.if-b-eq0.false e) in omega arith
+slice_bounds-carve-count c = let f = (let b = c.smallest-b in let e = sym c.lowest_free.ensures ∙ c.in-At.is in took _ c.args.n c.requires.sound.0 _ _ c.requires.some b.ensures c.if-b-eq0.false e) in omega arith
 
 pub slice_bounds-carve-start : goal.slice_bounds-carve-start
-slice_bounds-carve-start c = let f = (let b = c.smallest-b in let e = sym c.lowest_free.ensures ∙ c.in-At.is in took _ c.args.n c.requires.map_value.0 _ _ c.requires.le_pages b.ensures c.if-b-eq0.false e) in omega arith
+slice_bounds-carve-start c = let f = (let b = c.smallest-b in let e = sym c.lowest_free.ensures ∙ c.in-At.is in took _ c.args.n c.requires.sound.0 _ _ c.requires.some b.ensures c.if-b-eq0.false e) in omega arith
 
 pub slice_bounds-carve-end : goal.slice_bounds-carve-end
-slice_bounds-carve-end c = let f = (let b = c.smallest-b in let e = sym c.lowest_free.ensures ∙ c.in-At.is in took _ c.args.n c.requires.map_value.0 _ _ c.requires.le_pages b.ensures c.if-b-eq0.false e) in omega arith
+slice_bounds-carve-end c = let f = (let b = c.smallest-b in let e = sym c.lowest_free.ensures ∙ c.in-At.is in took _ c.args.n c.requires.sound.0 _ _ c.requires.some b.ensures c.if-b-eq0.false e) in omega arith
 
 pub overflow_cast-k : goal.overflow_cast-k
-overflow_cast-k c = let f = (let b = c.smallest-b in let e = sym c.lowest_free.ensures ∙ c.in-At.is in took _ c.args.n c.requires.map_value.0 _ _ c.requires.le_pages b.ensures c.if-b-eq0.false e) in omega arith
+overflow_cast-k c = let f = (let b = c.smallest-b in let e = sym c.lowest_free.ensures ∙ c.in-At.is in took _ c.args.n c.requires.sound.0 _ _ c.requires.some b.ensures c.if-b-eq0.false e) in omega arith
 
 pub carve-requires : goal.carve-requires
 carve-requires c =
-    let f = (let b = c.smallest-b in let e = sym c.lowest_free.ensures ∙ c.in-At.is in took _ c.args.n c.requires.map_value.0 _ _ c.requires.le_pages b.ensures c.if-b-eq0.false e) in record { map_value = (f.blank.power, omega (arith, f.long, f.within, c.requires.map_value.1), f.blank.some); map_value_2 = f.blank.zeros }
+    let f = (let b = c.smallest-b in let e = sym c.lowest_free.ensures ∙ c.in-At.is in took _ c.args.n c.requires.sound.0 _ _ c.requires.some b.ensures c.if-b-eq0.false e) in record { block = (f.blank.power, omega (arith, f.long, f.within, c.requires.sound.1), f.blank.some); blank = f.blank.zeros }
 
 pub returns-in-Nowhere : goal.returns-in-Nowhere
 returns-in-Nowhere c =
     let b = c.smallest-b in
     let e = sym c.lowest_free.ensures ∙ c.in-Nowhere.is in
-    untaken _ c.args.n c.requires.map_value.0 (place_is _ c.args.n c.requires.map_value.0 _ b.ensures c.if-b-eq0.false ∙ e)
+    untaken _ c.args.n c.requires.sound.0 (place_is _ c.args.n c.requires.sound.0 _ b.ensures c.if-b-eq0.false ∙ e)
 
 pub returns-in-At : goal.returns-in-At
 returns-in-At c =
-    let f = (let b = c.smallest-b in let e = sym c.lowest_free.ensures ∙ c.in-At.is in took _ c.args.n c.requires.map_value.0 _ _ c.requires.le_pages b.ensures c.if-b-eq0.false e) in
+    let f = (let b = c.smallest-b in let e = sym c.lowest_free.ensures ∙ c.in-At.is in took _ c.args.n c.requires.sound.0 _ _ c.requires.some b.ensures c.if-b-eq0.false e) in
     (f.place, f.words _ c.carve.ensures)

@@ -9,7 +9,7 @@ allocate-requires c = search (rules, kinds, not-true, not-false)
 
 pub returns-then-not-by_halves : goal.returns-then-not-by_halves
 returns-then-not-by_halves c =
-    pages_takes c.args.o _ c.by_halves.ensures _ c.requires.map_value.0 c.if-not-by_halves.true
+    pages_takes c.args.o _ c.by_halves.ensures _ c.requires.sound.0 c.if-not-by_halves.true
     c.args.n c.args.first _ _ c.allocate.ensures
 
 pub allocate-requires-2 : goal.allocate-requires-2
@@ -17,15 +17,15 @@ allocate-requires-2 c = search (rules, kinds, not-true, not-false)
 
 pub overflow_add-page : goal.overflow_add-page
 overflow_add-page c =
-    page_fits c.args.o _ c.by_halves.ensures _ c.requires.map_value.0 c.if-not-by_halves.false
-    c.args.n c.args.first _ _ c.allocate-2.ensures c.requires.le_pages.1 c.requires.map_value.1 c.requires.le_pages.0 _ c.in-At.is
+    page_fits c.args.o _ c.by_halves.ensures _ c.requires.sound.0 c.if-not-by_halves.false
+    c.args.n c.args.first _ _ c.allocate-2.ensures c.requires.some.1 c.requires.sound.1 c.requires.some.0 _ c.in-At.is
 
 pub returns-in-Nowhere : goal.returns-in-Nowhere
 returns-in-Nowhere c =
-    halves_none c.args.o _ c.by_halves.ensures _ c.requires.map_value.0 c.if-not-by_halves.false
+    halves_none c.args.o _ c.by_halves.ensures _ c.requires.sound.0 c.if-not-by_halves.false
     c.args.n c.args.first _ _ c.allocate-2.ensures c.in-Nowhere.is
 
 pub returns-in-At : goal.returns-in-At
 returns-in-At c =
-    halves_at c.args.o _ c.by_halves.ensures _ c.requires.map_value.0 c.if-not-by_halves.false
+    halves_at c.args.o _ c.by_halves.ensures _ c.requires.sound.0 c.if-not-by_halves.false
     c.args.n c.args.first _ _ c.allocate-2.ensures _ c.in-At.is

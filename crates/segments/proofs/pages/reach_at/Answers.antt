@@ -5,16 +5,16 @@ use borrow.Author.Rules.{rules}
 use Rattle.segments.proofs.pages.reach_at.Goals as goal
 
 pub offset_bounds-map-p : goal.offset_bounds-map-p
-offset_bounds-map-p c = omega (arith, (extend_in _ _ c.requires.map_value.0 c.requires.bound), (extend_some _ _ c.requires.map_value.0 c.requires.bound))
+offset_bounds-map-p c = omega (arith, (extend_in _ _ c.requires.sound.0 c.requires.held), (extend_some _ _ c.requires.sound.0 c.requires.held))
 
 pub bounds-map-p : goal.bounds-map-p
-bounds-map-p c = omega (arith, (extend_in _ _ c.requires.map_value.0 c.requires.bound), (extend_some _ _ c.requires.map_value.0 c.requires.bound))
+bounds-map-p c = omega (arith, (extend_in _ _ c.requires.sound.0 c.requires.held), (extend_some _ _ c.requires.sound.0 c.requires.held))
 
 pub overflow_cast-next : goal.overflow_cast-next
-overflow_cast-next c = omega (arith, (extend_in _ _ c.requires.map_value.0 c.requires.bound))
+overflow_cast-next c = omega (arith, (extend_in _ _ c.requires.sound.0 c.requires.held))
 
 pub overflow_add-next : goal.overflow_add-next
-overflow_add-next c = omega (arith, (extend_in _ _ c.requires.map_value.0 c.requires.bound))
+overflow_add-next c = omega (arith, (extend_in _ _ c.requires.sound.0 c.requires.held))
 
 pub returns-then-map-next : goal.returns-then-map-next
 returns-then-map-next c = search (rules, reaching)
@@ -24,7 +24,7 @@ returns-then-follower-ne0 c = search (rules, reaching)
 
 pub overflow_add-result : goal.overflow_add-result
 overflow_add-result c =
-    omega (arith, extend_sum _ _ c.requires.map_value.0 c.requires.bound c.if-map-next.false c.if-follower-ne0.false, c.requires.map_value.1)
+    omega (arith, extend_sum _ _ c.requires.sound.0 c.requires.held c.if-map-next.false c.if-follower-ne0.false, c.requires.sound.1)
 
 pub returns : goal.returns
 returns c = search (rules, reaching)

@@ -9,9 +9,9 @@ previous-q-requires c = search (rules, changing)
 
 pub release-requires : goal.release-requires
 release-requires c = record {
-  map_value = (search (rules, changing), omega (arith, c.extend-pages.auto.map, c.requires.map_value.1));
-  le_pages = search (rules, changing);
-  q_value = search (rules, changing);
+  sound = (search (rules, changing), omega (arith, c.extend-pages.auto.map, c.requires.sound.1));
+  held = search (rules, changing);
+  previous = search (rules, changing);
 }
 
 pub returns : goal.returns

@@ -11,7 +11,7 @@ returns-then-gap-eq0 c = taking_low _ _ _ _ _ refl c.if-gap-eq0.true _ c.cut.ens
 pub cut-requires-3 : goal.cut-requires-3
 cut-requires-3 c =
     let l = cut_long _ _ _ _ _ _ c.cut-2.ensures in
-    (c.requires.le_k.0, omega (arith, c.requires.le_k.1), omega (arith, l, c.requires.le_k.1, c.requires.i_in_bounds.0), omega (arith, l, c.requires.i_in_bounds.1), omega arith)
+    (c.requires.some.0, omega (arith, c.requires.some.1), omega (arith, l, c.requires.some.1, c.requires.within.0), omega (arith, l, c.requires.within.1), omega arith)
 
 pub returns : goal.returns
 returns c =
