@@ -15,7 +15,7 @@ import os
 import re
 import sys
 
-NAME = r"(?:[^\s(){}.;,@\"«»])+"
+NAME = r"(?:[^\s(){}.;,@\"«»`])+"
 # Lemmas that the kit's script spelled like a definition.
 LEMMAS = {"all_words", "any_held", "held_word", "in_bytes", "in_order", "lent_one", "map_at", "other_name"}
 # Names that would meet one of a library.

@@ -1,4 +1,4 @@
--- The library's answers by the receipts (`theorem-library`): the words that the caller keeps are those of the record that the list of
+-- The library's answers by the receipts (`theorem_library`): the words that the caller keeps are those of the record that the list of
 -- calls reaches, and unpacking gives that record back; demand 3 then says what is answered. Assumes nothing.
 use mathlib.Core.Path.{◌≡◌, refl, ap, ◌∙◌, subst}
 use mathlib.Core.Bool.{true}

@@ -1,5 +1,5 @@
 -- A scan of a map's words, one by one: each word that is not 0 starts a segment, held where it is odd, and adds its pages to the page
--- number; a word 0 adds none. `atPage` is what a function says of the held segment that starts at page p. Assumes nothing.
+-- number; a word 0 adds none. `at_page` is what a function says of the held segment that starts at page p. Assumes nothing.
 use Prim.Native.Nat.{ℕ, zero, suc, ◌+◌, ◌/◌, ◌%◌, ◌≤◌, ◌<◌}
 use mathlib.Core.Path.{◌≡◌, refl, sym, ap}
 use mathlib.Core.Bool.{Bool, true, false, cond, ◌||◌}

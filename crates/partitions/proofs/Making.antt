@@ -1,5 +1,5 @@
 -- Making a partition: what each step of the code shows, over plain variables. The loop that chains the buffers has done so up to
--- number k, and what is left of `linkAll` from there gives the whole. Assumes nothing.
+-- number k, and what is left of `link_all` from there gives the whole. Assumes nothing.
 use Prim.Native.Nat.{ℕ, zero, suc, ◌+◌, ◌-◌, ◌*◌, ◌/◌, ◌%◌, ◌≤◌, ◌<◌}
 use mathlib.Core.Path.{◌≡◌, refl, ap, sym, ◌∙◌}
 use mathlib.Core.Bool.{true, cond}

@@ -1,4 +1,4 @@
--- THE WHOLE PROGRAM (`written-runs`): a script that is written from calls, of at most 32,768 bytes, is answered with the answers to those calls
+-- THE WHOLE PROGRAM (`written_runs`): a script that is written from calls, of at most 32,768 bytes, is answered with the answers to those calls
 -- and nothing else. Assumes nothing.
 use mathlib.Core.Path.{◌≡◌}
 use Prim.Native.Nat.{ℕ, ◌≤◌}

@@ -1,4 +1,4 @@
--- Texts that are put into a buffer one after another. `Puts` of each gives `Puts` of all (`puts-append`). In a loop `Left` holds: the stores of
+-- Texts that are put into a buffer one after another. `Puts` of each gives `Puts` of all (`puts_append`). In a loop `Left` holds: the stores of
 -- the whole text into the first buffer are those of the rest into this one. Assumes nothing.
 use mathlib.Core.Path.{◌≡◌, refl, sym, ◌∙◌}
 use Prim.Native.Nat.{ℕ, suc, ◌+◌, ◌≤◌, ◌<◌}

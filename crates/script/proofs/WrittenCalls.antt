@@ -1,5 +1,5 @@
--- The call reader reads exactly the written form of a call: it reads each written call back (`read-complete`), and what it reads is one
--- (`read-sound`). Proved over the table: no clause here names a call or a key. Assumes nothing.
+-- The call reader reads exactly the written form of a call: it reads each written call back (`read_complete`), and what it reads is one
+-- (`read_sound`). Proved over the table: no clause here names a call or a key. Assumes nothing.
 use mathlib.Core.Path.{◌≡◌, refl, sym, ◌∙◌, ap, subst}
 use Prim.Native.Nat.{ℕ, zero, suc, ◌+◌, ◌-◌, ◌≤◌, ◌<◌}
 use mathlib.Core.List.{List, [], ◌∷◌, ◌++◌, append_assoc, append-nil}

@@ -1,5 +1,5 @@
 -- THE ACCEPTANCE THEOREM (`accepts`): a script is read whole, as a list of calls, exactly when it is the written form of that list. Proved over
--- the table, by `read-complete` and `read-sound` of each call. Assumes nothing.
+-- the table, by `read_complete` and `read_sound` of each call. Assumes nothing.
 use mathlib.Core.Path.{◌≡◌, refl, sym, ◌∙◌, ap, subst}
 use mathlib.Core.Logic.{◌↔◌}
 use Prim.Native.Nat.{ℕ, zero, suc, ◌+◌, ◌-◌, ◌≤◌, ◌<◌}

@@ -14,7 +14,7 @@ unfoldable pub verdict_of : List Check → Verdict
 verdict_of [] = Good
 verdict_of (c ∷ cs) = cond c.fails (Bad c.status) (verdict_of cs)
 
--- the checks of a get by the region that it names, as `getSegment` has them, over that region's layout
+-- the checks of a get by the region that it names, as `get_segment` has them, over that region's layout
 abbrev pub ask_checks : Region → Layout → Need → ℕ → List Check
 ask_checks r l n alignment =
     check (not ((kind r).aligns alignment)) NotDefined

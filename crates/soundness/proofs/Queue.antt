@@ -1,6 +1,6 @@
 -- The walk over the wait queue. What is left of the queue behind the waiter `before` is sound (`left`) if each place is, no task there
 -- is one that was met (`seen`) or waits twice, and nobody goes before the one in front. A sound waiter that was not met goes on to
--- the places behind it (`left-next`); from an unused place on, all must be unused (`left-unused`). Assumes nothing.
+-- the places behind it (`left_step`); from an unused place on, all must be unused (`left_unused`). Assumes nothing.
 use Prim.Native.Nat.{ℕ, zero, suc, ◌+◌, ◌≤◌, ◌<◌}
 use mathlib.Core.Path.{◌≡◌, refl, sym, ap, ◌∙◌}
 use mathlib.Core.Bool.{Bool, true, false, cond, not, ◌&&◌, ◌||◌, and-false, and-true, and_assoc}

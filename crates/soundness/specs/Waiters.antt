@@ -1,4 +1,4 @@
--- What a sound waiter is, by the facts of the region that it waits in: `soundWaiter` in two parts, a function of the code each. Assumes
+-- What a sound waiter is, by the facts of the region that it waits in: `sound_waiter` in two parts, a function of the code each. Assumes
 -- nothing.
 use Rattle.std.specs.Prelude.{ℕ, Bool, false, ◌&&◌, List, [], leb}
 use Rattle.manager.specs.Record.{tasks, no_region, has_id}

@@ -1,5 +1,5 @@
--- The line reader reads exactly a key, a decimal number and a newline: it reads each such line back (`field-complete`), and what it reads is
--- one (`field-sound`). Assumes nothing.
+-- The line reader reads exactly a key, a decimal number and a newline: it reads each such line back (`field_complete`), and what it reads is
+-- one (`field_sound`). Assumes nothing.
 use mathlib.Core.Path.{◌≡◌, refl, sym, ◌∙◌, ap}
 use Prim.Native.Nat.{ℕ, zero, suc, ◌+◌, ◌-◌, ◌/◌, ◌%◌, ◌≤◌, ◌<◌}
 use mathlib.Core.List.{List, [], ◌∷◌, ◌++◌, append_assoc}

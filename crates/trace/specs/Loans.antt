@@ -1,5 +1,5 @@
 -- Rule 14.2: the loans of one region, and which pages they hold. The receipts keep a loan at the address that was
--- answered. Which pages it covers is read off the same list with each address turned into the number of its page (`inPages`). Nothing here
+-- answered. Which pages it covers is read off the same list with each address turned into the number of its page (`in_pages`). Nothing here
 -- looks at a map or at a memory. Assumes nothing.
 use Rattle.std.specs.Prelude.{◌≡◌, cond, List, [], ◌∷◌, ◌⊎◌, ℕ, zero, suc, ◌+◌, ◌/◌, ◌≤◌, ◌<◌, max, leb, eqb}
 

@@ -1,4 +1,4 @@
--- The page count is the largest number of pages that fits. It is searched from `mostPages` down, and no number above that fits, since
+-- The page count is the largest number of pages that fits. It is searched from `most_pages` down, and no number above that fits, since
 -- a page takes its size and a word of what lies from the area's start on. Assumes nothing.
 use Prim.Native.Nat.{ℕ, zero, suc, ◌+◌, ◌*◌, ◌/◌, ◌≤◌, ◌<◌}
 use mathlib.Core.Path.{◌≡◌, refl}

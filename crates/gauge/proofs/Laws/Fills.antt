@@ -1,5 +1,5 @@
--- The fills that a reading makes are numbers from 0 to 1 that a float of 64 bits holds: `fillOf`, and `smoothedBy` of two of them.
--- A kept fill that passes `isFill` is such a number, or -0, which is smoothed as 0 is. Assumes nothing.
+-- The fills that a reading makes are numbers from 0 to 1 that a float of 64 bits holds: `fill_of`, and `smoothed_by` of two of them.
+-- A kept fill that passes `is_fill` is such a number, or -0, which is smoothed as 0 is. Assumes nothing.
 use Prim.Native.Nat.{ℕ, zero, suc, ◌*◌, ◌^◌, ◌≤◌, ◌<◌, zero-le, suc-le-suc}
 use mathlib.Core.Path.{◌≡◌, refl, sym, ap, ◌∙◌, subst}
 use mathlib.Core.Logic.{◌⊎◌, inl, inr}

@@ -1,4 +1,4 @@
--- A chain of checks comes to a refusal or to the action: what holds of each holds of the answer (`by-checks`, `by_answer`). And what a
+-- A chain of checks comes to a refusal or to the action: what holds of each holds of the answer (`by_checks`, `by_answer`). And what a
 -- call performs, by an answer that names no memory. Assumes nothing.
 use Prim.Native.Nat.{ℕ}
 use mathlib.Core.Path.{◌≡◌, refl, sym, ◌∙◌}

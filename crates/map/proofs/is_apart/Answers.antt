@@ -1,4 +1,4 @@
--- `is_apart` meets its contract: one pass over the words says both that they are tiled and that no two free segments adjoin (`soundFrom`). Assumes nothing.
+-- `is_apart` meets its contract: one pass over the words says both that they are tiled and that no two free segments adjoin (`sound_from`). Assumes nothing.
 use borrow.Author.Rules.{rules}
 use Rattle.map.proofs.Check.{checking}
 use Rattle.map.proofs.is_apart.Goals as goal

@@ -1,5 +1,5 @@
 -- Maps by halves as they are built: a block is one segment, or two such halves, not both wholly free (`Halved`). All that is said of such
--- maps goes by induction over this. Nothing held is then one free block (`none-held`). Assumes nothing.
+-- maps goes by induction over this. Nothing held is then one free block (`none_held`). Assumes nothing.
 use Prim.Native.Nat.{ℕ, zero, suc, ◌+◌, ◌-◌, ◌^◌}
 use mathlib.Core.Path.{◌≡◌, refl, sym, ap, ◌∙◌}
 use mathlib.Core.Bool.{Bool, true, false, cond, not, ◌&&◌, ◌||◌}
