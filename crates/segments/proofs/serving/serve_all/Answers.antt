@@ -1,10 +1,10 @@
 -- `serve_all` meets its contract: after i slots, what is left to serve gives what serving all gives. Assumes nothing.
-use Rattle.segments.proofs.Rounds.{rounds}
+use Rattle.segments.proofs.Rounds.{rounds_start, rounds}
 use borrow.Author.Rules.{rules}
 use Rattle.segments.proofs.serving.serve_all.Goals as goal
 
 pub loop-i-init : goal.loop-i-init
-loop-i-init c = search (rules, rounds)
+loop-i-init c = rounds_start _ _ c.requires.0 c.requires.1
 
 pub serve_slot-told-requires : goal.serve_slot-told-requires
 serve_slot-told-requires c = search (rules, rounds)
