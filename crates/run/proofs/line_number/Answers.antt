@@ -16,7 +16,14 @@ returns-then-src-i c = c.loop-i.invariant.0 ∙ ap (λ (k : ℕ). k + 1) (newlin
 
 pub loop-i-preserved : goal.loop-i-preserved
 loop-i-preserved c =
-    elim c.if-src-i-eq10.branch [ then-src-i-eq10 w ↦ let h = newline_hit c.args.src.now c.loop-i.i (omega arith) w.if-src-i-eq10.true in (omega arith, omega arith, omega arith) | else-src-i-eq10 w ↦ let h = newline_miss c.args.src.now c.loop-i.i (omega arith) w.if-src-i-eq10.false in (omega arith, omega arith, omega arith) ]
+    elim c.if-src-i-eq10.branch [
+      | then-src-i-eq10 w ↦
+          let h = newline_hit c.args.src.now c.loop-i.i (omega arith) w.if-src-i-eq10.true in
+          (omega arith, omega arith, omega arith)
+      | else-src-i-eq10 w ↦
+          let h = newline_miss c.args.src.now c.loop-i.i (omega arith) w.if-src-i-eq10.false in
+          (omega arith, omega arith, omega arith)
+    ]
 
 pub returns : goal.returns
 returns c = let e : c.loop-i.i ≡ c.args.p = omega arith in rw (← e) c.loop-i.invariant.0

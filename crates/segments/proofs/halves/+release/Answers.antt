@@ -36,28 +36,48 @@ slice_bounds-release-end-then-p-half t c =
 
 pub release-requires : goal.release-requires
 release-requires t c =
-    let l = lent_low (holds _ _ c.requires.sound c.requires.held) c.if-map-all.false c.if-p-half.true in
-    let n = twice (holds _ _ c.requires.sound c.requires.held) c.if-map-all.false in
+    let h = holds _ _ c.requires.sound c.requires.held in
+    let l = lent_low h c.if-map-all.false c.if-p-half.true in
+    let n = twice h c.if-map-all.false in
     (omega (arith, l.long, n), ((l.holds.sound, omega (arith, l.long, n, c.requires.sound.1)), l.holds.held))
 
 pub release-requires-else-p-half : goal.release-requires-else-p-half
 release-requires-else-p-half t c =
-    let l = lent_high (holds _ _ c.requires.sound c.requires.held) c.if-map-all.false c.if-p-half.false in
-    let n = twice (holds _ _ c.requires.sound c.requires.held) c.if-map-all.false in
+    let h = holds _ _ c.requires.sound c.requires.held in
+    let l = lent_high h c.if-map-all.false c.if-p-half.false in
+    let n = twice h c.if-map-all.false in
     (omega (arith, l.long, n), ((l.holds.sound, omega (arith, l.long, n, c.requires.sound.1)), l.holds.held))
 
 pub join-requires : goal.join-requires
 join-requires t c =
-    let f : Freed c.args.p c.args.map.now c.if-p-half.map = (let h = holds _ _ c.requires.sound c.requires.held in let ne = c.if-map-all.false in elim c.if-p-half.branch [ then-p-half w ↦ rw w.map-is (freed_low h ne w.if-p-half.true _ w.release.ensures) | else-p-half w ↦ rw w.map-is (freed_high h ne w.if-p-half.false _ w.release-else-p-half.ensures) ]) in
-    let n = twice (holds _ _ c.requires.sound c.requires.held) c.if-map-all.false in
+    let h = holds _ _ c.requires.sound c.requires.held in
+    let ne = c.if-map-all.false in
+    let f : Freed c.args.p c.args.map.now c.if-p-half.map =
+    elim c.if-p-half.branch [
+      | then-p-half w ↦ rw w.map-is (freed_low h ne w.if-p-half.true _ w.release.ensures)
+      | else-p-half w ↦ rw w.map-is (freed_high h ne w.if-p-half.false _ w.release-else-p-half.ensures)
+    ] in
+    let n = twice h ne in
     record { halved = (n.0, omega (arith, n, c.requires.sound.1), f.long ∙ n.1); both_tiled = (f.low, f.high) }
 
 pub shape_of-map : goal.shape_of-map
 shape_of-map t c =
-    let f : Freed c.args.p c.args.map.now c.if-p-half.map = (let h = holds _ _ c.requires.sound c.requires.held in let ne = c.if-map-all.false in elim c.if-p-half.branch [ then-p-half w ↦ rw w.map-is (freed_low h ne w.if-p-half.true _ w.release.ensures) | else-p-half w ↦ rw w.map-is (freed_high h ne w.if-p-half.false _ w.release-else-p-half.ensures) ]) in
+    let h = holds _ _ c.requires.sound c.requires.held in
+    let ne = c.if-map-all.false in
+    let f : Freed c.args.p c.args.map.now c.if-p-half.map =
+    elim c.if-p-half.branch [
+      | then-p-half w ↦ rw w.map-is (freed_low h ne w.if-p-half.true _ w.release.ensures)
+      | else-p-half w ↦ rw w.map-is (freed_high h ne w.if-p-half.false _ w.release-else-p-half.ensures)
+    ] in
     c.join.auto.map ∙ f.long
 
 pub returns : goal.returns
 returns t c =
-    let f : Freed c.args.p c.args.map.now c.if-p-half.map = (let h = holds _ _ c.requires.sound c.requires.held in let ne = c.if-map-all.false in elim c.if-p-half.branch [ then-p-half w ↦ rw w.map-is (freed_low h ne w.if-p-half.true _ w.release.ensures) | else-p-half w ↦ rw w.map-is (freed_high h ne w.if-p-half.false _ w.release-else-p-half.ensures) ]) in
+    let h = holds _ _ c.requires.sound c.requires.held in
+    let ne = c.if-map-all.false in
+    let f : Freed c.args.p c.args.map.now c.if-p-half.map =
+    elim c.if-p-half.branch [
+      | then-p-half w ↦ rw w.map-is (freed_low h ne w.if-p-half.true _ w.release.ensures)
+      | else-p-half w ↦ rw w.map-is (freed_high h ne w.if-p-half.false _ w.release-else-p-half.ensures)
+    ] in
     c.join.ensures ∙ f.joined

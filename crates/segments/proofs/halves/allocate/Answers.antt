@@ -17,26 +17,46 @@ pub lowest_free-requires : goal.lowest_free-requires
 lowest_free-requires c = search (rules, sound_tiled)
 
 pub overflow_add-end : goal.overflow_add-end
-overflow_add-end c = let f = (let b = c.smallest-b in let e = sym c.lowest_free.ensures ∙ c.in-At.is in took _ c.args.n c.requires.sound.0 _ _ c.requires.some b.ensures c.if-b-eq0.false e) in omega arith
+overflow_add-end c =
+    let e = sym c.lowest_free.ensures ∙ c.in-At.is in
+    let f = took _ c.args.n c.requires.sound.0 _ _ c.requires.some c.smallest-b.ensures c.if-b-eq0.false e in
+    omega arith
 
 pub offset_bounds-map-i : goal.offset_bounds-map-i
-offset_bounds-map-i c = let f = (let b = c.smallest-b in let e = sym c.lowest_free.ensures ∙ c.in-At.is in took _ c.args.n c.requires.sound.0 _ _ c.requires.some b.ensures c.if-b-eq0.false e) in omega arith
+offset_bounds-map-i c =
+    let e = sym c.lowest_free.ensures ∙ c.in-At.is in
+    let f = took _ c.args.n c.requires.sound.0 _ _ c.requires.some c.smallest-b.ensures c.if-b-eq0.false e in
+    omega arith
 
 pub slice_bounds-carve-count : goal.slice_bounds-carve-count
-slice_bounds-carve-count c = let f = (let b = c.smallest-b in let e = sym c.lowest_free.ensures ∙ c.in-At.is in took _ c.args.n c.requires.sound.0 _ _ c.requires.some b.ensures c.if-b-eq0.false e) in omega arith
+slice_bounds-carve-count c =
+    let e = sym c.lowest_free.ensures ∙ c.in-At.is in
+    let f = took _ c.args.n c.requires.sound.0 _ _ c.requires.some c.smallest-b.ensures c.if-b-eq0.false e in
+    omega arith
 
 pub slice_bounds-carve-start : goal.slice_bounds-carve-start
-slice_bounds-carve-start c = let f = (let b = c.smallest-b in let e = sym c.lowest_free.ensures ∙ c.in-At.is in took _ c.args.n c.requires.sound.0 _ _ c.requires.some b.ensures c.if-b-eq0.false e) in omega arith
+slice_bounds-carve-start c =
+    let e = sym c.lowest_free.ensures ∙ c.in-At.is in
+    let f = took _ c.args.n c.requires.sound.0 _ _ c.requires.some c.smallest-b.ensures c.if-b-eq0.false e in
+    omega arith
 
 pub slice_bounds-carve-end : goal.slice_bounds-carve-end
-slice_bounds-carve-end c = let f = (let b = c.smallest-b in let e = sym c.lowest_free.ensures ∙ c.in-At.is in took _ c.args.n c.requires.sound.0 _ _ c.requires.some b.ensures c.if-b-eq0.false e) in omega arith
+slice_bounds-carve-end c =
+    let e = sym c.lowest_free.ensures ∙ c.in-At.is in
+    let f = took _ c.args.n c.requires.sound.0 _ _ c.requires.some c.smallest-b.ensures c.if-b-eq0.false e in
+    omega arith
 
 pub overflow_cast-k : goal.overflow_cast-k
-overflow_cast-k c = let f = (let b = c.smallest-b in let e = sym c.lowest_free.ensures ∙ c.in-At.is in took _ c.args.n c.requires.sound.0 _ _ c.requires.some b.ensures c.if-b-eq0.false e) in omega arith
+overflow_cast-k c =
+    let e = sym c.lowest_free.ensures ∙ c.in-At.is in
+    let f = took _ c.args.n c.requires.sound.0 _ _ c.requires.some c.smallest-b.ensures c.if-b-eq0.false e in
+    omega arith
 
 pub carve-requires : goal.carve-requires
 carve-requires c =
-    let f = (let b = c.smallest-b in let e = sym c.lowest_free.ensures ∙ c.in-At.is in took _ c.args.n c.requires.sound.0 _ _ c.requires.some b.ensures c.if-b-eq0.false e) in record { block = (f.blank.power, omega (arith, f.long, f.within, c.requires.sound.1), f.blank.some); blank = f.blank.zeros }
+    let e = sym c.lowest_free.ensures ∙ c.in-At.is in
+    let f = took _ c.args.n c.requires.sound.0 _ _ c.requires.some c.smallest-b.ensures c.if-b-eq0.false e in
+    record { block = (f.blank.power, omega (arith, f.long, f.within, c.requires.sound.1), f.blank.some); blank = f.blank.zeros }
 
 pub returns-in-Nowhere : goal.returns-in-Nowhere
 returns-in-Nowhere c =
@@ -46,5 +66,6 @@ returns-in-Nowhere c =
 
 pub returns-in-At : goal.returns-in-At
 returns-in-At c =
-    let f = (let b = c.smallest-b in let e = sym c.lowest_free.ensures ∙ c.in-At.is in took _ c.args.n c.requires.sound.0 _ _ c.requires.some b.ensures c.if-b-eq0.false e) in
+    let e = sym c.lowest_free.ensures ∙ c.in-At.is in
+    let f = took _ c.args.n c.requires.sound.0 _ _ c.requires.some c.smallest-b.ensures c.if-b-eq0.false e in
     (f.place, f.words _ c.carve.ensures)

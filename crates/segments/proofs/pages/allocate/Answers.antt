@@ -10,25 +10,28 @@ find-requires c =
     (sound_tiled _ _ c.requires.sound.0, c.requires.sound.1, c.requires.some.1)
 
 pub overflow_add-at : goal.overflow_add-at
-overflow_add-at c = let f = (took c.args.n _ _ _ c.requires.sound.0 c.requires.some.0 (sym c.find.ensures ∙ c.in-At.is)) in omega (arith, f.within, c.requires.sound.1, c.requires.some.1)
+overflow_add-at c =
+    let f = took c.args.n _ _ _ c.requires.sound.0 c.requires.some.0 (sym c.find.ensures ∙ c.in-At.is) in
+    omega (arith, f.within, c.requires.sound.1, c.requires.some.1)
 
 pub overflow_cast-gap : goal.overflow_cast-gap
 overflow_cast-gap c =
-    let f = (took c.args.n _ _ _ c.requires.sound.0 c.requires.some.0 (sym c.find.ensures ∙ c.in-At.is)) in
+    let f = took c.args.n _ _ _ c.requires.sound.0 c.requires.some.0 (sym c.find.ensures ∙ c.in-At.is) in
     omega (arith, f.room, f.within, c.requires.sound.1, c.gap_to-gap.ensures)
 
 pub overflow_cast-n : goal.overflow_cast-n
 overflow_cast-n c =
-    let f = (took c.args.n _ _ _ c.requires.sound.0 c.requires.some.0 (sym c.find.ensures ∙ c.in-At.is)) in
+    let f = took c.args.n _ _ _ c.requires.sound.0 c.requires.some.0 (sym c.find.ensures ∙ c.in-At.is) in
     omega (arith, f.room, f.within, c.requires.sound.1)
 
 pub take_at-requires : goal.take_at-requires
 take_at-requires c =
-    let f = (took c.args.n _ _ _ c.requires.sound.0 c.requires.some.0 (sym c.find.ensures ∙ c.in-At.is)) in record { some = (c.requires.some.0, omega (arith, f.room, c.gap_to-gap.ensures)); within = (f.within, c.requires.sound.1) }
+    let f = took c.args.n _ _ _ c.requires.sound.0 c.requires.some.0 (sym c.find.ensures ∙ c.in-At.is) in
+    record { some = (c.requires.some.0, omega (arith, f.room, c.gap_to-gap.ensures)); within = (f.within, c.requires.sound.1) }
 
 pub overflow_add-page : goal.overflow_add-page
 overflow_add-page c =
-    let f = (took c.args.n _ _ _ c.requires.sound.0 c.requires.some.0 (sym c.find.ensures ∙ c.in-At.is)) in
+    let f = took c.args.n _ _ _ c.requires.sound.0 c.requires.some.0 (sym c.find.ensures ∙ c.in-At.is) in
     omega (arith, f.room, f.within, c.requires.sound.1, c.requires.some.1, c.gap_to-gap.ensures)
 
 pub returns-in-Nowhere : goal.returns-in-Nowhere
@@ -37,6 +40,6 @@ returns-in-Nowhere c =
 
 pub returns-in-At : goal.returns-in-At
 returns-in-At c =
-    let f = (took c.args.n _ _ _ c.requires.sound.0 c.requires.some.0 (sym c.find.ensures ∙ c.in-At.is)) in
+    let f = took c.args.n _ _ _ c.requires.sound.0 c.requires.some.0 (sym c.find.ensures ∙ c.in-At.is) in
     let e = c.gap_to-gap.ensures in
     (page_is _ _ _ _ f _ e, words_are _ _ _ _ f _ e _ c.take_at.ensures)
