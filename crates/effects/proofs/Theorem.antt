@@ -1,4 +1,5 @@
 -- DEMAND 1, of the definitions: what each directive writes, by its action alone, and a case for each. Assumes nothing.
+use Rattle.std.specs.Prelude.{Option, None, Some}
 use mathlib.Core.Path.{◌≡◌, refl, sym, ◌∙◌, subst, ap}
 use mathlib.Core.Bool.{true, false, cond, false≢true}
 use mathlib.Core.List.{List, [], ◌∷◌}
@@ -28,8 +29,6 @@ use Rattle.manager.specs.declared.Region.{Region}
 use Rattle.manager.specs.declared.Waiter.{Waiter}
 use Rattle.manager.specs.declared.Order.{Order}
 use Rattle.manager.specs.declared.Need.{Need}
-use Rattle.manager.specs.declared.Place.{Place}
-use Rattle.manager.specs.declared.Place.TheVariants.{At, Nowhere}
 use Rattle.manager.specs.declared.Wait.{Wait}
 use Rattle.manager.specs.declared.Wait.TheVariants.{No, Yes}
 use Rattle.manager.specs.declared.Call.TheVariants.{CreateRegion, IdentRegion, DeleteRegion, GetSegment, ReturnSegment, SegmentSize, ResizeSegment, RegionInformation, Tick, CreatePartition, IdentPartition, DeletePartition, GetBuffer, ReturnBuffer}
@@ -112,7 +111,7 @@ module _ (m : List ℕ) (d : Manager) where
     abbrev need : Need
     need = need_of (region_of d id) size alignment
 
-    abbrev found : Wait → Place → Result
+    abbrev found : Wait → Option ℕ → Result
     found wait g =
         let r = region_of d id in
         on_place g (λ p. done (taken m r need) d (address_of r p))
@@ -134,12 +133,12 @@ module _ (m : List ℕ) (d : Manager) where
           only = λ x. unchanged;
         }
 
-    get_acts : (wait : Wait) → sound m d ≡ true → dead (region_of d id) ≡ false → (g : Place) → CallEffects m d (GetSegment id size alignment wait task priority ticks) (found wait g)
+    get_acts : (wait : Wait) → sound m d ≡ true → dead (region_of d id) ≡ false → (g : Option ℕ) → CallEffects m d (GetSegment id size alignment wait task priority ticks) (found wait g)
     unfolding any
-    get_acts No ok live (At p) = acts m d (GetSegment id size alignment No task priority ticks) ok _ refl refl (λ w. taken_only ok live)
-    get_acts Yes ok live (At p) = acts m d (GetSegment id size alignment Yes task priority ticks) ok _ refl refl (λ w. taken_only ok live)
-    get_acts No ok live Nowhere = refuses m d (GetSegment id size alignment No task priority ticks) ok Unsatisfied 0 refl refl refl refl
-    get_acts Yes ok live Nowhere = waits _ ok
+    get_acts No ok live (Some p) = acts m d (GetSegment id size alignment No task priority ticks) ok _ refl refl (λ w. taken_only ok live)
+    get_acts Yes ok live (Some p) = acts m d (GetSegment id size alignment Yes task priority ticks) ok _ refl refl (λ w. taken_only ok live)
+    get_acts No ok live None = refuses m d (GetSegment id size alignment No task priority ticks) ok Unsatisfied 0 refl refl refl refl
+    get_acts Yes ok live None = waits _ ok
 
     get_segment_lem : (wait : Wait) → CallEffects m d (GetSegment id size alignment wait task priority ticks) (get_segment m d id size alignment wait task priority ticks)
     unfolding get_segment every any Passed

@@ -12,7 +12,7 @@ fn notice(words: &mut [u32], at: usize, n: Notice)
     ensures { words.new ≡ sets words.old at (notice_words n) }
 {
     let s = n.status;
-    let status = manager::number(s);
+    let status = u32::from(s);
     words[at] = n.task;
     words[at + 1] = status;
     words[at + 2] = n.address;

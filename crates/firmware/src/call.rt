@@ -38,5 +38,5 @@ pub(crate) fn run_call(state: &mut [u32], memory: &mut [u32], answer: &mut [u32]
     packing::pack(after, state);
     crate::answer::put(answer, given);
     let s = given.status;
-    manager::number(s)
+    u32::from(s)
 }

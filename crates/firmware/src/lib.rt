@@ -284,7 +284,7 @@ pub fn sc_segment_write(
     let d = unpacked.manager;
     let given = access::write_segment(memory, d, id, address, first, words);
     let s = given.status;
-    manager::number(s)
+    u32::from(s)
 }
 
 // Reads a gauge: so many held bytes of a total.

@@ -74,7 +74,7 @@ pub(crate) fn leave(words: &mut [u64; 2], sounds: &mut u32, given: Reading) -> u
     ensures { LeavesGauge (left words.old given) words.new sounds.new result }
 {
     let s = given.status;
-    let status = manager::number(s);
+    let status = u32::from(s);
     *sounds = given.sounds as u32;
     if status == 0 {
         let g = given.gauge;

@@ -1,5 +1,6 @@
 -- What follows from the definitions: a file for each file of specs/, and the laws of lists that they need.
 pub mod Lists
+pub mod Chains
 pub mod Tests
 pub mod Appended
 pub mod Distinct

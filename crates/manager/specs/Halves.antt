@@ -1,11 +1,9 @@
 -- Rules 5.5 to 5.10: how a region by halves places, frees and resizes segments. Its pages are one block of a power of two pages; a block is
 -- free, or held, or cut into its two halves, and so on downwards. A block of 2^j pages can be halved j times. Assumes nothing.
-use Rattle.std.specs.Prelude.{ℕ, zero, suc, ◌+◌, ◌-◌, ◌/◌, ◌^◌, ◌≡◌, ◌⊎◌, Bool, true, false, cond, not, ◌&&◌, ◌||◌, List, [], ◌∷◌, ◌++◌, eqb, leb, ltb}
+use Rattle.std.specs.Prelude.{ℕ, zero, suc, ◌+◌, ◌-◌, ◌/◌, ◌^◌, ◌≡◌, ◌⊎◌, Bool, true, false, cond, not, ◌&&◌, ◌||◌, List, [], ◌∷◌, ◌++◌, eqb, leb, ltb, Option, None, Some}
 use Rattle.arith.specs.Power.{level, power_up, is_power}
 use Rattle.manager.specs.Map.{Segment, free, held, size_of, total}
 use Rattle.manager.specs.Kind.{Kind, held_from}
-use Rattle.manager.specs.declared.Place.{Place}
-use Rattle.manager.specs.declared.Place.TheVariants.{At, Nowhere}
 
 -- the segments of the first n pages of a map, and those behind them
 unfoldable pub low_of : ℕ → List Segment → List Segment
@@ -51,14 +49,14 @@ smallest k (held n ∷ s) = smallest k s
 smallest k (free n ∷ s) = cond (leb k n) (lesser n (smallest k s)) (smallest k s)
 
 -- the lowest free block of b pages. Its first page, where the map starts at page `at`
-unfoldable pub lowest_free : ℕ → ℕ → List Segment → Place
-lowest_free b at [] = Nowhere
+unfoldable pub lowest_free : ℕ → ℕ → List Segment → Option ℕ
+lowest_free b at [] = None
 lowest_free b at (held n ∷ s) = lowest_free b (at + n) s
-lowest_free b at (free n ∷ s) = cond (eqb n b) (At at) (lowest_free b (at + n) s)
+lowest_free b at (free n ∷ s) = cond (eqb n b) (Some at) (lowest_free b (at + n) s)
 
 -- "the smallest free block that is large enough serves, lowest address first"
-unfoldable pub place_block : ℕ → ℕ → List Segment → Place
-place_block k at s = cond (eqb (smallest k s) 0) Nowhere (lowest_free (smallest k s) at s)
+unfoldable pub place_block : ℕ → ℕ → List Segment → Option ℕ
+place_block k at s = cond (eqb (smallest k s) 0) None (lowest_free (smallest k s) at s)
 
 -- "the block is halved again and again until it has the asked size, the low half going on": a block of b pages that can be halved j times
 unfoldable pub carve : ℕ → ℕ → ℕ → List Segment

@@ -1,9 +1,7 @@
 -- Rule 5.4: a kind of region is one record of functions on maps, and the directives and the queue are stated over it. Assumes nothing.
-use Rattle.std.specs.Prelude.{ℕ, ◌+◌, Bool, true, false, cond, List, [], ◌∷◌, eqb}
+use Rattle.std.specs.Prelude.{ℕ, ◌+◌, Bool, true, false, cond, List, [], ◌∷◌, eqb, Option, None, Some}
 use Rattle.manager.specs.Map.{Segment, free, held}
 use Rattle.manager.specs.declared.Need.{Need}
-use Rattle.manager.specs.declared.Place.{Place}
-use Rattle.manager.specs.declared.Place.TheVariants.{At, Nowhere}
 
 -- a kind of region
 pub record Kind : Type 0 where
@@ -16,18 +14,18 @@ pub record Kind : Type 0 where
   pub proper : List Segment → Bool
   -- of a map that starts at page `at`, the argument before it: where the pages of a need are placed, and the map with the k pages from a page
   -- on held
-  pub place : Need → ℕ → List Segment → Place
+  pub place : Need → ℕ → List Segment → Option ℕ
   pub occupy : ℕ → ℕ → ℕ → List Segment → List Segment
   -- whether the held segment at a page can have k pages, and the map with k pages for it (0: it is returned)
   pub can_have : ℕ → ℕ → ℕ → List Segment → Bool
   pub change : ℕ → ℕ → ℕ → List Segment → List Segment
 
 -- by where a search ends
-abbrev pub on_place : {A : Type 0} → Place → (ℕ → A) → A → A
-on_place (At p) f z = f p
-on_place Nowhere f z = z
+abbrev pub on_place : {A : Type 0} → Option ℕ → (ℕ → A) → A → A
+on_place (Some p) f z = f p
+on_place None f z = z
 
-abbrev pub is_place : Place → Bool
+abbrev pub is_place : Option ℕ → Bool
 is_place q = on_place q (λ p. true) false
 
 -- Get: the pages are held where they are placed; where they are not, nothing changes

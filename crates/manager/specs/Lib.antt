@@ -1,4 +1,5 @@
 pub mod Status
+pub mod Numbers
 pub mod Record
 pub mod Result
 pub mod Lists

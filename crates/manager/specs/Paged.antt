@@ -1,13 +1,11 @@
 -- Rules 5.1 to 5.3: how a region of pages places, frees and resizes segments. Assumes nothing.
-use Rattle.std.specs.Prelude.{ℕ, zero, suc, ◌+◌, ◌-◌, Bool, true, cond, ◌&&◌, ◌||◌, List, [], ◌∷◌, eqb, leb}
+use Rattle.std.specs.Prelude.{ℕ, zero, suc, ◌+◌, ◌-◌, Bool, true, cond, ◌&&◌, ◌||◌, List, [], ◌∷◌, eqb, leb, Option, None, Some}
 use Rattle.manager.specs.Lists.{adjacent}
 use Rattle.arith.specs.Round.{align_up}
 use Rattle.arith.specs.Layout.{any_number}
 use Rattle.manager.specs.Map.{Segment, free, held, is_held_segment}
 use Rattle.manager.specs.Kind.{Kind}
 use Rattle.manager.specs.declared.Need.{Need}
-use Rattle.manager.specs.declared.Place.{Place}
-use Rattle.manager.specs.declared.Place.TheVariants.{At, Nowhere}
 
 -- Map: no two free segments adjoin
 abbrev pub one_held : Segment → Segment → Bool
@@ -46,11 +44,11 @@ room_from (suc every) at n = at + n - align_up (suc every) at
 
 -- Get: "the lowest fitting address wins". The lowest page on the alignment from which on a free segment has the pages, where the map starts
 -- at page `at`
-unfoldable pub place_from : Need → ℕ → List Segment → Place
-place_from w at [] = Nowhere
+unfoldable pub place_from : Need → ℕ → List Segment → Option ℕ
+place_from w at [] = None
 place_from w at (held n ∷ s) = place_from w (at + n) s
 place_from w at (free n ∷ s) =
-    cond (leb w.pages (room_from w.every at n)) (At (align_up w.every at)) (place_from w (at + n) s)
+    cond (leb w.pages (room_from w.every at n)) (Some (align_up w.every at)) (place_from w (at + n) s)
 
 -- k pages from page p on are held, where they lie in a free segment: what it has before them and behind them stays free
 unfoldable pub occupy_from : ℕ → ℕ → ℕ → List Segment → List Segment

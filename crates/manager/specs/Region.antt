@@ -1,5 +1,5 @@
 -- Rules 6: where a region's map and pages lie in the memory. Assumes nothing.
-use Rattle.std.specs.Prelude.{ℕ, ◌+◌, ◌*◌, ◌/◌, ◌%◌, Bool, true, false, cond, ◌&&◌, List, [], ◌∷◌, ◌++◌, take, drop, eqb, leb, ltb}
+use Rattle.std.specs.Prelude.{ℕ, ◌+◌, ◌*◌, ◌/◌, ◌%◌, Bool, true, false, cond, ◌&&◌, List, [], ◌∷◌, ◌++◌, take, drop, eqb, leb, ltb, Option}
 use Rattle.std.proofs.lemmas.List.Edits.{sets}
 use Rattle.arith.specs.Round.{pages_for}
 use Rattle.arith.specs.Layout.{layout_of as layoutAt}
@@ -16,7 +16,6 @@ use Rattle.manager.specs.declared.Partition.{Partition}
 use Rattle.manager.specs.declared.Manager.{Manager}
 use Rattle.manager.specs.declared.Area.{Area}
 use Rattle.manager.specs.declared.Need.{Need}
-use Rattle.manager.specs.declared.Place.{Place}
 
 -- a region of a name is live; an empty slot is not
 abbrev pub dead : Region → Bool
@@ -121,7 +120,7 @@ abbrev pub servable : Region → Need → Bool
 servable r w = servable_at (kind r) (layout_of r) w
 
 -- where the pages of a need are placed, and the memory after they are taken there
-abbrev pub placed : List ℕ → Region → Need → Place
+abbrev pub placed : List ℕ → Region → Need → Option ℕ
 placed m r w = (kind r).place w (first_page_of r) (segments m r)
 
 abbrev pub taken : List ℕ → Region → Need → List ℕ

@@ -1,14 +1,16 @@
 // The types of the memory manager. What each directive does is said in specs/; this crate makes only the fresh record and the
-// numbers of the answers.
+// numbers of the answers and of the choices.
 #![tactic(auto)]
 
 ghost use Rattle.std.specs.Prelude.{◌≡◌};
+ghost use Rattle.manager.specs.Numbers.{order_of, wait_of};
 ghost use Rattle.manager.specs.Record.{fresh, emptied_region, emptied_partition};
 ghost use Rattle.manager.specs.Status.{number_of};
 
 // The discipline of a region's wait queue, by arrival or by priority, and the region's kind: of pages, or by halves.
-#[derive(Clone, Copy)]
+#[derive(Clone, Copy, Default, PartialEq, Eq)]
 pub enum Order {
+    #[default]
     Fifo,
     Priority,
     HalvesFifo,
@@ -16,15 +18,16 @@ pub enum Order {
 }
 
 // Whether a get may wait.
-#[derive(Clone, Copy)]
+#[derive(Clone, Copy, PartialEq, Eq)]
 pub enum Wait {
     No,
     Yes,
 }
 
 // The answers (rule 2.1), under their RTEMS names. `Waiting` is the house's own: the task now waits.
-#[derive(Clone, Copy)]
+#[derive(Clone, Copy, Default, PartialEq, Eq)]
 pub enum Status {
+    #[default]
     Successful,
     InvalidName,
     InvalidId,
@@ -42,8 +45,67 @@ pub enum Status {
     Waiting,
 }
 
+// A number that stands for no order, or for neither choice of `Wait`.
+#[derive(Clone, Copy, PartialEq, Eq)]
+pub struct UnknownNumber(pub u32);
+
+impl TryFrom<u32> for Order {
+    type Error = UnknownNumber;
+
+    ghost try_from_gives = { λ n r. r ≡ order_of n };
+
+    fn try_from(n: u32) -> Result<Order, UnknownNumber> {
+        match n {
+            0 => Ok(Order::Fifo),
+            1 => Ok(Order::Priority),
+            2 => Ok(Order::HalvesFifo),
+            3 => Ok(Order::HalvesPriority),
+            _ => Err(UnknownNumber(n)),
+        }
+    }
+}
+
+impl TryFrom<u32> for Wait {
+    type Error = UnknownNumber;
+
+    ghost try_from_gives = { λ n r. r ≡ wait_of n };
+
+    fn try_from(n: u32) -> Result<Wait, UnknownNumber> {
+        match n {
+            0 => Ok(Wait::No),
+            1 => Ok(Wait::Yes),
+            _ => Err(UnknownNumber(n)),
+        }
+    }
+}
+
+// The numbers of rule 2.1.
+impl From<Status> for u32 {
+    ghost from_gives = { λ s n. n ≡ number_of s };
+
+    fn from(s: Status) -> u32 {
+        match s {
+            Status::Successful => 0,
+            Status::InvalidName => 3,
+            Status::InvalidId => 4,
+            Status::TooMany => 5,
+            Status::Timeout => 6,
+            Status::InvalidSize => 8,
+            Status::InvalidAddress => 9,
+            Status::InvalidNumber => 10,
+            Status::NotDefined => 11,
+            Status::ResourceInUse => 12,
+            Status::Unsatisfied => 13,
+            Status::IncorrectState => 14,
+            Status::InvalidPriority => 19,
+            Status::InternalError => 25,
+            Status::Waiting => 255,
+        }
+    }
+}
+
 // A region: its slot's generation, its area as asked for, its page size, rounded, and its order. An empty slot has name 0.
-#[derive(Clone, Copy)]
+#[derive(Clone, Copy, Default, PartialEq, Eq)]
 pub struct Region {
     pub name: u32,
     pub generation: u32,
@@ -54,7 +116,7 @@ pub struct Region {
 }
 
 // A partition: its slot's generation, its area as asked for, its buffer size, and the ends and the length of the chain of free buffers.
-#[derive(Clone, Copy)]
+#[derive(Clone, Copy, Default, PartialEq, Eq)]
 pub struct Partition {
     pub name: u32,
     pub generation: u32,
@@ -67,7 +129,7 @@ pub struct Partition {
 }
 
 // A task that waits for a segment of a region. An unused place has task 0.
-#[derive(Clone, Copy)]
+#[derive(Clone, Copy, Default, PartialEq, Eq)]
 pub struct Waiter {
     pub task: u32,
     pub region: u32,
@@ -78,7 +140,7 @@ pub struct Waiter {
 }
 
 // What a waiting task is told: the segment that it now holds, or that its time ran out.
-#[derive(Clone, Copy)]
+#[derive(Clone, Copy, Default, PartialEq, Eq)]
 pub struct Notice {
     pub task: u32,
     pub status: Status,
@@ -86,7 +148,7 @@ pub struct Notice {
 }
 
 // Count, largest and total bytes of the free segments of a region, and of the held ones.
-#[derive(Clone, Copy)]
+#[derive(Clone, Copy, Default, PartialEq, Eq)]
 pub struct Information {
     pub free_count: u32,
     pub free_largest: u32,
@@ -108,13 +170,6 @@ pub struct Area {
 pub struct Need {
     pub pages: u64,
     pub every: u32,
-}
-
-// Where a search for pages ends: at a page, or nowhere.
-#[derive(Clone, Copy)]
-pub enum Place {
-    At(usize),
-    Nowhere,
 }
 
 // The manager record (the paper's desk). The queue is kept by region, and within one in the order in which it is served.
@@ -204,12 +259,8 @@ impl Region {
         ensures { result ≡ emptied_region generation }
     {
         Region {
-            name: 0,
             generation,
-            start: 0,
-            length: 0,
-            page: 0,
-            order: Order::Fifo,
+            ..Region::default()
         }
     }
 }
@@ -220,14 +271,8 @@ impl Partition {
         ensures { result ≡ emptied_partition generation }
     {
         Partition {
-            name: 0,
             generation,
-            start: 0,
-            length: 0,
-            size: 0,
-            front: 0,
-            rear: 0,
-            free: 0,
+            ..Partition::default()
         }
     }
 }
@@ -245,43 +290,10 @@ impl Manager {
     pub fn new() -> Manager
         ensures { result ≡ fresh }
     {
-        let region = Region::emptied(0);
-        let partition = Partition::emptied(0);
-        let waiter = Waiter {
-            task: 0,
-            region: 0,
-            size: 0,
-            alignment: 0,
-            priority: 0,
-            ticks: 0,
-        };
         Manager {
-            regions: [region; Manager::SLOTS],
-            partitions: [partition; Manager::SLOTS],
-            waiters: [waiter; Manager::TASKS],
+            regions: [Region::default(); Manager::SLOTS],
+            partitions: [Partition::default(); Manager::SLOTS],
+            waiters: [Waiter::default(); Manager::TASKS],
         }
-    }
-}
-
-// The number of a status (rule 2.1).
-pub fn number(s: Status) -> u32
-    ensures { result ≡ number_of s }
-{
-    match s {
-        Status::Successful => 0,
-        Status::InvalidName => 3,
-        Status::InvalidId => 4,
-        Status::TooMany => 5,
-        Status::Timeout => 6,
-        Status::InvalidSize => 8,
-        Status::InvalidAddress => 9,
-        Status::InvalidNumber => 10,
-        Status::NotDefined => 11,
-        Status::ResourceInUse => 12,
-        Status::Unsatisfied => 13,
-        Status::IncorrectState => 14,
-        Status::InvalidPriority => 19,
-        Status::InternalError => 25,
-        Status::Waiting => 255,
     }
 }

@@ -1,6 +1,7 @@
 -- WRONG ALIGNMENTS: the managers 84 to 98, each of which is wrong about which alignments a get may ask for, which page it takes then, what is
 -- left of the free segment, or what a waiter keeps. Those that show along a list of calls don't meet demand 3; those that take damaged records
 -- for sound don't meet demand 1. Assumes nothing.
+use Rattle.std.specs.Prelude.{Option, None}
 use mathlib.Core.Path.{◌≡◌, refl, ap}
 use mathlib.Core.Bool.{Bool, cond, not, ◌&&◌, ◌||◌}
 use mathlib.Core.List.{List, [], ◌∷◌}
@@ -22,8 +23,6 @@ use Rattle.manager.specs.declared.Manager.{Manager}
 use Rattle.manager.specs.declared.Region.{Region}
 use Rattle.manager.specs.declared.Waiter.{Waiter}
 use Rattle.manager.specs.declared.Need.{Need}
-use Rattle.manager.specs.declared.Place.{Place}
-use Rattle.manager.specs.declared.Place.TheVariants.{Nowhere}
 use Rattle.manager.specs.declared.Call.{Call}
 use Rattle.manager.specs.declared.Call.TheVariants.{CreateRegion, GetSegment, RegionInformation}
 use Rattle.manager.specs.declared.Order.TheVariants.{Fifo, HalvesFifo}
@@ -91,8 +90,8 @@ unfolding everything
 not_room_lost = differs room_lost (create ∷ get_on_lem 32 16 ∷ get 16 ∷ []) refl
 
 -- 87. ONLY THE LOWEST FREE SEGMENT THAT HAS THE PAGES IS LOOKED AT, on the alignment or not
-abbrev first_long : ℕ → Need → ℕ → List Segment → Place
-first_long k w at [] = Nowhere
+abbrev first_long : ℕ → Need → ℕ → List Segment → Option ℕ
+first_long k w at [] = None
 first_long k w at (held n ∷ s) = first_long k w (at + n) s
 first_long k w at (free n ∷ s) = cond (leb k n) (place_from w at (free n ∷ [])) (first_long k w (at + n) s)
 

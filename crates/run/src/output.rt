@@ -4,7 +4,7 @@ ghost use Rattle.text.specs.Decimal.{decimal, line_of};
 ghost use Rattle.run.specs.Output.{line, Puts, information_text, values_text, notice_text, notices_text, answer_text};
 ghost use Rattle.run.specs.Output.{most_line, most_bad, most_value, most_values, most_notice, most_notices, most_answer};
 
-use manager::{Answer, Information, Manager, Notice, number};
+use manager::{Answer, Information, Manager, Notice};
 
 // Puts text into out at `at`, and answers where it ends, as each function here does.
 fn put(out: &mut [u8], at: usize, text: &[u8]) -> usize
@@ -81,7 +81,7 @@ fn put_notice(out: &mut [u8], at: usize, n: Notice) -> usize
 {
     let status = n.status;
     let p = put_line(out, at, b"task=", n.task);
-    let q = put_line(out, p, b"with=", number(status));
+    let q = put_line(out, p, b"with=", u32::from(status));
     put_value(out, q, n.address)
 }
 
@@ -122,7 +122,7 @@ pub(crate) fn put_answer(out: &mut [u8], at: usize, six: bool, a: Answer) -> usi
 {
     let status = a.status;
     let notices = a.notices;
-    let p = put_line(out, at, b"status=", number(status));
+    let p = put_line(out, at, b"status=", u32::from(status));
     let q = put_values(out, p, six, a);
     put_notices(out, q, notices)
 }

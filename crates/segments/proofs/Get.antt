@@ -1,5 +1,6 @@
 -- Get, exit by exit: the tests that led there, in their order, give the definition's result; then the pages are taken, or the answer is 13,
 -- or the task waits. Assumes nothing.
+use Rattle.std.specs.Prelude.{Option, None, Some}
 use Prim.Native.Nat.{ℕ}
 use mathlib.Core.Path.{◌≡◌, sym, ap, ◌∙◌}
 use mathlib.Core.Bool.{Bool, true, false}
@@ -19,8 +20,6 @@ use Rattle.manager.specs.declared.Region.{Region}
 use Rattle.manager.specs.declared.Waiter.{Waiter}
 use Rattle.manager.specs.declared.Answer.{Answer}
 use Rattle.manager.specs.declared.Need.{Need}
-use Rattle.manager.specs.declared.Place.{Place}
-use Rattle.manager.specs.declared.Place.TheVariants.{At, Nowhere}
 use Rattle.manager.specs.declared.Wait.{Wait}
 use Rattle.manager.specs.declared.Wait.TheVariants.{No, Yes}
 use Rattle.manager.specs.declared.Status.{Status}
@@ -36,18 +35,18 @@ use Rattle.segments.proofs.Verdicts.{checked_all, checked_first}
 abbrev Placed : List ℕ → Manager → Region → Need → Wait → Waiter → Result
 Placed m d r n wait w = on_place (placed m r n) (λ p. done (taken m r n) d (address_of r p)) (unplaced m d wait w)
 
-module _ (m : List ℕ) (d : Manager) (r : Region) (n : Need) (s : Sited m r) (wait : Wait) (w : Waiter) (out : List ℕ) (p : Place) (t : Takes r n m out p) where
+module _ (m : List ℕ) (d : Manager) (r : Region) (n : Need) (s : Sited m r) (wait : Wait) (w : Waiter) (out : List ℕ) (p : Option ℕ) (t : Takes r n m out p) where
   module _ (a : Answer) where
-    pub place_yes : (j : ℕ) → p ≡ At j → (v : ℕ) → v ≡ address_of r j → a ≡ answer_of (replied [] d Successful v) → Performs (Placed m d r n wait w) out a
+    pub place_yes : (j : ℕ) → p ≡ Some j → (v : ℕ) → v ≡ address_of r j → a ≡ answer_of (replied [] d Successful v) → Performs (Placed m d r n wait w) out a
     place_yes j e v ev f = performs_replied out a _ d Successful v f (rw (← t.memory, ← t.place, e, ev))
 
-    unmoved : p ≡ Nowhere → out ≡ m
+    unmoved : p ≡ None → out ≡ m
     unmoved = none_taken m r s n out p t
 
-    pub place_no : p ≡ Nowhere → wait ≡ No → a ≡ answer_of (replied [] d Unsatisfied 0) → Performs (Placed m d r n wait w) out a
+    pub place_no : p ≡ None → wait ≡ No → a ≡ answer_of (replied [] d Unsatisfied 0) → Performs (Placed m d r n wait w) out a
     place_no e x f = performs_replied out a _ d Unsatisfied 0 f (rw (← t.place, e, x, unmoved e))
 
-    pub place_waits : p ≡ Nowhere → wait ≡ Yes → (e' : Manager) → e' ≡ enqueue d w → a ≡ answer_of (replied [] e' Waiting 0) → Performs (Placed m d r n wait w) out a
+    pub place_waits : p ≡ None → wait ≡ Yes → (e' : Manager) → e' ≡ enqueue d w → a ≡ answer_of (replied [] e' Waiting 0) → Performs (Placed m d r n wait w) out a
     place_waits e y e' x f = performs_replied out a _ e' Waiting 0 f (rw (← t.place, e, y, x, unmoved e))
 
 pub ruleset placing = (taken_address, place_yes, place_no, place_waits)

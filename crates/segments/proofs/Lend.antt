@@ -1,5 +1,6 @@
 -- The part of the memory that is a region's map, lent to the stores and put back: what they do by the places of words is what the rules say
 -- by pages and addresses. For regions of every kind, by what a kind keeps. Assumes nothing.
+use Rattle.std.specs.Prelude.{Option, None, Some}
 use Prim.Native.Nat.{ℕ, ◌+◌, ◌-◌, ◌*◌, ◌/◌, ◌≤◌}
 use mathlib.Core.Path.{◌≡◌, sym, ap, ◌∙◌}
 use mathlib.Core.Bool.{Bool, true, false, cond}
@@ -22,8 +23,6 @@ use Rattle.manager.specs.Sound.{Sited}
 use Rattle.manager.proofs.Laws.Sound.{map_long, pages_few, address_in_lem, sited_with, sized_segments, proper_segments, total_segments, same_segments}
 use Rattle.manager.specs.declared.Region.{Region}
 use Rattle.manager.specs.declared.Need.{Need}
-use Rattle.manager.specs.declared.Place.{Place}
-use Rattle.manager.specs.declared.Place.TheVariants.{At, Nowhere}
 use Rattle.map.proofs.Part.{words_whole}
 use Rattle.segments.specs.Lending.{Changes, Takes}
 
@@ -48,19 +47,19 @@ held_page m r a h = go (starts_page r a) h
 -- ---- what is placed in a region
 
 module _ (m : List ℕ) (r : Region) (s : Sited m r) (n : Need) (o : 1 ≤ n.pages) where
-  placed_in : (p : ℕ) → placed m r n ≡ At p → p + n.pages ≤ first_page_of r + pages_of r
+  placed_in : (p : ℕ) → placed m r n ≡ Some p → p + n.pages ≤ first_page_of r + pages_of r
   placed_in p e = omega (arith, ((keeps r.order).place_in n (first_page_of r) (segments m r) p o e).1, total_segments m r s)
 
-  placed_address : (p : ℕ) → placed m r n ≡ At p → address_of r p ≤ 65536
+  placed_address : (p : ℕ) → placed m r n ≡ Some p → address_of r p ≤ 65536
   placed_address p e = omega (arith, address_in_lem m r s.laid p n.pages (placed_in p e))
 
-pub taken_address : (m : List ℕ) (r : Region) (n : Need) (out : List ℕ) (q : Place) → Takes r n m out q → (p : ℕ) → q ≡ At p → address_of r p ≤ 65536
+pub taken_address : (m : List ℕ) (r : Region) (n : Need) (out : List ℕ) (q : Option ℕ) → Takes r n m out q → (p : ℕ) → q ≡ Some p → address_of r p ≤ 65536
 taken_address m r n out q t p e = t.within p e
 
 -- nothing is taken where nothing is found
-pub none_taken : (m : List ℕ) (r : Region) → Sited m r → (n : Need) (out : List ℕ) (q : Place) → Takes r n m out q → q ≡ Nowhere → out ≡ m
+pub none_taken : (m : List ℕ) (r : Region) → Sited m r → (n : Need) (out : List ℕ) (q : Option ℕ) → Takes r n m out q → q ≡ None → out ≡ m
 none_taken m r s n out q t e =
-    let z : placed m r n ≡ Nowhere = sym t.place ∙ e in
+    let z : placed m r n ≡ None = sym t.place ∙ e in
     t.memory ∙ ap (with_segments m r) (rw z) ∙ same_segments m r s
 
 -- ---- the words of the map: sound, few, and at a place of theirs what the region has at an address
@@ -147,7 +146,7 @@ module _ (m : List ℕ) (r : Region) (s : Sited m r) (l : Layout) (el : l ≡ la
     drawn_sited : Sited (after ws) r
     drawn_sited = rw drawn (sited_with m r s.laid t e w.sized w.proper)
 
-  pub takes : (n : Need) → 1 ≤ n.pages → (q : Place) (ws : List ℕ)
+  pub takes : (n : Need) → 1 ≤ n.pages → (q : Option ℕ) (ws : List ℕ)
       → (q ≡ (kind r).place n l.first (decode part)) × (ws ≡ draw (allocate (kind r) n l.first (decode part)))
       → Takes r n m (after ws) q
   takes n o q ws h =

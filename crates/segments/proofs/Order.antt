@@ -1,5 +1,6 @@
 -- The stores by the kind of a region, where code has asked which it is: what its own functions need and leave is what the kind's do. Assumes
 -- nothing.
+use Rattle.std.specs.Prelude.{Option, None, Some}
 use Prim.Native.Nat.{ℕ, ◌+◌, ◌≤◌}
 use mathlib.Core.Path.{◌≡◌, sym, ap, ◌∙◌}
 use mathlib.Core.Bool.{Bool, true, false}
@@ -21,8 +22,6 @@ use Rattle.manager.specs.Region.{by_halves, kind_of}
 use Rattle.manager.specs.declared.Need.{Need}
 use Rattle.manager.specs.declared.Order.{Order}
 use Rattle.manager.specs.declared.Order.TheVariants.{HalvesFifo}
-use Rattle.manager.specs.declared.Place.{Place}
-use Rattle.manager.specs.declared.Place.TheVariants.{At, Nowhere}
 use Rattle.manager.proofs.Laws.Kinds.{keeps}
 use Rattle.manager.proofs.Laws.Shift.{shifted}
 use Rattle.manager.proofs.Laws.Halves.Shift.{place_shift, take_shift}
@@ -41,7 +40,7 @@ module _ (o : Order) (b : Bool) (e : b ≡ by_halves o) (ws : List ℕ) (ok : so
     halves_sound = rw (kind_halves o b e h) at ok
 
     -- what is taken by the places of words is taken by the numbers of pages
-    module _ (n : Need) (first : ℕ) (q : Place) (out : List ℕ)
+    module _ (n : Need) (first : ℕ) (q : Option ℕ) (out : List ℕ)
         (x : (q ≡ place_block n.pages 0 (decode ws)) × (out ≡ draw (allocate halves n 0 (decode ws)))) where
       takes : (shifted first q ≡ (kind_of o).place n first (decode ws)) × (out ≡ draw (allocate (kind_of o) n first (decode ws)))
       takes =
@@ -50,14 +49,14 @@ module _ (o : Order) (b : Bool) (e : b ≡ by_halves o) (ws : List ℕ) (ok : so
             x.1 ∙ ap draw (sym (rw (add-zero first) at (take_shift first n 0 (decode ws)))),
           )
 
-      pub halves_none : q ≡ Nowhere → (Nowhere ≡ (kind_of o).place n first (decode ws)) × (out ≡ draw (allocate (kind_of o) n first (decode ws)))
+      pub halves_none : q ≡ None → (None ≡ (kind_of o).place n first (decode ws)) × (out ≡ draw (allocate (kind_of o) n first (decode ws)))
       halves_none z = rw z at takes
 
-      pub halves_at : (i : ℕ) → q ≡ At i → (At (first + i) ≡ (kind_of o).place n first (decode ws)) × (out ≡ draw (allocate (kind_of o) n first (decode ws)))
+      pub halves_at : (i : ℕ) → q ≡ Some i → (Some (first + i) ≡ (kind_of o).place n first (decode ws)) × (out ≡ draw (allocate (kind_of o) n first (decode ws)))
       halves_at i z = rw z at takes
 
       -- the number of the page fits
-      pub page_fits : first ≤ 65536 → length ws ≤ 16384 → 1 ≤ n.pages → (i : ℕ) → q ≡ At i → Fits w64 (first + i)
+      pub page_fits : first ≤ 65536 → length ws ≤ 16384 → 1 ≤ n.pages → (i : ℕ) → q ≡ Some i → Fits w64 (first + i)
       page_fits low few some i z =
           Fits-under w64 (first + i) 81921
           (omega (arith, ((keeps HalvesFifo).place_in n 0 (decode ws) i some (sym x.0 ∙ z)).1, tiles)) tt
@@ -81,7 +80,7 @@ module _ (o : Order) (b : Bool) (e : b ≡ by_halves o) (ws : List ℕ) (ok : so
     pub pages_sound : sound_map apart ws ≡ true
     pages_sound = rw (kind_pages o b e h) at ok
 
-    pub pages_takes : (n : Need) (first : ℕ) (q : Place) (out : List ℕ)
+    pub pages_takes : (n : Need) (first : ℕ) (q : Option ℕ) (out : List ℕ)
         → (q ≡ place_from n first (decode ws)) × (out ≡ draw (allocate paged n first (decode ws)))
         → (q ≡ (kind_of o).place n first (decode ws)) × (out ≡ draw (allocate (kind_of o) n first (decode ws)))
     pages_takes n first q out x = rw (kind_pages o b e h) x

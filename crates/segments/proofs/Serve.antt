@@ -1,6 +1,7 @@
 -- Serving a queue: what is left to serve from here on gives what serving from the start gives, with the region live and every waiter
 -- asking for something on the way. The array of notices ends the loop only where nobody waits: behind the notices so far there are places
 -- for all who do. Assumes nothing.
+use Rattle.std.specs.Prelude.{Option, None, Some}
 use Prim.Native.Nat.{ℕ, zero, suc, ◌+◌, ◌-◌, ◌≤◌, ◌<◌}
 use mathlib.Core.Path.{◌≡◌, refl, sym, ap, ◌∙◌}
 use mathlib.Core.Bool.{Bool, true, false, cond, not, ◌&&◌, ◌||◌}
@@ -28,8 +29,6 @@ use Rattle.manager.specs.declared.Region.{Region}
 use Rattle.manager.specs.declared.Waiter.{Waiter}
 use Rattle.manager.specs.declared.Notice.{Notice}
 use Rattle.manager.specs.declared.Need.{Need}
-use Rattle.manager.specs.declared.Place.{Place}
-use Rattle.manager.specs.declared.Place.TheVariants.{At, Nowhere}
 use Rattle.objects.proofs.Laws.{unmapped}
 use Rattle.objects.proofs.Fill.{Filling, fill_from, fill_put, fill_count, fill_end}
 use Rattle.manager.specs.Result.{Performs}
@@ -98,7 +97,7 @@ module _ (m : List ℕ) (d : Manager) (id : ℕ) (r : Region) (s : Sited m r) (e
       → n ≡ need_of r (get_or d.waiters i no_waiter).size alignment → 1 ≤ n.pages
   turn_asks a h l n alignment e = asked_some m r d id i n.pages s a q (omega arith) (ap (λ (w : Need). w.pages) e)
 
-  module _ (h : i < tasks) (n : Need) (en : n ≡ need_of r (get_or d.waiters i no_waiter).size (get_or d.waiters i no_waiter).alignment) (out : List ℕ) (p : Place)
+  module _ (h : i < tasks) (n : Need) (en : n ≡ need_of r (get_or d.waiters i no_waiter).size (get_or d.waiters i no_waiter).alignment) (out : List ℕ) (p : Option ℕ)
       (t : Takes r n m out p) where
     need_first_lem : n ≡ need_first d id
     need_first_lem = en ∙ rw (er, q)
@@ -107,7 +106,7 @@ module _ (m : List ℕ) (d : Manager) (id : ℕ) (r : Region) (s : Sited m r) (e
     placed_is = t.place ∙ rw (er, need_first_lem)
 
     -- the first finds no room
-    pub turn_no : p ≡ Nowhere → Turns m d id r out Stop
+    pub turn_no : p ≡ None → Turns m d id r out Stop
     unfolding turn_of
     turn_no e =
         record {
@@ -116,7 +115,7 @@ module _ (m : List ℕ) (d : Manager) (id : ℕ) (r : Region) (s : Sited m r) (e
           sited = t.sited;
         }
 
-    pub turn_yes : (j : ℕ) → p ≡ At j → (a : ℕ) → a ≡ address_of r j → Turns m d id r out (Serve i (granted (get_or d.waiters i no_waiter) a))
+    pub turn_yes : (j : ℕ) → p ≡ Some j → (a : ℕ) → a ≡ address_of r j → Turns m d id r out (Serve i (granted (get_or d.waiters i no_waiter) a))
     unfolding turn_of
     turn_yes j e a ea =
         record {
@@ -134,12 +133,12 @@ module _ (f : ℕ) (m : List ℕ) (d : Manager) (id : ℕ) where
   unfolding serve_up_to turn_of
   up_turn = go (ltb (first_of id d.waiters) tasks) (placed m (region_of d id) (need_first d id))
     where
-      go : (b : Bool) (p : Place) →
+      go : (b : Bool) (p : Option ℕ) →
           cond b (on_place p (λ j. telling (granted (get_or d.waiters (first_of id d.waiters) no_waiter) (address_of (region_of d id) j)) (serve_up_to f (taken m (region_of d id) (need_first d id)) (dequeue d (first_of id d.waiters)) id)) (quiet m d)) (quiet m d)
           ≡ on_turn (cond b (on_place p (λ j. Serve (first_of id d.waiters) (granted (get_or d.waiters (first_of id d.waiters) no_waiter) (address_of (region_of d id) j))) Stop) Stop)
           (λ i n. telling n (serve_up_to f (taken m (region_of d id) (need_first d id)) (dequeue d i) id)) (quiet m d)
-      go true (At j) = refl
-      go true Nowhere = refl
+      go true (Some j) = refl
+      go true None = refl
       go false p = refl
 
 -- ---- places for the notices
@@ -173,11 +172,11 @@ unfolding turn_of
 turn_place m d id i n e =
     go (ltb (first_of id d.waiters) tasks) refl (placed m (region_of d id) (need_first d id)) e
   where
-    go : (b : Bool) → ltb (first_of id d.waiters) tasks ≡ b → (g : Place)
+    go : (b : Bool) → ltb (first_of id d.waiters) tasks ≡ b → (g : Option ℕ)
         → cond b (on_place g (λ p. Serve (first_of id d.waiters) (granted (get_or d.waiters (first_of id d.waiters) no_waiter) (address_of (region_of d id) p))) Stop) Stop ≡ Serve i n
         → (i ≡ first_of id d.waiters) × (i < tasks)
-    go true l (At p) f = let q : i ≡ first_of id d.waiters = cc in (q, omega (arith, ltb-true (first_of id d.waiters) tasks l))
-    go true l Nowhere f = absurd (let z : ◌≡◌ {A = ℕ} 0 1 = cc in omega arith)
+    go true l (Some p) f = let q : i ≡ first_of id d.waiters = cc in (q, omega (arith, ltb-true (first_of id d.waiters) tasks l))
+    go true l None f = absurd (let z : ◌≡◌ {A = ℕ} 0 1 = cc in omega arith)
     go false l g f = absurd (let z : ◌≡◌ {A = ℕ} 0 1 = cc in omega arith)
 
 -- ---- the loop

@@ -1,5 +1,6 @@
 -- What a get does to the words: the free segment that the search finds is cut before the first page on the alignment, and again behind the
 -- pages that are held. Assumes nothing.
+use Rattle.std.specs.Prelude.{None, Some}
 use Prim.Native.Nat.{ℕ, zero, suc, ◌+◌, ◌-◌, ◌*◌, ◌/◌, ◌≤◌}
 use mathlib.Core.Path.{◌≡◌, refl, sym, ap, ◌∙◌}
 use mathlib.Core.Bool.{Bool, true, false, cond}
@@ -18,7 +19,6 @@ use Rattle.manager.specs.Kind.{on_place, allocate}
 use Rattle.manager.specs.Paged.{apart, free+, room_from, paged, place_from}
 use Rattle.manager.proofs.Laws.Paged.{room_in, first_fit, fit_is, take_none, free_none, free_front, well_free}
 use Rattle.manager.specs.declared.Need.{Need}
-use Rattle.manager.specs.declared.Place.TheVariants.{At, Nowhere}
 use Rattle.segments.specs.MapWords.{cutting, taking, segment_from}
 use Rattle.segments.proofs.Words.{word_at, words_in_lem, cutting_words}
 
@@ -33,7 +33,7 @@ abbrev pub gap_at : Need → ℕ → ℕ → ℕ
 gap_at w first i = align_up w.every (first + i) - (first + i)
 
 module _ (w : Need) (first : ℕ) where
-  placed : (at : ℕ) (s : List Segment) → place_from w (first + at) s ≡ on_place (segment_from w first at s) (λ i. At (align_up w.every (first + i))) Nowhere
+  placed : (at : ℕ) (s : List Segment) → place_from w (first + at) s ≡ on_place (segment_from w first at s) (λ i. Some (align_up w.every (first + i))) None
   unfolding place_from segment_from
   placed at [] = refl
   placed at (held n ∷ s) = let e : first + at + n ≡ first + (at + n) = omega arith in rw e (placed (at + n) s)
@@ -41,9 +41,9 @@ module _ (w : Need) (first : ℕ) where
       let e : first + at + n ≡ first + (at + n) = omega arith in
       rw e (go (leb w.pages (room_from w.every (first + at) n)) (placed (at + n) s))
     where
-      go : (b : Bool) → place_from w (first + (at + n)) s ≡ on_place (segment_from w first (at + n) s) (λ i. At (align_up w.every (first + i))) Nowhere
-          → cond b (At (align_up w.every (first + at))) (place_from w (first + (at + n)) s)
-          ≡ on_place (cond b (At at) (segment_from w first (at + n) s)) (λ i. At (align_up w.every (first + i))) Nowhere
+      go : (b : Bool) → place_from w (first + (at + n)) s ≡ on_place (segment_from w first (at + n) s) (λ i. Some (align_up w.every (first + i))) None
+          → cond b (Some (align_up w.every (first + at))) (place_from w (first + (at + n)) s)
+          ≡ on_place (cond b (Some at) (segment_from w first (at + n) s)) (λ i. Some (align_up w.every (first + i))) None
       go true h = refl
       go false h = h
 
@@ -71,7 +71,7 @@ module _ (w : Need) (first : ℕ) where
         gives = e ∙ ap (λ (t : List Segment). g ∷ t) h.gives;
       }
 
-  found : (at : ℕ) (s : List Segment) (i : ℕ) → segment_from w first at s ≡ At i → Found at i s
+  found : (at : ℕ) (s : List Segment) (i : ℕ) → segment_from w first at s ≡ Some i → Found at i s
   unfolding segment_from first_fit total
   found at [] i e = absurd (let z : ◌≡◌ {A = ℕ} 0 1 = cc in omega arith)
   found at (held n ∷ s) i e =
@@ -79,10 +79,10 @@ module _ (w : Need) (first : ℕ) where
       past (held n) (rw f) (found (at + n) s i e)
   found at (free n ∷ s) i e = go (leb w.pages (room_from w.every (first + at) n)) refl (λ e'. found (at + n) s i e')
     where
-      go : (b : Bool) → leb w.pages (room_from w.every (first + at) n) ≡ b → (segment_from w first (at + n) s ≡ At i → Found (at + n) i s)
+      go : (b : Bool) → leb w.pages (room_from w.every (first + at) n) ≡ b → (segment_from w first (at + n) s ≡ Some i → Found (at + n) i s)
           → Found at i (free n ∷ s)
       go true f ih =
-          let a : At at ≡ At i = rw f at e in
+          let a : Some at ≡ Some i = rw f at e in
           let q : at ≡ i = cc in
           record {
             pre = [];
@@ -141,12 +141,12 @@ cut_long i pages k mark ws out x = ap length x ∙ go (ltb k pages)
 
 -- WHERE THE SEARCH FINDS THE SEGMENT AT PAGE i: the page that is taken, what stands there, and the words after it is taken
 pub record Took (w : Need) (first i : ℕ) (ws : List ℕ) : Type 0 where
-  pub place : At (first + i + gap_at w first i) ≡ place_from w first (decode ws)
+  pub place : Some (first + i + gap_at w first i) ≡ place_from w first (decode ws)
   pub room : gap_at w first i + w.pages ≤ get_or ws i 0 / 2
   pub within : i + get_or ws i 0 / 2 ≤ length ws
   pub held : taking i (gap_at w first i) w.pages ws ≡ draw (allocate paged w first (decode ws))
 
-pub took : (w : Need) (first i : ℕ) (ws : List ℕ) → sound_map apart ws ≡ true → 1 ≤ w.pages → segment_from w first 0 (decode ws) ≡ At i → Took w first i ws
+pub took : (w : Need) (first i : ℕ) (ws : List ℕ) → sound_map apart ws ≡ true → 1 ≤ w.pages → segment_from w first 0 (decode ws) ≡ Some i → Took w first i ws
 took w first i ws ok o e =
     let h = found w first 0 (decode ws) i e in
     let k = w.pages in
@@ -181,15 +181,15 @@ took w first i ws ok o e =
 
 -- with the gap that a call gave
 module _ (w : Need) (first i : ℕ) (ws : List ℕ) (t : Took w first i ws) (gap : ℕ) (e : gap ≡ gap_at w first i) where
-  pub page_is : At (first + i + gap) ≡ place_from w first (decode ws)
+  pub page_is : Some (first + i + gap) ≡ place_from w first (decode ws)
   page_is = rw e t.place
 
   pub words_are : (out : List ℕ) → out ≡ taking i gap w.pages ws → out ≡ draw (allocate paged w first (decode ws))
   words_are out x = x ∙ rw e t.held
 
 -- where nothing is found, nothing changes
-pub untaken : (ws : List ℕ) (w : Need) (first : ℕ) → sound_map apart ws ≡ true → segment_from w first 0 (decode ws) ≡ Nowhere
-    → (Nowhere ≡ place_from w first (decode ws)) × (ws ≡ draw (allocate paged w first (decode ws)))
+pub untaken : (ws : List ℕ) (w : Need) (first : ℕ) → sound_map apart ws ≡ true → segment_from w first 0 (decode ws) ≡ None
+    → (None ≡ place_from w first (decode ws)) × (ws ≡ draw (allocate paged w first (decode ws)))
 untaken ws w first ok e =
-    let z : place_from w first (decode ws) ≡ Nowhere = rw (add-zero first, e) at (placed w first 0 (decode ws)) in
+    let z : place_from w first (decode ws) ≡ None = rw (add-zero first, e) at (placed w first 0 (decode ws)) in
     (sym z, sym (ap draw (take_none w first (decode ws) z) ∙ redraw ws (sound_tiled apart ws ok)))

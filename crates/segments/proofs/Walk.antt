@@ -1,4 +1,5 @@
 -- Walks of a tiled map from segment to segment: what is left of a search from here on gives the whole. Assumes nothing.
+use Rattle.std.specs.Prelude.{None, Some}
 use Prim.Native.Nat.{ℕ, ◌+◌, ◌/◌, ◌%◌, ◌≤◌, ◌<◌}
 use mathlib.Core.Path.{◌≡◌, refl, sym, ap, ◌∙◌}
 use mathlib.Core.Bool.{true}
@@ -10,7 +11,6 @@ use Rattle.manager.proofs.Laws.Map.{size_of_lem, Here, walk_start, walk_step, wa
 use Rattle.manager.specs.Paged.{room_from}
 use Rattle.segments.specs.MapWords.{segment_from, before_from}
 use Rattle.manager.specs.declared.Need.{Need}
-use Rattle.manager.specs.declared.Place.TheVariants.{At, Nowhere}
 
 -- the search has come to page i
 pub record Placing (ws : List ℕ) (first : ℕ) (n : Need) (i : ℕ) : Type 0 where
@@ -21,7 +21,7 @@ pub place_start : (ws : List ℕ) (first : ℕ) (n : Need) → tiled ws ≡ true
 place_start ws first n ok = record { here = walk_start ws ok; left = refl }
 
 module _ (ws : List ℕ) (first : ℕ) (n : Need) (i : ℕ) (p : Placing ws first n i) where
-  pub place_end : length ws ≤ i → Nowhere ≡ segment_from n first 0 (decode ws)
+  pub place_end : length ws ≤ i → None ≡ segment_from n first 0 (decode ws)
   unfolding segment_from
   place_end l = sym (ap (segment_from n first i) (walk_end ws i p.here l)) ∙ p.left
 
@@ -39,7 +39,7 @@ module _ (ws : List ℕ) (first : ℕ) (n : Need) (i : ℕ) (p : Placing ws firs
             left = sym (ap (segment_from n first i) (says_free ws i p.here l e) ∙ rw (← er, lt-leb n.pages r lt)) ∙ p.left;
           }
 
-      pub place_here : n.pages ≤ r → At i ≡ segment_from n first 0 (decode ws)
+      pub place_here : n.pages ≤ r → Some i ≡ segment_from n first 0 (decode ws)
       unfolding segment_from
       place_here le = sym (ap (segment_from n first i) (says_free ws i p.here l e) ∙ rw (← er, le-leb n.pages r le)) ∙ p.left
 

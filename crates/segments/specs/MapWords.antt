@@ -1,10 +1,8 @@
 -- What the private functions on a region's map do. Assumes nothing.
-use Rattle.std.specs.Prelude.{ℕ, ◌+◌, ◌-◌, ◌*◌, ◌/◌, ◌≡◌, cond, List, [], ◌∷◌, get_or, set, eqb, leb, ltb}
+use Rattle.std.specs.Prelude.{ℕ, ◌+◌, ◌-◌, ◌*◌, ◌/◌, ◌≡◌, cond, List, [], ◌∷◌, get_or, set, eqb, leb, ltb, Option, None, Some}
 use Rattle.manager.specs.Map.{Segment, free, held, decode, draw, size_of}
 use Rattle.manager.specs.Paged.{room_from, reach_from, change_from}
 use Rattle.manager.specs.declared.Need.{Need}
-use Rattle.manager.specs.declared.Place.{Place}
-use Rattle.manager.specs.declared.Place.TheVariants.{At, Nowhere}
 
 -- the words where of a segment of so many pages at page i the first k are one, so marked, and the others a free one
 unfoldable pub cutting : ℕ → ℕ → ℕ → ℕ → List ℕ → List ℕ
@@ -18,11 +16,11 @@ taking i gap k ws =
     cond (eqb gap 0) (cutting i pages k 1 ws) (cutting (i + gap) (pages - gap) k 1 (cutting i pages gap 0 ws))
 
 -- the page, counted in the map from `at` on, of the free segment that a get takes pages of; the map's first page is page `first`
-unfoldable pub segment_from : Need → ℕ → ℕ → List Segment → Place
-segment_from w first at [] = Nowhere
+unfoldable pub segment_from : Need → ℕ → ℕ → List Segment → Option ℕ
+segment_from w first at [] = None
 segment_from w first at (held n ∷ s) = segment_from w first (at + n) s
 segment_from w first at (free n ∷ s) =
-    cond (leb w.pages (room_from w.every (first + at) n)) (At at) (segment_from w first (at + n) s)
+    cond (leb w.pages (room_from w.every (first + at) n)) (Some at) (segment_from w first (at + n) s)
 
 -- the page of the segment before the one at page p, where the map starts at page `at` behind a segment at page q
 unfoldable pub before_from : ℕ → ℕ → ℕ → List Segment → ℕ

@@ -12,7 +12,7 @@ ghost use Rattle.segments.specs.Serving.{Asking};
 
 use crate::{lending, serving};
 use arith::Layout;
-use manager::{Answer, Manager, Need, Place, Region, Status, Wait, Waiter};
+use manager::{Answer, Manager, Need, Region, Status, Wait, Waiter};
 
 // Where there is room the pages are taken; else the answer is 13, or the task waits.
 pub(crate) fn take_or_wait(
@@ -27,7 +27,7 @@ pub(crate) fn take_or_wait(
     requires { (Sited mem.old r) × (l ≡ layout_of r) × (1 ≤ n.pages) }
     ensures { Performs (on_place (placed mem.old r n) (λ p. done (taken mem.old r n) d (address_of r p)) (unplaced mem.old d wait w)) mem.new result }
 {
-    if let Place::At(p) = lending::take_pages(mem, r, l, n) {
+    if let Some(p) = lending::take_pages(mem, r, l, n) {
         return reply::reply(d, Status::Successful, serving::address_of(r, p));
     }
     match wait {

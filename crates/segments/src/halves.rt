@@ -6,7 +6,7 @@ ghost use Rattle.manager.specs.Kind.{allocate, held_from};
 ghost use Rattle.manager.specs.Map.{tiled, sound_map, decode, draw};
 ghost use Rattle.manager.specs.Halves.{lesser, smallest, lowest_free, carve, join, release_block, halves};
 
-use manager::{Need, Place};
+use manager::Need;
 
 // The smaller of two sizes, of which the second is 0 where there is none.
 fn lesser(n: u32, m: u32) -> u32
@@ -39,7 +39,7 @@ fn smallest(map: &[u32], k: u64) -> u32
 }
 
 // The first page of the lowest free block of b pages.
-fn lowest_free(map: &[u32], b: u32) -> Place
+fn lowest_free(map: &[u32], b: u32) -> Option<usize>
     requires { tiled map.now ≡ true }
     ensures { result ≡ lowest_free b 0 (decode map.now) }
 {
@@ -51,11 +51,11 @@ fn lowest_free(map: &[u32], b: u32) -> Place
         i = i + pages as usize;
         if w % 2 == 0 {
             if pages == b {
-                return Place::At(at);
+                return Some(at);
             }
         }
     }
-    Place::Nowhere
+    None
 }
 
 // Halves a block, of whose words all but the first are 0, again and again until it has k pages or fewer, the low half going on. What is left
@@ -77,7 +77,7 @@ fn carve(map: &mut [u32], k: u32)
 }
 
 // Takes the pages where there is room, and says where: the place of their word.
-pub(crate) fn allocate(map: &mut [u32], n: Need) -> Place
+pub(crate) fn allocate(map: &mut [u32], n: Need) -> Option<usize>
     requires sound { (sound_map halves.proper map.old ≡ true) × (length map.old ≤ 16384) }
     requires some { 1 ≤ n.pages }
     ensures { (result ≡ halves.place n 0 (decode map.old)) × (map.new ≡ draw (allocate halves n 0 (decode map.old))) }
@@ -85,14 +85,14 @@ pub(crate) fn allocate(map: &mut [u32], n: Need) -> Place
     let k = n.pages;
     let b = smallest(map, k);
     if b == 0 {
-        return Place::Nowhere;
+        return None;
     }
     match lowest_free(map, b) {
-        Place::Nowhere => Place::Nowhere,
-        Place::At(i) => {
+        None => None,
+        Some(i) => {
             let end = i + b as usize;
             carve(&mut map[i..end], k as u32);
-            Place::At(i)
+            Some(i)
         }
     }
 }

@@ -6,10 +6,10 @@ ghost use Rattle.manager.specs.Map.{sound_map, decode, draw};
 ghost use Rattle.manager.specs.Region.{kind_of};
 
 use crate::{halves, pages};
-use manager::{Need, Order, Place};
+use manager::{Need, Order};
 
 // Takes the pages where there is room, and says where: the number of the first one. The map's first page is page `first`.
-pub(crate) fn allocate(map: &mut [u32], o: Order, first: u64, n: Need) -> Place
+pub(crate) fn allocate(map: &mut [u32], o: Order, first: u64, n: Need) -> Option<usize>
     requires sound { (sound_map (kind_of o).proper map.old ≡ true) × (length map.old ≤ 16384) }
     requires some { (1 ≤ n.pages) × (first ≤ 65536) }
     ensures { (result ≡ (kind_of o).place n first (decode map.old)) × (map.new ≡ draw (allocate (kind_of o) n first (decode map.old))) }
@@ -18,10 +18,10 @@ pub(crate) fn allocate(map: &mut [u32], o: Order, first: u64, n: Need) -> Place
         return pages::allocate(map, first, n);
     }
     match halves::allocate(map, n) {
-        Place::Nowhere => Place::Nowhere,
-        Place::At(i) => {
+        None => None,
+        Some(i) => {
             let page = first as usize + i;
-            Place::At(page)
+            Some(page)
         }
     }
 }

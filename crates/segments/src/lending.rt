@@ -7,10 +7,10 @@ ghost use Rattle.segments.specs.Lending.{Changes, Takes};
 
 use crate::kinds;
 use arith::Layout;
-use manager::{Need, Place, Region};
+use manager::{Need, Region};
 
 // Takes the pages of a need from the region where there is room, and says where.
-pub(crate) fn take_pages(mem: &mut [u32], r: Region, l: Layout, n: Need) -> Place
+pub(crate) fn take_pages(mem: &mut [u32], r: Region, l: Layout, n: Need) -> Option<usize>
     requires { (Sited mem.old r) × (l ≡ layout_of r) × (1 ≤ n.pages) }
     ensures { Takes r n mem.old mem.new result }
 {

@@ -6,11 +6,11 @@ ghost use Rattle.manager.specs.Kind.{allocate, held_from};
 ghost use Rattle.manager.specs.Paged.{apart, paged, place_from, reach_from, change_from};
 ghost use Rattle.segments.specs.MapWords.{cutting, taking, segment_from, before_from, Extends};
 
-use manager::{Need, Place};
+use manager::Need;
 
 // The free segment with the lowest address that has the pages, from the first one on the alignment on: the place of its word. The map's first
 // page is page `first`.
-fn find(map: &[u32], first: u64, n: Need) -> Place
+fn find(map: &[u32], first: u64, n: Need) -> Option<usize>
     requires { (tiled map.now ≡ true) × (length map.now ≤ 16384) × (first ≤ 65536) }
     ensures { result ≡ segment_from n first 0 (decode map.now) }
 {
@@ -22,11 +22,11 @@ fn find(map: &[u32], first: u64, n: Need) -> Place
         i = i + pages as usize;
         if w % 2 == 0 {
             if n.pages <= map::room_from(n.every, first + at as u64, pages) as u64 {
-                return Place::At(at);
+                return Some(at);
             }
         }
     }
-    Place::Nowhere
+    None
 }
 
 // Of the segment of so many pages at page i the first k are one from now on, marked as held or not, and the others free.
@@ -58,19 +58,19 @@ fn take_at(map: &mut [u32], i: usize, gap: u32, k: u32)
 }
 
 // Takes the pages where there is room, and says where: the number of the first one.
-pub(crate) fn allocate(map: &mut [u32], first: u64, n: Need) -> Place
+pub(crate) fn allocate(map: &mut [u32], first: u64, n: Need) -> Option<usize>
     requires sound { (sound_map apart map.old ≡ true) × (length map.old ≤ 16384) }
     requires some { (1 ≤ n.pages) × (first ≤ 65536) }
     ensures { (result ≡ place_from n first (decode map.old)) × (map.new ≡ draw (allocate paged n first (decode map.old))) }
 {
     match find(map, first, n) {
-        Place::Nowhere => Place::Nowhere,
-        Place::At(i) => {
+        None => None,
+        Some(i) => {
             let at = first + i as u64;
             let gap = arith::gap_to(n.every, at);
             take_at(map, i, gap as u32, n.pages as u32);
             let page = at + gap;
-            Place::At(page as usize)
+            Some(page as usize)
         }
     }
 }

@@ -9,7 +9,7 @@ ghost use Rattle.segments.specs.Serving.{Asking, Ready, Serves, Turns};
 
 use crate::lending;
 use arith::Layout;
-use manager::{Answer, Manager, Notice, Place, Region, Status};
+use manager::{Answer, Manager, Notice, Region, Status};
 use reply::Noticed;
 
 // The address of page p of the region.
@@ -39,8 +39,8 @@ fn try_first(mem: &mut [u32], d: Manager, id: u32, r: Region, l: Layout) -> Turn
     let w = d.waiters[i];
     let n = map::need_of(r, w.size, w.alignment);
     match lending::take_pages(mem, r, l, n) {
-        Place::Nowhere => Turn::Stop,
-        Place::At(p) => {
+        None => Turn::Stop,
+        Some(p) => {
             let notice = Notice {
                 task: w.task,
                 status: Status::Successful,

@@ -1,9 +1,9 @@
 -- Writing a held segment: a write is refused and changes nothing, or it stores its words in the loan at its address, so that it is one of
 -- the writes that clients may make. Assumes nothing.
+use Rattle.std.specs.Prelude.{Option, Some}
 use mathlib.Core.Path.{◌≡◌, refl, sym, subst}
 use mathlib.Core.Bool.{true, false, cond}
 use mathlib.Core.List.{List}
-use mathlib.Core.Option.{Option, some}
 use Prim.Native.Nat.{ℕ, ◌+◌, ◌*◌, ◌/◌, ◌≤◌}
 use native.Mathlib.Omega.{arith}
 use lib.ListN.{length}
@@ -59,7 +59,7 @@ writes_refused m d t at words s r =
     }
 
 -- words stored in a loan
-stored : (m : List ℕ) (t : Receipts) (id : ℕ) (e : RegionEntry) → t.regions id ≡ some e → RegionIs m e → (a k first : ℕ) (words : List ℕ)
+stored : (m : List ℕ) (t : Receipts) (id : ℕ) (e : RegionEntry) → t.regions id ≡ Some e → RegionIs m e → (a k first : ℕ) (words : List ℕ)
     → Lent e.loans a k → first + length words ≤ k * unit e / 4 → ClientsWrite t m (sets m (a / 4 + first) words)
 stored m t id e found is a k first words x l =
     let h = loan_holds e (regular m e is) a k x in

@@ -1,10 +1,10 @@
 -- The claims of demand 3 of one state in which the invariant holds, for any implementation that answers there as the receipts say: what
 -- the claims say of answers follows from the replies, and the rest is the invariant's. Assumes nothing.
+use Rattle.std.specs.Prelude.{Some}
 use mathlib.Core.Path.{◌≡◌, refl, sym, ap, ◌∙◌, subst}
 use mathlib.Core.Bool.{true}
 use mathlib.Core.List.{List, [], ◌∷◌}
 use mathlib.Core.Logic.{◌⊎◌, ◌↔◌, ⊎_elim}
-use mathlib.Core.Option.{some}
 use Prim.Native.Nat.{ℕ, zero, suc, ◌+◌, ◌*◌, ◌/◌, ◌≤◌, ◌<◌}
 use native.Mathlib.Nat.{mul-le-mul}
 use native.Mathlib.Omega.{arith}
@@ -121,7 +121,7 @@ module _ (i : Implementation) (s : State) (v : Inv s.memory s.manager s.receipts
       taken_claim (partitions_named _ _ _ v.picture) name _ _ refl refl (answer i s (CreatePartition name start bytes size)) (replies (CreatePartition name start bytes size))
 
   -- A REGION
-  module _ (id : ℕ) (e : RegionEntry) (q : s.receipts.regions id ≡ some e) where
+  module _ (id : ℕ) (e : RegionEntry) (q : s.receipts.regions id ≡ Some e) where
     at : RegionAt s.memory (region_of s.manager id) e
     at = region_at_lem s.memory (region_of s.manager id) (s.receipts.regions id) e (v.picture.regions id) q
 
@@ -188,7 +188,7 @@ module _ (i : Implementation) (s : State) (v : Inv s.memory s.manager s.receipts
         }
 
   -- A PARTITION
-  module _ (id : ℕ) (e : PartitionEntry) (q : s.receipts.partitions id ≡ some e) where
+  module _ (id : ℕ) (e : PartitionEntry) (q : s.receipts.partitions id ≡ Some e) where
     abbrev partition : Partition
     partition = partition_of s.manager id
 

@@ -1,10 +1,10 @@
 -- What clients hold lies in the areas of the objects that lent it, and holds none of the words that the manager keeps for itself: a
 -- region's map lies before its pages, and a chained buffer is not lent. So whatever clients write into what they hold keeps the
 -- invariant, and a call that changes only words of the manager's own moves none of theirs. Assumes nothing.
+use Rattle.std.specs.Prelude.{Option, Some}
 use mathlib.Core.Path.{◌≡◌, refl, sym, ap, subst}
 use mathlib.Core.List.{List}
 use mathlib.Core.Logic.{⊎_elim}
-use mathlib.Core.Option.{Option, some}
 use Prim.Native.Nat.{ℕ, ◌+◌, ◌*◌, ◌/◌, ◌%◌, ◌≤◌, ◌<◌}
 use native.Mathlib.Nat.{add-mul}
 use native.Mathlib.Omega.{arith}
@@ -36,13 +36,13 @@ pub record RegionAt (m : List ℕ) (r : Region) (e : RegionEntry) : Type 0 where
   pub region : r ≡ region_as generation e
   pub is : RegionIs m e
 
-pub region_at_lem : (m : List ℕ) (r : Region) (o : Option RegionEntry) (e : RegionEntry) → RegionSlot m r o → o ≡ some e → RegionAt m r e
+pub region_at_lem : (m : List ℕ) (r : Region) (o : Option RegionEntry) (e : RegionEntry) → RegionSlot m r o → o ≡ Some e → RegionAt m r e
 region_at_lem m r o e (empty g) f = absurd (let z : ◌≡◌ {A = ℕ} 0 1 = cc in omega arith)
 region_at_lem m r o e (live g e' is) f =
     let h : e' ≡ e = cc in
     record { generation = g; region = ap (region_as g) h; is = subst (λ (x : RegionEntry). RegionIs m x) h is }
 
-pub partition_at_lem : (m : List ℕ) (p : Partition) (o : Option PartitionEntry) (e : PartitionEntry) → PartitionSlot m p o → o ≡ some e → PartitionIs m p e
+pub partition_at_lem : (m : List ℕ) (p : Partition) (o : Option PartitionEntry) (e : PartitionEntry) → PartitionSlot m p o → o ≡ Some e → PartitionIs m p e
 partition_at_lem m p o e (empty g) f = absurd (let z : ◌≡◌ {A = ℕ} 0 1 = cc in omega arith)
 partition_at_lem m p o e (live q e' is) f =
     let g : e' ≡ e = cc in
@@ -62,13 +62,13 @@ pub record BufferLoan (e : PartitionEntry) (a n : ℕ) : Type 0 where
   pub lent : In a e.lent
   pub bytes : n ≡ e.size
 
-pub segment_loan : (m : List ℕ) (t : Receipts) (id a n : ℕ) (e : RegionEntry) → RegionIs m e → t.regions id ≡ some e → Loaned t (region id) a n → SegmentLoan e a n
+pub segment_loan : (m : List ℕ) (t : Receipts) (id a n : ℕ) (e : RegionEntry) → RegionIs m e → t.regions id ≡ Some e → Loaned t (region id) a n → SegmentLoan e a n
 segment_loan m t id a n e is f (segment e' g k l) =
     let h : e' ≡ e = cc in
     let x = loan_holds e (regular m e is) a k (subst (λ (y : RegionEntry). Lent y.loans a k) h l) in
     record { p = page_in e a; k = k; lent = x.lent; at = x.at; bytes = ap (λ (y : RegionEntry). k * unit y) h }
 
-pub buffer_loan : (t : Receipts) (id a n : ℕ) (e : PartitionEntry) → t.partitions id ≡ some e → Loaned t (partition id) a n → BufferLoan e a n
+pub buffer_loan : (t : Receipts) (id a n : ℕ) (e : PartitionEntry) → t.partitions id ≡ Some e → Loaned t (partition id) a n → BufferLoan e a n
 buffer_loan t id a n e f (buffer e' g l) =
     let h : e' ≡ e = cc in
     record { lent = subst (λ (x : PartitionEntry). In a x.lent) h l; bytes = ap (λ (x : PartitionEntry). x.size) h }
@@ -136,14 +136,14 @@ module _ (m : List ℕ) (d : Manager) (t : Receipts) (v : Inv m d t) where
       (same_object h.0 o)
 
   -- A WORD OF A MAP IS NOT HELD BY CLIENTS
-  pub map_not_owned : (id : ℕ) (e : RegionEntry) → t.regions id ≡ some e → (w : ℕ) → map_at (region_for e) ≤ w → w < map_at (region_for e) + pages_in e → ¬ Owned t w
+  pub map_not_owned : (id : ℕ) (e : RegionEntry) → t.regions id ≡ Some e → (w : ℕ) → map_at (region_for e) ≤ w → w < map_at (region_for e) + pages_in e → ¬ Owned t w
   map_not_owned id e f w lo hi h =
       let r = region_at_lem m (region_of d id) (t.regions id) e (v.picture.regions id) f in
       let l = segment_loan m t id h.1 h.2 e r.is f (owned_of (region id) w (rw r.region (region_inside m e r.is w lo hi)) h) in
       omega (arith, segment_behind m e r.is h.1 h.2 l, map_at_lem e.start, h.4)
 
   -- NOR IS A WORD OF A BUFFER THAT IS NOT LENT
-  pub buffer_not_owned : (id : ℕ) (e : PartitionEntry) → t.partitions id ≡ some e → (a w : ℕ) → In a e.unlent → Inside a (partition_of d id).size w → ¬ Owned t w
+  pub buffer_not_owned : (id : ℕ) (e : PartitionEntry) → t.partitions id ≡ Some e → (a w : ℕ) → In a e.unlent → Inside a (partition_of d id).size w → ¬ Owned t w
   buffer_not_owned id e f a w u i h =
       let s = partition_at_lem m (partition_of d id) (t.partitions id) e (v.picture.partitions id) f in
       let c = chained_buffer m (partition_of d id) e s a u in
@@ -198,13 +198,13 @@ NoLink l w = (a : ℕ) → In a l → ((w ≡ a / 4) → ⊥) × ((w ≡ a / 4 +
 
 module _ (m : List ℕ) (d : Manager) (t : Receipts) (v : Inv m d t) where
   -- THE WORDS OF A MAP ARE NOT OF CLIENTS: so a change of a map moves none of theirs
-  pub map_stays : (id : ℕ) (e : RegionEntry) → t.regions id ≡ some e → (k k' : List ℕ) → OnlyMap e k k' → (w : ℕ) → Owned t w → get_or k' w 0 ≡ get_or k w 0
+  pub map_stays : (id : ℕ) (e : RegionEntry) → t.regions id ≡ Some e → (k k' : List ℕ) → OnlyMap e k k' → (w : ℕ) → Owned t w → get_or k' w 0 ≡ get_or k w 0
   map_stays id e f k k' c w o =
       c.same w (λ (i : Inside (4 * map_at (region_for e)) (4 * pages_in e) w).
       map_not_owned m d t v id e f w (omega (arith, i.low)) (omega (arith, i.high)) o)
 
   -- NOR ARE THE LINK WORDS OF BUFFERS THAT ARE NOT LENT
-  pub owned_no_link : (id : ℕ) (e : PartitionEntry) → t.partitions id ≡ some e → (w : ℕ) → Owned t w → NoLink e.unlent w
+  pub owned_no_link : (id : ℕ) (e : PartitionEntry) → t.partitions id ≡ Some e → (w : ℕ) → Owned t w → NoLink e.unlent w
   owned_no_link id e f w o a u =
       let p = partition_of d id in
       let s = partition_at_lem m p (t.partitions id) e (v.picture.partitions id) f in

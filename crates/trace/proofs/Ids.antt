@@ -1,10 +1,10 @@
 -- AN ID NEVER OPENS ANOTHER OBJECT. By the receipts alone: an id that was answered is there still, or its slot has left the id's generation
 -- (`Used`). Every call keeps that so, and no create answers such an id; and one that was deleted is of a generation that its slot has left
 -- (`Left`), so that the receipts never have it again. Assumes nothing.
+use Rattle.std.specs.Prelude.{Option, None, Some}
 use mathlib.Core.Path.{◌≡◌, refl, sym, ap, ◌∙◌}
 use mathlib.Core.Bool.{Bool, true, cond, ◌&&◌, true≢false}
 use mathlib.Core.List.{List, [], ◌∷◌}
-use mathlib.Core.Option.{Option, none, some}
 use Prim.Native.Nat.{ℕ, zero, suc, ◌+◌, ◌≤◌, ◌<◌}
 use native.Mathlib.Omega.{arith}
 use borrow.Author.Tests.{leb-false, ne_eqb}
@@ -37,12 +37,12 @@ Left deletes id = generation_of id < deletes (slot_of id)
 
 -- the id was answered once: it is there still, or its slot has left it
 pub data Used {A : Type 0} (entries : ℕ → Option A) (deletes : ℕ → ℕ) (id : ℕ) : Type 0 where
-  there : (e : A) → entries id ≡ some e → Used entries deletes id
+  there : (e : A) → entries id ≡ Some e → Used entries deletes id
   left : Left deletes id → Used entries deletes id
 
 -- what comes after: what was there was answered once, and no slot has fewer deletes
 pub record Moves {A : Type 0} (f : ℕ → Option A) (n : ℕ → ℕ) (f' : ℕ → Option A) (n' : ℕ → ℕ) : Type 0 where
-  pub kept : (id : ℕ) (e : A) → f id ≡ some e → Used f' n' id
+  pub kept : (id : ℕ) (e : A) → f id ≡ Some e → Used f' n' id
   pub more : (i : ℕ) → n i ≤ n' i
 
 module _ {A : Type 0} where
@@ -58,11 +58,11 @@ module _ {A : Type 0} where
 
   -- an entry made, changed or struck
   module _ (f : ℕ → Option A) (n : ℕ → ℕ) (id : ℕ) where
-    moves_made : (x : A) → Moves f n (update id (some x) f) n
+    moves_made : (x : A) → Moves f n (update id (Some x) f) n
     moves_made x =
         record {
-          kept = λ j e q. by_eqb j id (λ b. Used (update id (some x) f) n j)
-              (λ h. there x (rw h (update_here id (some x) f))) (λ h. there e (update_other id (some x) f j h ∙ q));
+          kept = λ j e q. by_eqb j id (λ b. Used (update id (Some x) f) n j)
+              (λ h. there x (rw h (update_here id (Some x) f))) (λ h. there e (update_other id (Some x) f j h ∙ q));
           more = λ i. omega arith;
         }
 
@@ -75,15 +75,15 @@ module _ {A : Type 0} where
           more = λ i. omega arith;
         }
 
-    moves_struck : ((e : A) → f id ≡ some e → generation_of id ≡ n (slot_of id)) → Moves f n (update id none f) (deleted id n)
+    moves_struck : ((e : A) → f id ≡ Some e → generation_of id ≡ n (slot_of id)) → Moves f n (update id None f) (deleted id n)
     moves_struck now =
         record {
-          kept = λ j e q. by_eqb j id (λ b. Used (update id none f) (deleted id n) j)
-              (λ h. left (rw h (struck e (ap f (sym h) ∙ q)))) (λ h. there e (update_other id none f j h ∙ q));
+          kept = λ j e q. by_eqb j id (λ b. Used (update id None f) (deleted id n) j)
+              (λ h. left (rw h (struck e (ap f (sym h) ∙ q)))) (λ h. there e (update_other id None f j h ∙ q));
           more = λ i. by_eqb i (slot_of id) (λ b. n i ≤ cond b (suc (n i)) (n i)) (λ h. omega arith) (λ h. omega arith);
         }
       where
-        struck : (e : A) → f id ≡ some e → Left (deleted id n) id
+        struck : (e : A) → f id ≡ Some e → Left (deleted id n) id
         struck e q = let g = now e q in omega (arith, deleted_here id n)
 
 -- ---- the receipts after a call
@@ -107,8 +107,8 @@ follows_on f g = record { regions = moves_on f.regions g.regions; partitions = m
 
 -- each entry is of the generation that its slot has, as the invariant says
 pub record Generations (t : Receipts) : Type 0 where
-  pub region : (id : ℕ) → ((e : _) → t.regions id ≡ some e → generation_of id ≡ t.region_deletes (slot_of id))
-  pub partition : (id : ℕ) → ((e : _) → t.partitions id ≡ some e → generation_of id ≡ t.partition_deletes (slot_of id))
+  pub region : (id : ℕ) → ((e : _) → t.regions id ≡ Some e → generation_of id ≡ t.region_deletes (slot_of id))
+  pub partition : (id : ℕ) → ((e : _) → t.partitions id ≡ Some e → generation_of id ≡ t.partition_deletes (slot_of id))
 
 module _ (t : Receipts) (now : Generations t) where
   entered_follows : (c : Call) (v : ℕ) → Follows t (entered c v t)
@@ -240,9 +240,9 @@ partition_used name start bytes size a t e =
     used_on (entered_first (CreatePartition name start bytes size) a t e) (partition a.value) (there _ (update_here a.value _ t.partitions))
 
 -- what is under an id that is answered with success
-living_some : {A : Type 0} (o : Option A) (f : A → Reply) → (living o f).status ≡ Successful → (e : A) × (o ≡ some e)
-living_some none f h = absurd (true≢false (sym (ap is_success h)))
-living_some (some e) f h = (e, refl)
+living_some : {A : Type 0} (o : Option A) (f : A → Reply) → (living o f).status ≡ Successful → (e : A) × (o ≡ Some e)
+living_some None f h = absurd (true≢false (sym (ap is_success h)))
+living_some (Some e) f h = (e, refl)
 
 module _ (k : ℕ) (t : Receipts) (now : Generations t) (id : ℕ) where
   pub region_left : (a : Reply) → a ≡ by_receipts k t (DeleteRegion id) → a.status ≡ Successful → LeftId (note (DeleteRegion id) a t) (region id)
@@ -259,16 +259,16 @@ module _ (k : ℕ) (t : Receipts) (now : Generations t) (id : ℕ) where
 
 -- ---- WHAT IS LEFT IS IN NO RECEIPTS, and so it is answered 4
 
-left_none : {A : Type 0} (f : ℕ → Option A) (n : ℕ → ℕ) (id : ℕ) → ((e : A) → f id ≡ some e → generation_of id ≡ n (slot_of id)) → Left n id → f id ≡ none
+left_none : {A : Type 0} (f : ℕ → Option A) (n : ℕ → ℕ) (id : ℕ) → ((e : A) → f id ≡ Some e → generation_of id ≡ n (slot_of id)) → Left n id → f id ≡ None
 left_none f n id now h = go (f id) refl
   where
-    go : (o : Option _) → f id ≡ o → f id ≡ none
-    go none q = q
-    go (some e) q = absurd (let g = now e q in omega arith)
+    go : (o : Option _) → f id ≡ o → f id ≡ None
+    go None q = q
+    go (Some e) q = absurd (let g = now e q in omega arith)
 
 abbrev pub Missing : Receipts → Object → Type 0
-Missing t (region id) = t.regions id ≡ none
-Missing t (partition id) = t.partitions id ≡ none
+Missing t (region id) = t.regions id ≡ None
+Missing t (partition id) = t.partitions id ≡ None
 
 pub missing : (t : Receipts) → Generations t → (o : Object) → LeftId t o → Missing t o
 missing t now (region id) h = left_none t.regions t.region_deletes id (now.region id) h

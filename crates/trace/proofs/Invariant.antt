@@ -1,10 +1,10 @@
 -- The invariant of the trace theorem: the receipts are right in themselves (waits), and the memory and the record are their picture
 -- (regions, partitions, areas, queue). Everything that the manager keeps is determined by the receipts, but for what clients wrote.
+use Rattle.std.specs.Prelude.{Option, None, Some}
 use mathlib.Core.Path.{◌≡◌}
 use mathlib.Core.Bool.{true}
 use mathlib.Core.List.{List, [], ◌∷◌}
 use mathlib.Core.Logic.{◌⊎◌}
-use mathlib.Core.Option.{Option, none, some}
 use Prim.Native.Nat.{ℕ, ◌+◌, ◌*◌, ◌≤◌, ◌<◌}
 use lib.ListN.{length, get_or}
 use Rattle.manager.specs.Record.{slots, tasks, no_region, no_partition, no_waiter, emptied_region, emptied_partition, slot_of, region_of, partition_of}
@@ -62,8 +62,8 @@ pub record RegionIs (m : List ℕ) (e : RegionEntry) : Type 0 where
   pub map : map_words m (region_for e) ≡ draw ((reading e).drawn (span_in e) (page_loans e))
 
 pub data RegionSlot (m : List ℕ) : Region → Option RegionEntry → Type 0 where
-  empty : (g : ℕ) → RegionSlot m (emptied_region g) none
-  live : (g : ℕ) (e : RegionEntry) → RegionIs m e → RegionSlot m (region_as g e) (some e)
+  empty : (g : ℕ) → RegionSlot m (emptied_region g) None
+  live : (g : ℕ) (e : RegionEntry) → RegionIs m e → RegionSlot m (region_as g e) (Some e)
 
 -- a live partition, and its picture: the chain is the buffers that are not lent, and each buffer is lent or not, once
 pub record PartitionIs (m : List ℕ) (p : Partition) (e : PartitionEntry) : Type 0 where
@@ -81,8 +81,8 @@ pub record PartitionIs (m : List ℕ) (p : Partition) (e : PartitionEntry) : Typ
   pub counted : length e.lent + length e.unlent ≡ buffers p
 
 pub data PartitionSlot (m : List ℕ) : Partition → Option PartitionEntry → Type 0 where
-  empty : (g : ℕ) → PartitionSlot m (emptied_partition g) none
-  live : (p : Partition) (e : PartitionEntry) → PartitionIs m p e → PartitionSlot m p (some e)
+  empty : (g : ℕ) → PartitionSlot m (emptied_partition g) None
+  live : (p : Partition) (e : PartitionEntry) → PartitionIs m p e → PartitionSlot m p (Some e)
 
 -- a slot of either kind: its generation is the number of its deletes, one that it may have, and an empty one keeps nothing else
 pub record SlotIs {A : Type 0} (name generation : A → ℕ) (emptied : ℕ → A) (x : A) (deletes : ℕ) : Type 0 where
@@ -99,7 +99,7 @@ PartitionSlotIs p n = SlotIs (λ x. x.name) (λ x. x.generation) emptied_partiti
 -- a wait: of a task, in a live region that lends something, with arguments that the checks let pass, and time left
 pub record WaitIs (t : Receipts) (w : Wait) : Type 0 where
   pub entry : RegionEntry
-  pub found : t.regions w.id ≡ some entry
+  pub found : t.regions w.id ≡ Some entry
   pub lending : ¬ (entry.loans ≡ [])
   pub id_now_lem : w.id ≡ region_now t (slot_of w.id)
   pub task_some : 1 ≤ w.task

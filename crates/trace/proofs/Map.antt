@@ -1,6 +1,7 @@
 -- THE MAP OF A REGION IS THE ONE DRAWN FROM ITS LOANS (`Shows`): what the names by which the directives speak of a region come to, said by
 -- its loans at their addresses. Kinds of regions, maps and areas stand below this; the directives, the queue and the list of calls, above.
 -- Assumes nothing.
+use Rattle.std.specs.Prelude.{Option, None, Some}
 use mathlib.Core.Path.{◌≡◌, refl, sym, ap, ◌∙◌}
 use mathlib.Core.Bool.{Bool, true, false}
 use mathlib.Core.List.{List, [], ◌∷◌}
@@ -18,8 +19,6 @@ use Rattle.manager.specs.Paged.{free+}
 use Rattle.manager.specs.Region.{starts_page, map_at, map_words, segments, with_segments, kind}
 use Rattle.manager.specs.Region as region
 use Rattle.manager.specs.declared.Region.{Region}
-use Rattle.manager.specs.declared.Place.{Place}
-use Rattle.manager.specs.declared.Place.TheVariants.{At, Nowhere}
 use Rattle.trace.specs.Loans.{Loan, loan, Lent, enter, amend, in_pages, pages_at, loan_pages}
 use Rattle.trace.specs.Receipts.{RegionEntry, unit, reading, pages_over, need_in, servable_in, pages_in, span_in, address_in, page_in, by_page, page_loans, with_loans}
 use Rattle.trace.specs.Replies.{lends_any, place_in, can_have_in}
@@ -39,10 +38,10 @@ pub record Steps (m : List ℕ) (e : RegionEntry) (m' : List ℕ) (l : List Loan
   pub only : OnlyMap e m m'
 
 -- what a get of so many bytes on an alignment comes to: its place, lent, or nothing where the region is full
-pub data Gives (m : List ℕ) (e : RegionEntry) (size alignment : ℕ) : Place → List ℕ → Type 0 where
+pub data Gives (m : List ℕ) (e : RegionEntry) (size alignment : ℕ) : Option ℕ → List ℕ → Type 0 where
   gave : {m' : List ℕ} (p : ℕ) → Takes e e.loans size alignment p → Steps m e m' (enter (address_in e p) (pages_over e size) e.loans)
-      → Gives m e size alignment (At p) m'
-  none : {m' : List ℕ} → Full e e.loans size alignment → Gives m e size alignment Nowhere m'
+      → Gives m e size alignment (Some p) m'
+  none : {m' : List ℕ} → Full e e.loans size alignment → Gives m e size alignment None m'
 
 pub record Shows (m : List ℕ) (e : RegionEntry) : Type 0 where
   -- sizes and alignments
@@ -127,7 +126,7 @@ module _ (m : List ℕ) (e : RegionEntry) (is : RegionIs m e) where
   gets : (size alignment : ℕ) → 0 < size → Gives m e size alignment (region.placed m r (need_in e size alignment)) (region.taken m r (need_in e size alignment))
   gets size alignment z = go ((law e).got drawing (pages_for size (unit e)) (alignment / unit e) (pages_some size (unit e) loans.some_unit z))
     where
-      go : {q : Place} {s : List Segment} → Gets (reading e) (span_in e) (page_loans e) (need_in e size alignment) q s → Gives m e size alignment q (with_segments m r s)
+      go : {q : Option ℕ} {s : List Segment} → Gets (reading e) (span_in e) (page_loans e) (need_in e size alignment) q s → Gives m e size alignment q (with_segments m r s)
       go (given p d c) = gave p c (step _ _ _ (entered_at e loans p (pages_over e size)) d)
       go (nothing d h) = none h
 

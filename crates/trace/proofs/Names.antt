@@ -1,10 +1,10 @@
 -- The names of the live objects of a kind: an object put into a slot leaves them different where its name is new, is none, or is the one
 -- that was there; and so, by the receipts, no two objects have one name. Assumes nothing.
+use Rattle.std.specs.Prelude.{Option, Some}
 use mathlib.Core.Path.{◌≡◌, refl, sym, ap, ◌∙◌}
 use mathlib.Core.Bool.{true, false}
 use mathlib.Core.List.{List}
 use mathlib.Core.Logic.{⊎_elim}
-use mathlib.Core.Option.{Option, some}
 use Prim.Native.Nat.{ℕ, ◌<◌}
 use native.Mathlib.Omega.{arith}
 use lib.ListN.{length, get_or, set}
@@ -24,9 +24,9 @@ use Rattle.trace.proofs.Slots.{Now, now_same, region_now_lem, region_in_lem, par
 
 -- BY THE RECEIPTS, of a kind by its entries: each is under the id that its slot has now, and has a name that no other has
 pub record EachNamed {E : Type 0} (entries : ℕ → Option E) (deletes : ℕ → ℕ) (name : E → ℕ) : Type 0 where
-  pub now : (id : ℕ) (e : E) → entries id ≡ some e → Now deletes id
-  pub named : (id : ℕ) (e : E) → entries id ≡ some e → ¬ (name e ≡ 0)
-  pub differ : (id k : ℕ) (e f : E) → entries id ≡ some e → entries k ≡ some f → name e ≡ name f → id ≡ k
+  pub now : (id : ℕ) (e : E) → entries id ≡ Some e → Now deletes id
+  pub named : (id : ℕ) (e : E) → entries id ≡ Some e → ¬ (name e ≡ 0)
+  pub differ : (id k : ℕ) (e f : E) → entries id ≡ Some e → entries k ≡ Some f → name e ≡ name f → id ≡ k
 
 module _ {A : Type 0} (name : A → ℕ) (z : A) (l : List A) (size : length l ≡ slots) (e : pairwise (other_name name) l ≡ true) where
   -- ---- an object put into a slot
@@ -55,9 +55,9 @@ module _ {A : Type 0} (name : A → ℕ) (z : A) (l : List A) (size : length l �
         (same_or_not (name x) 0))
 
   -- by the receipts, of which each entry has the name that its slot has
-  module _ {E : Type 0} (entries : ℕ → Option E) (deletes : ℕ → ℕ) (called : E → ℕ) (now : (id : ℕ) (x : E) → entries id ≡ some x → Now deletes id)
-      (at : (i : ℕ) → i < slots → (x : E) → entries (id_of i (deletes i)) ≡ some x → (name (get_or l i z) ≡ called x) × (¬ (called x ≡ 0))) where
-    here : (id : ℕ) (x : E) → entries id ≡ some x → (name (get_or l (slot_of id) z) ≡ called x) × (¬ (called x ≡ 0))
+  module _ {E : Type 0} (entries : ℕ → Option E) (deletes : ℕ → ℕ) (called : E → ℕ) (now : (id : ℕ) (x : E) → entries id ≡ Some x → Now deletes id)
+      (at : (i : ℕ) → i < slots → (x : E) → entries (id_of i (deletes i)) ≡ Some x → (name (get_or l i z) ≡ called x) × (¬ (called x ≡ 0))) where
+    here : (id : ℕ) (x : E) → entries id ≡ Some x → (name (get_or l (slot_of id) z) ≡ called x) × (¬ (called x ≡ 0))
     here id x q = let u = now id x q in at (slot_of id) u.within x (ap entries (sym u.is) ∙ q)
 
     entries_named : EachNamed entries deletes called
@@ -74,11 +74,11 @@ module _ {A : Type 0} (name : A → ℕ) (z : A) (l : List A) (size : length l �
         }
 
 -- the name of a slot is its entry's
-region_name : (m : List ℕ) (r : Region) (o : Option RegionEntry) (e : RegionEntry) → RegionSlot m r o → o ≡ some e → (r.name ≡ e.name) × (¬ (e.name ≡ 0))
+region_name : (m : List ℕ) (r : Region) (o : Option RegionEntry) (e : RegionEntry) → RegionSlot m r o → o ≡ Some e → (r.name ≡ e.name) × (¬ (e.name ≡ 0))
 region_name m r o e (empty g) q = absurd (let y : ◌≡◌ {A = ℕ} 0 1 = cc in omega arith)
 region_name m r o e (live g x is) q = let f : x ≡ e = cc in rw (← f) (refl, is.named)
 
-partition_name : (m : List ℕ) (p : Partition) (o : Option PartitionEntry) (e : PartitionEntry) → PartitionSlot m p o → o ≡ some e → (p.name ≡ e.name) × (¬ (e.name ≡ 0))
+partition_name : (m : List ℕ) (p : Partition) (o : Option PartitionEntry) (e : PartitionEntry) → PartitionSlot m p o → o ≡ Some e → (p.name ≡ e.name) × (¬ (e.name ≡ 0))
 partition_name m p o e (empty g) q = absurd (let y : ◌≡◌ {A = ℕ} 0 1 = cc in omega arith)
 partition_name m p o e (live x y is) q = let f : y ≡ e = cc in rw (← f) (is.name, λ z. is.named (is.name ∙ z))
 

@@ -1,4 +1,5 @@
 -- The loans of a live region, at addresses and by their pages; and what the laws of its kind say of them, whatever the memory. Assumes nothing.
+use Rattle.std.specs.Prelude.{Option, None, Some}
 use mathlib.Core.Path.{◌≡◌, sym, ap, ◌∙◌, subst}
 use mathlib.Core.Bool.{true}
 use mathlib.Core.List.{List, []}
@@ -8,8 +9,6 @@ use native.Mathlib.Nat.{mul-div_left}
 use Rattle.arith.specs.Round.{pages_for}
 use Rattle.arith.proofs.Laws.Round.{pages_some}
 use Rattle.manager.specs.Region.{kind_of}
-use Rattle.manager.specs.declared.Place.{Place}
-use Rattle.manager.specs.declared.Place.TheVariants.{At, Nowhere}
 use Rattle.trace.specs.Loans.{Loan, Lent, enter, amend, in_pages, pages_at}
 use Rattle.trace.specs.Reading.{NoPlace}
 use Rattle.trace.specs.Receipts.{RegionEntry, unit, reading, pages_over, need_in, Servable, pages_in, span_in, address_in, page_in, by_page, page_loans, with_loans}
@@ -43,10 +42,10 @@ pub record Holds (e : RegionEntry) (a k : ℕ) : Type 0 where
   pub lent : Lent (page_loans e) (page_in e a) k
 
 -- where a get of so many bytes on an alignment is placed: at the place that it takes, where it can be lent; or the region is full
-pub data Places (e : RegionEntry) (size alignment : ℕ) : Place → Type 0 where
+pub data Places (e : RegionEntry) (size alignment : ℕ) : Option ℕ → Type 0 where
   takes : (p : ℕ) → Takes e e.loans size alignment p → Regular (with_loans (enter (address_in e p) (pages_over e size) e.loans) e)
-      → Places e size alignment (At p)
-  full : Full e e.loans size alignment → Places e size alignment Nowhere
+      → Places e size alignment (Some p)
+  full : Full e e.loans size alignment → Places e size alignment None
 
 -- A REGION THAT IS FULL FOR A GET THAT IT COULD SERVE WITH NOTHING LENT HAS A LOAN
 pub full_lends : (e : RegionEntry) (size alignment : ℕ) → Servable e size alignment → Full e e.loans size alignment → ¬ (e.loans ≡ [])
@@ -97,7 +96,7 @@ module _ (e : RegionEntry) (g : Regular e) where
   pub places : (size alignment : ℕ) → 0 < size → Places e size alignment (place_in e e.loans size alignment)
   places size alignment z = go (place_found (law e) g.fits (pages_for size (unit e)) (alignment / unit e) (pages_some size (unit e) g.some_unit z))
     where
-      go : {q : Place} → Found (reading e) (span_in e) (page_loans e) (need_in e size alignment) q → Places e size alignment q
+      go : {q : Option ℕ} → Found (reading e) (span_in e) (page_loans e) (need_in e size alignment) q → Places e size alignment q
       go (found p c o) = takes p c (regular_with _ _ (entered_at p (pages_over e size)) o)
       go (nowhere h) = full h
 

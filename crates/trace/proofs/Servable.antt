@@ -1,5 +1,6 @@
 -- What a region could serve with nothing lent: the record's test, the receipts' and the claim's say the same, since the map of a new region
 -- is drawn from no loans. And the alignments that it allows. All of it rests on what create asked for, and on no loan. Assumes nothing.
+use Rattle.std.specs.Prelude.{Option}
 use mathlib.Core.Path.{◌≡◌, refl, sym, ap, ◌∙◌}
 use mathlib.Core.Bool.{true, true≢false}
 use mathlib.Core.List.{[]}
@@ -15,7 +16,6 @@ use Rattle.manager.proofs.Laws.Lists.{and_first, and_second}
 use Rattle.manager.specs.Kind.{is_place}
 use Rattle.manager.specs.Paged.{free+}
 use Rattle.manager.specs.Region.{is_alignment, need_of, servable}
-use Rattle.manager.specs.declared.Place.{Place}
 use Rattle.trace.specs.Receipts.{RegionEntry, unit, reading, pages_in, span_in, address_in, need_in, Alignment, servable_in, Servable}
 use Rattle.trace.proofs.Invariant.{region_for}
 use Rattle.trace.proofs.Frame.{pages_allowed}
@@ -72,7 +72,7 @@ module _ (e : RegionEntry) (some_unit : 0 < unit e) (some_page : 1 ≤ pages_in 
     pub servable_claim : (servable_in e size alignment ≡ true) ↔ Servable e size alignment
     servable_claim = go (place_found (law e) unlent.fits asked (alignment / unit e) some_asked)
       where
-        go : {q : Place} → Found (reading e) (span_in e) [] (need_in e size alignment) q → (is_place q ≡ true) ↔ Servable e size alignment
+        go : {q : Option ℕ} → Found (reading e) (span_in e) [] (need_in e size alignment) q → (is_place q ≡ true) ↔ Servable e size alignment
         go (found p c o) = (λ h. (p, (law e).chosen_serves unlent.fits asked (alignment / unit e) p c), λ s. refl)
         go (nowhere n) = (λ h. absurd (true≢false (sym h)), λ s. absurd (n s.0 s.1))
 

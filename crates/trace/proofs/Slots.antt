@@ -1,10 +1,10 @@
 -- Slots and ids, of either kind: an entry is under the id that its slot has now, what stands in a slot is the picture of that entry, and
 -- what a slot is like after another object is put into one. Assumes nothing.
+use Rattle.std.specs.Prelude.{Option, None, Some}
 use mathlib.Core.Path.{◌≡◌, refl, sym, ap, ◌∙◌, subst}
 use mathlib.Core.Bool.{true}
 use mathlib.Core.List.{List}
 use mathlib.Core.Logic.{⊎_elim}
-use mathlib.Core.Option.{Option, none, some}
 use Prim.Native.Nat.{ℕ, suc, ◌+◌, ◌<◌}
 use native.Mathlib.Omega.{arith}
 use lib.ListN.{length, get_or, set}
@@ -80,12 +80,12 @@ module _ {A : Type 0} (name generation : A → ℕ) (emptied : ℕ → A) (z : A
 -- ---- what the picture by ids says of slots
 
 module _ {A E : Type 0} (name generation : A → ℕ) (emptied : ℕ → A) (z : A) (S : A → Option E → Type 0) (zero : name z ≡ 0)
-    (unnamed : (x : A) (o : Option E) → S x o → name x ≡ 0 → o ≡ none) (named : (x : A) (o : Option E) (e : E) → S x o → o ≡ some e → ¬ (name x ≡ 0))
-    (nothing : (g : ℕ) → S (emptied g) none) (l : List A) (size : length l ≡ slots) (entries : ℕ → Option E) (deletes : ℕ → ℕ)
+    (unnamed : (x : A) (o : Option E) → S x o → name x ≡ 0 → o ≡ None) (named : (x : A) (o : Option E) (e : E) → S x o → o ≡ Some e → ¬ (name x ≡ 0))
+    (nothing : (g : ℕ) → S (emptied g) None) (l : List A) (size : length l ≡ slots) (entries : ℕ → Option E) (deletes : ℕ → ℕ)
     (at : (id : ℕ) → S (object_of name generation z l id) (entries id))
     (is : (i : ℕ) → i < slots → SlotIs name generation emptied (get_or l i z) (deletes i)) where
   -- AN ENTRY IS UNDER THE ID THAT ITS SLOT HAS NOW
-  entry_now : (id : ℕ) (e : E) → entries id ≡ some e → Now deletes id
+  entry_now : (id : ℕ) (e : E) → entries id ≡ Some e → Now deletes id
   entry_now id e q =
       let v = live_object name generation z l zero id (named _ (entries id) e (at id) q) in
       let w : slot_of id < slots = (let k = live_within name generation z l zero id v in omega arith) in
@@ -106,24 +106,24 @@ module _ {A E : Type 0} (name generation : A → ℕ) (emptied : ℕ → A) (z :
 
 module _ (m : List ℕ) where
   -- a slot that is empty is not in the receipts, and one that is there has a name
-  pub region_unnamed : (r : Region) (o : Option RegionEntry) → RegionSlot m r o → r.name ≡ 0 → o ≡ none
+  pub region_unnamed : (r : Region) (o : Option RegionEntry) → RegionSlot m r o → r.name ≡ 0 → o ≡ None
   region_unnamed r o (empty g) q = refl
   region_unnamed r o (live g e is) q = absurd (is.named q)
 
-  pub region_named_lem : (r : Region) (o : Option RegionEntry) (e : RegionEntry) → RegionSlot m r o → o ≡ some e → ¬ (r.name ≡ 0)
+  pub region_named_lem : (r : Region) (o : Option RegionEntry) (e : RegionEntry) → RegionSlot m r o → o ≡ Some e → ¬ (r.name ≡ 0)
   region_named_lem r o e (empty g) q = absurd (let y : ◌≡◌ {A = ℕ} 0 1 = cc in omega arith)
   region_named_lem r o e (live g e' is) q = is.named
 
-  pub partition_unnamed : (p : Partition) (o : Option PartitionEntry) → PartitionSlot m p o → p.name ≡ 0 → o ≡ none
+  pub partition_unnamed : (p : Partition) (o : Option PartitionEntry) → PartitionSlot m p o → p.name ≡ 0 → o ≡ None
   partition_unnamed p o (empty g) q = refl
   partition_unnamed p o (live x e is) q = absurd (is.named q)
 
-  pub partition_named_lem : (p : Partition) (o : Option PartitionEntry) (e : PartitionEntry) → PartitionSlot m p o → o ≡ some e → ¬ (p.name ≡ 0)
+  pub partition_named_lem : (p : Partition) (o : Option PartitionEntry) (e : PartitionEntry) → PartitionSlot m p o → o ≡ Some e → ¬ (p.name ≡ 0)
   partition_named_lem p o e (empty g) q = absurd (let y : ◌≡◌ {A = ℕ} 0 1 = cc in omega arith)
   partition_named_lem p o e (live x e' is) q = is.named
 
 module _ (m : List ℕ) (d : Manager) (t : Receipts) (v : Picture m d t) where
-  pub region_now_lem : (id : ℕ) (e : RegionEntry) → t.regions id ≡ some e → Now t.region_deletes id
+  pub region_now_lem : (id : ℕ) (e : RegionEntry) → t.regions id ≡ Some e → Now t.region_deletes id
   region_now_lem =
       entry_now (λ r. r.name) (λ r. r.generation) emptied_region no_region (RegionSlot m) refl (region_unnamed m) (region_named_lem m) empty
       d.regions v.region_slots t.regions t.region_deletes v.regions v.region_is
@@ -133,7 +133,7 @@ module _ (m : List ℕ) (d : Manager) (t : Receipts) (v : Picture m d t) where
       slot_at (λ r. r.name) (λ r. r.generation) emptied_region no_region (RegionSlot m) refl (region_unnamed m) (region_named_lem m) empty
       d.regions v.region_slots t.regions t.region_deletes v.regions v.region_is
 
-  pub partition_now_lem : (id : ℕ) (e : PartitionEntry) → t.partitions id ≡ some e → Now t.partition_deletes id
+  pub partition_now_lem : (id : ℕ) (e : PartitionEntry) → t.partitions id ≡ Some e → Now t.partition_deletes id
   partition_now_lem =
       entry_now (λ p. p.name) (λ p. p.generation) emptied_partition no_partition (PartitionSlot m) refl (partition_unnamed m) (partition_named_lem m) empty
       d.partitions v.partition_slots t.partitions t.partition_deletes v.partitions v.partition_is

@@ -1,8 +1,8 @@
 -- The invariant holds at a fresh start, over any memory of allowed length: nothing is live and nobody waits. Assumes nothing.
+use Rattle.std.specs.Prelude.{None}
 use mathlib.Core.Path.{◌≡◌, refl, sym, subst}
 use mathlib.Core.Bool.{true}
 use mathlib.Core.List.{List}
-use mathlib.Core.Option.{none}
 use Prim.Native.Nat.{ℕ, zero, suc, ◌≤◌}
 use lib.ListN.{length, get_or, replicate}
 use borrow.Author.Tests.{eq-eqb, le-leb}
@@ -58,8 +58,8 @@ start_inv m l h =
         words = rw (le-leb 1 (length m) l, le-leb (length m) most_words h);
         region_slots = refl;
         partition_slots = refl;
-        regions = λ id. subst (λ (r : Region). RegionSlot m r none) (sym (none_there (λ r. r.name) (λ r. r.generation) emptied_region refl refl id)) (empty 0);
-        partitions = λ id. subst (λ (p : Partition). PartitionSlot m p none) (sym (none_there (λ p. p.name) (λ p. p.generation) emptied_partition refl refl id)) (empty 0);
+        regions = λ id. subst (λ (r : Region). RegionSlot m r None) (sym (none_there (λ r. r.name) (λ r. r.generation) emptied_region refl refl id)) (empty 0);
+        partitions = λ id. subst (λ (p : Partition). PartitionSlot m p None) (sym (none_there (λ p. p.name) (λ p. p.generation) emptied_partition refl refl id)) (empty 0);
         region_is = λ i h. slot_new (λ r. r.name) (λ r. r.generation) emptied_region refl refl i;
         partition_is = λ i h. slot_new (λ p. p.name) (λ p. p.generation) emptied_partition refl refl i;
         region_names = fresh_regions;

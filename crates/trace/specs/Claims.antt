@@ -2,8 +2,7 @@
 -- alone. The heart is `replies`: every reply is the one that the receipts give. The fields about single answers follow from it, and say
 -- what it comes to in the words of the demand. Of the record only the queue and the kept front of a chain are looked at; of the memory
 -- the maps, the chains and what clients hold. Assumes nothing.
-use Rattle.std.specs.Prelude.{◌≡◌, true, false, cond, not, ◌&&◌, List, [], ◌∷◌, ◌++◌, ◌⊎◌, ◌↔◌, ℕ, zero, suc, ◌+◌, ◌-◌, ◌*◌, ◌/◌, ◌%◌, ◌≤◌, ◌<◌, length, get_or, take, drop, eqb}
-use Rattle.std.proofs.Math.Option.{Option, none, some}
+use Rattle.std.specs.Prelude.{◌≡◌, true, false, cond, not, ◌&&◌, List, [], ◌∷◌, ◌++◌, ◌⊎◌, ◌↔◌, ℕ, zero, suc, ◌+◌, ◌-◌, ◌*◌, ◌/◌, ◌%◌, ◌≤◌, ◌<◌, length, get_or, take, drop, eqb, Option, None, Some}
 use Rattle.std.proofs.lemmas.List.Edits.{sets}
 use Rattle.manager.specs.Record.{slots, tasks, most_words, partition_of}
 use Rattle.manager.specs.Result.{Result, tasks_told}
@@ -61,8 +60,8 @@ pub data Grants (e : RegionEntry) : List Loan → List Wait → List Notice → 
 -- OF SOME SLOTS, one after the other: the grants of the region in each, with what those before it were told entered; an empty slot has none
 pub data Rounds : List ℕ → Receipts → List Notice → Type 0 where
   ended : {t : Receipts} → Rounds [] t []
-  skipped : {i : ℕ} {is : List ℕ} {t : Receipts} {ns : List Notice} → t.regions (region_now t i) ≡ none → Rounds is t ns → Rounds (i ∷ is) t ns
-  round : {i : ℕ} {is : List ℕ} {t : Receipts} {ns ms : List Notice} (e : RegionEntry) → t.regions (region_now t i) ≡ some e
+  skipped : {i : ℕ} {is : List ℕ} {t : Receipts} {ns : List Notice} → t.regions (region_now t i) ≡ None → Rounds is t ns → Rounds (i ∷ is) t ns
+  round : {i : ℕ} {is : List ℕ} {t : Receipts} {ns ms : List Notice} (e : RegionEntry) → t.regions (region_now t i) ≡ Some e
       → Grants e e.loans (queue_of (region_now t i) e t) ns → Rounds is (all_noticed ns t) ms
       → Rounds (i ∷ is) t (ns ++ ms)
 
@@ -178,14 +177,14 @@ pub record PartitionClaims (i : Implementation) (s : State) (id : ℕ) (e : Part
 
 -- a live object of a kind has a name, by the kind's entries
 abbrev pub InUse : {A : Type 0} → (ℕ → Option A) → (A → ℕ) → ℕ → Type 0
-InUse {A} entries name n = (id : ℕ) × (e : A) × (entries id ≡ some e) × (name e ≡ n)
+InUse {A} entries name n = (id : ℕ) × (e : A) × (entries id ≡ Some e) × (name e ≡ n)
 
 -- OF THE NAMES OF A KIND, by its entries and what ident answers to a name
 pub record NameClaims {A : Type 0} (entries : ℕ → Option A) (name : A → ℕ) (ident : ℕ → Result) : Type 0 where
   -- "Two regions called the same": no two live objects of a kind have one name
-  pub differ : (id k : ℕ) (e f : A) → entries id ≡ some e → entries k ≡ some f → name e ≡ name f → id ≡ k
+  pub differ : (id k : ℕ) (e f : A) → entries id ≡ Some e → entries k ≡ Some f → name e ≡ name f → id ≡ k
   -- ident answers the id of the only live object of that name
-  pub found : (id : ℕ) (e : A) → entries id ≡ some e → ((ident (name e)).status ≡ Successful) × ((ident (name e)).value ≡ id)
+  pub found : (id : ℕ) (e : A) → entries id ≡ Some e → ((ident (name e)).status ≡ Successful) × ((ident (name e)).value ≡ id)
   -- and 3 exactly where there is none
   pub unknown : (n : ℕ) → ((ident n).status ≡ InvalidName) ↔ (¬ InUse entries name n)
 
@@ -209,8 +208,8 @@ pub record Claims (i : Implementation) (s : State) : Type 0 where
   -- once deleted is answered 4 ever after
   pub ids : IdClaims i s
   -- a live object, "an id is live if the receipts have it for the call's kind"
-  pub region : (id : ℕ) (e : RegionEntry) → s.receipts.regions id ≡ some e → RegionClaims i s id e
-  pub partition : (id : ℕ) (e : PartitionEntry) → s.receipts.partitions id ≡ some e → PartitionClaims i s id e
+  pub region : (id : ℕ) (e : RegionEntry) → s.receipts.regions id ≡ Some e → RegionClaims i s id e
+  pub partition : (id : ℕ) (e : PartitionEntry) → s.receipts.partitions id ≡ Some e → PartitionClaims i s id e
   -- the names of either kind, and a create is answered 3 exactly for name 0 and for a name that a live object of its kind has, whatever
   -- else it asks. A region and a partition may have one name
   pub region_names : NameClaims s.receipts.regions (λ e. e.name) (λ n. answer i s (IdentRegion n))

@@ -1,7 +1,6 @@
 -- The bench examples, answered by the receipts alone. The table is the one of the definitions; here no
 -- memory and no record is kept, and each answer is entered into the receipts by which the next call is answered. Assumes nothing.
-use Rattle.std.specs.Prelude.{Bool, true, ◌&&◌, List, [], ◌∷◌, ℕ, ◌+◌, eqb}
-use Rattle.std.proofs.Math.Option.{Option, none, some}
+use Rattle.std.specs.Prelude.{Bool, true, ◌&&◌, List, [], ◌∷◌, ℕ, ◌+◌, eqb, Option, None, Some}
 use Rattle.manager.specs.Status.{number_of}
 use Rattle.manager.specs.Record.{most_words}
 use Rattle.manager.specs.Map.{draw}
@@ -29,12 +28,12 @@ lies e n first last =
 
 -- the words of the map that is drawn from a region's loans
 abbrev drawn_words : Option RegionEntry → List ℕ
-drawn_words none = []
-drawn_words (some e) = draw ((reading e).drawn (span_in e) (page_loans e))
+drawn_words None = []
+drawn_words (Some e) = draw ((reading e).drawn (span_in e) (page_loans e))
 
 -- no object, and so many deletes of every slot
 abbrev at_generation : ℕ → Receipts
-at_generation g = record { regions = λ id. none; partitions = λ id. none; region_deletes = λ slot. g; partition_deletes = λ slot. g; waits = [] }
+at_generation g = record { regions = λ id. None; partitions = λ id. None; region_deletes = λ slot. g; partition_deletes = λ slot. g; waits = [] }
 
 abbrev pub holds : Row → Bool
 holds (layout start bytes page most n first last) =

@@ -1,12 +1,10 @@
 -- Rules 5.1 and 5.3 by the receipts: a region of pages. A get takes the lowest run of unheld pages that starts on its alignment, and a
 -- loan can grow into the unheld pages behind it. Assumes nothing.
-use Rattle.std.specs.Prelude.{true, cond, List, [], ◌∷◌, ℕ, zero, suc, ◌+◌, ◌-◌, ◌≤◌, ◌<◌, leb, eqb}
+use Rattle.std.specs.Prelude.{true, cond, List, [], ◌∷◌, ℕ, zero, suc, ◌+◌, ◌-◌, ◌≤◌, ◌<◌, leb, eqb, Option, None, Some}
 use Rattle.arith.specs.Round.{align_up, OnEvery}
 use Rattle.manager.specs.Map.{Segment, free, held}
 use Rattle.manager.specs.Paged.{room_from}
 use Rattle.manager.specs.declared.Need.{Need}
-use Rattle.manager.specs.declared.Place.{Place}
-use Rattle.manager.specs.declared.Place.TheVariants.{At, Nowhere}
 use Rattle.trace.specs.Loans.{Loan, loan, Held, Ordered, Span, behind, Run}
 use Rattle.trace.specs.Reading.{Reading}
 
@@ -54,10 +52,10 @@ most_pages_at n p (loan a k ∷ l) = cond (eqb a p) (up_to n l - a) (most_pages_
 
 -- the lowest run of unheld pages that starts on the alignment, from page `at` on and below page n: the first gap between loans that has the
 -- pages from there on
-unfoldable pub lowest_run : ℕ → Need → ℕ → List Loan → Place
-lowest_run n w at [] = cond (leb w.pages (room_from w.every at (n - at))) (At (align_up w.every at)) Nowhere
+unfoldable pub lowest_run : ℕ → Need → ℕ → List Loan → Option ℕ
+lowest_run n w at [] = cond (leb w.pages (room_from w.every at (n - at))) (Some (align_up w.every at)) None
 lowest_run n w at (loan a m ∷ l) =
-    cond (leb w.pages (room_from w.every at (a - at))) (At (align_up w.every at)) (lowest_run n w (a + m) l)
+    cond (leb w.pages (room_from w.every at (a - at))) (Some (align_up w.every at)) (lowest_run n w (a + m) l)
 
 -- WHAT THE RECEIPTS SAY OF A REGION OF PAGES: it knows all alignments, and a get may start wherever its own lets it
 abbrev pub pages : Reading

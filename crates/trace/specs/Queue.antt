@@ -1,7 +1,6 @@
 -- Rules 7 by the receipts: the order in which the waits stand, and whose time runs out at a tick. Assumes
 -- nothing.
-use Rattle.std.specs.Prelude.{Bool, cond, ◌&&◌, ◌||◌, List, [], ◌∷◌, ℕ, ◌+◌, eqb, ltb}
-use Rattle.std.proofs.Math.Option.{Option, none, some}
+use Rattle.std.specs.Prelude.{Bool, cond, ◌&&◌, ◌||◌, List, [], ◌∷◌, ℕ, ◌+◌, eqb, ltb, Option, None, Some}
 use Rattle.manager.specs.Record.{slot_of}
 use Rattle.manager.specs.Queue.{by_priority}
 use Rattle.manager.specs.declared.Notice.{Notice}
@@ -36,8 +35,8 @@ queue_of id e t = insert_all (urgent_than e.order) [] (waits_in id t.waits)
 
 -- ALL WAITS IN ONE LINE: the region of the lower slot first, and within a region by its order
 abbrev pub order_in : Option RegionEntry → Order
-order_in none = Fifo
-order_in (some e) = e.order
+order_in None = Fifo
+order_in (Some e) = e.order
 
 abbrev pub orders : Receipts → ℕ → Order
 orders t id = order_in (t.regions id)

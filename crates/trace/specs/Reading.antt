@@ -1,9 +1,8 @@
 -- What the receipts say of a kind of region. A kind has its own rule for where a get is placed, how large a loan can become and how the map
 -- is drawn; the answers, the grants and the claims are stated over these, once for every kind. Assumes nothing.
-use Rattle.std.specs.Prelude.{Bool, List, [], ◌∷◌, ℕ, ◌+◌}
+use Rattle.std.specs.Prelude.{Bool, List, [], ◌∷◌, ℕ, ◌+◌, Option}
 use Rattle.manager.specs.Map.{Segment, free, held}
 use Rattle.manager.specs.declared.Need.{Need}
-use Rattle.manager.specs.declared.Place.{Place}
 use Rattle.trace.specs.Loans.{Loan, loan, Span, Run}
 
 -- the loans that the held segments of a map are, where the map starts at page `at`
@@ -19,7 +18,7 @@ pub record Reading : Type 1 where
   -- which alignments, in bytes, a get of it knows
   pub aligns : ℕ → Bool
   -- where a get of n is placed (a, l, n), and whether the loan at page p can have k pages (a, l, p, k)
-  pub place : Span → List Loan → Need → Place
+  pub place : Span → List Loan → Need → Option ℕ
   pub can_have : Span → List Loan → ℕ → ℕ → Bool
   -- the drawn map, and the pages of each free segment of it
   pub drawn : Span → List Loan → List Segment

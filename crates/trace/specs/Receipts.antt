@@ -1,7 +1,6 @@
 -- Rules 14.1 and 14.2, the receipts: written from the arguments and answers of the calls, never from the record or the memory. What each
 -- call enters is in `Replies`, beside what it is answered. Assumes nothing.
-use Rattle.std.specs.Prelude.{◌≡◌, Bool, true, cond, List, [], ◌∷◌, ℕ, zero, suc, ◌+◌, ◌*◌, ◌/◌, ◌%◌, ◌≤◌, eqb}
-use Rattle.std.proofs.Math.Option.{Option, none, some}
+use Rattle.std.specs.Prelude.{◌≡◌, Bool, true, cond, List, [], ◌∷◌, ℕ, zero, suc, ◌+◌, ◌*◌, ◌/◌, ◌%◌, ◌≤◌, eqb, Option, None, Some}
 use Rattle.arith.specs.Round.{round_up, pages_for}
 use Rattle.arith.specs.Layout.{layout_of}
 use Rattle.arith.specs.declared.Layout.{Layout}
@@ -58,7 +57,7 @@ pub record Receipts : Type 0 where
 -- they start empty
 abbrev pub blank : Receipts
 blank =
-    record { regions = λ id. none; partitions = λ id. none; region_deletes = λ slot. 0; partition_deletes = λ slot. 0; waits = [] }
+    record { regions = λ id. None; partitions = λ id. None; region_deletes = λ slot. 0; partition_deletes = λ slot. 0; waits = [] }
 
 -- "Where an object's pages or buffers lie follows from what create asked for": the page size rounded, the layout, the page count and the
 -- pages; the address of a page and the page at an address; the buffers
@@ -171,8 +170,8 @@ with_partition_deletes f t =
 
 -- a change of the entry under an id, where there is one
 abbrev pub map_option : {A : Type 0} → (A → A) → Option A → Option A
-map_option f none = none
-map_option f (some x) = some (f x)
+map_option f None = None
+map_option f (Some x) = Some (f x)
 
 abbrev pub on_region : ℕ → (RegionEntry → RegionEntry) → Receipts → Receipts
 on_region id f t = with_regions (update id (map_option f (t.regions id)) t.regions) t

@@ -1,7 +1,6 @@
 -- Rules 14.1 and 14.3, rules 11 to 13 by the receipts: what every call is answered, from its arguments, the receipts and the memory's length,
 -- and what it enters. No word of the memory and no field of the record is looked at. Assumes nothing.
-use Rattle.std.specs.Prelude.{Bool, true, false, cond, not, ◌&&◌, ◌||◌, List, [], ◌∷◌, ◌++◌, ℕ, zero, suc, ◌+◌, ◌*◌, ◌/◌, ◌%◌, length, take, drop, eqb, leb, ltb}
-use Rattle.std.proofs.Math.Option.{Option, none, some}
+use Rattle.std.specs.Prelude.{Bool, true, false, cond, not, ◌&&◌, ◌||◌, List, [], ◌∷◌, ◌++◌, ℕ, zero, suc, ◌+◌, ◌*◌, ◌/◌, ◌%◌, length, take, drop, eqb, leb, ltb, Option, None, Some}
 use Rattle.arith.specs.Round.{round_up}
 use Rattle.arith.specs.Layout.{page_count}
 use Rattle.manager.specs.Record.{slots, tasks, generations, id_of, no_information}
@@ -13,7 +12,6 @@ use Rattle.manager.specs.declared.Notice.{Notice}
 use Rattle.manager.specs.declared.Information.{Information}
 use Rattle.manager.specs.declared.Call.{Call}
 use Rattle.manager.specs.declared.Call.TheVariants.{CreateRegion, IdentRegion, DeleteRegion, GetSegment, ReturnSegment, SegmentSize, ResizeSegment, RegionInformation, CreatePartition, IdentPartition, DeletePartition, GetBuffer, ReturnBuffer, Tick}
-use Rattle.manager.specs.declared.Place.{Place}
 use Rattle.manager.specs.declared.Wait as asking
 use Rattle.manager.specs.declared.Wait.TheVariants.{No, Yes}
 use Rattle.manager.specs.declared.Status.{Status}
@@ -59,19 +57,19 @@ decided (c ∷ cs) r = cond c.fails (no c.status) (decided cs r)
 
 -- 4: the receipts have no object under the id
 abbrev pub living : {A : Type 0} → Option A → (A → Reply) → Reply
-living none f = no InvalidId
-living (some e) f = f e
+living None f = no InvalidId
+living (Some e) f = f e
 
 -- ---- OBJECTS: the slots, from the lowest on
 
 abbrev pub vacant : {A : Type 0} → Option A → Bool
-vacant none = true
-vacant (some e) = false
+vacant None = true
+vacant (Some e) = false
 
 -- an object is there, and passes a test
 abbrev pub has : {A : Type 0} → (A → Bool) → Option A → Bool
-has p none = false
-has p (some e) = p e
+has p None = false
+has p (Some e) = p e
 
 -- the first of n slots, from one on, that passes a test; the one behind them where none does
 unfoldable pub first_slot : (ℕ → Bool) → ℕ → ℕ → ℕ
@@ -132,7 +130,7 @@ lends_any [] = false
 lends_any (x ∷ l) = true
 
 -- where a get of so many bytes on an alignment is placed, with the loans l at addresses; and whether the loan at an address can have so many
-abbrev pub place_in : RegionEntry → List Loan → ℕ → ℕ → Place
+abbrev pub place_in : RegionEntry → List Loan → ℕ → ℕ → Option ℕ
 place_in e l size alignment = (reading e).place (span_in e) (by_page e l) (need_in e size alignment)
 
 abbrev pub can_have_in : RegionEntry → ℕ → ℕ → Bool
@@ -151,8 +149,8 @@ grants_in e l (w ∷ ws) =
 
 -- of the region under an id, with its loans as they are; nobody waits for one that is not there
 abbrev grants_of : Option RegionEntry → ℕ → Receipts → List Notice
-grants_of none id t = []
-grants_of (some e) id t = grants_in e e.loans (queue_of id e t)
+grants_of None id t = []
+grants_of (Some e) id t = grants_in e e.loans (queue_of id e t)
 
 abbrev pub grants_under : ℕ → Receipts → List Notice
 grants_under id t = grants_of (t.regions id) id t
@@ -308,8 +306,8 @@ write_by_receipts t id a first words =
     (yes 0))
 
 abbrev pub lent_words : Option RegionEntry → ℕ → ℕ
-lent_words none a = 0
-lent_words (some e) a = pages_at a e.loans * unit e / 4
+lent_words None a = 0
+lent_words (Some e) a = pages_at a e.loans * unit e / 4
 
 abbrev pub read_by_receipts : List ℕ → Receipts → ℕ → ℕ → List ℕ
 read_by_receipts m t id a = take (lent_words (t.regions id) a) (drop (a / 4) m)
@@ -319,15 +317,15 @@ read_by_receipts m t id a = take (lent_words (t.regions id) a) (drop (a / 4) m)
 -- with status 0, and with 255 for a get. "Refusals and all other calls enter nothing"
 abbrev pub entered : Call → ℕ → Receipts → Receipts
 entered (CreateRegion name start bytes page order) v t =
-    with_regions (update v (some (record { name = name; start = start; bytes = bytes; page = page; order = order; loans = [] })) t.regions) t
-entered (DeleteRegion id) v t = with_region_deletes (deleted id t.region_deletes) (with_regions (update id none t.regions) t)
+    with_regions (update v (Some (record { name = name; start = start; bytes = bytes; page = page; order = order; loans = [] })) t.regions) t
+entered (DeleteRegion id) v t = with_region_deletes (deleted id t.region_deletes) (with_regions (update id None t.regions) t)
 entered (GetSegment id size alignment wait task priority ticks) v t = on_region id (lend v size) t
 entered (ReturnSegment id address) v t = on_region id (give_back address) t
 entered (ResizeSegment id address size) v t = on_region id (refit address size) t
 entered (CreatePartition name start bytes size) v t =
     with_partitions
-    (update v (some (record { name = name; start = start; bytes = bytes; size = size; lent = []; unlent = buffers_from (bytes / size) size start })) t.partitions) t
-entered (DeletePartition id) v t = with_partition_deletes (deleted id t.partition_deletes) (with_partitions (update id none t.partitions) t)
+    (update v (Some (record { name = name; start = start; bytes = bytes; size = size; lent = []; unlent = buffers_from (bytes / size) size start })) t.partitions) t
+entered (DeletePartition id) v t = with_partition_deletes (deleted id t.partition_deletes) (with_partitions (update id None t.partitions) t)
 entered (GetBuffer id) v t = on_partition id (λ e. with_buffers (v ∷ e.lent) (strike v e.unlent) e) t
 entered (ReturnBuffer id address) v t = on_partition id (λ e. with_buffers (strike address e.lent) (e.unlent ++ (address ∷ [])) e) t
 entered Tick v t = with_waits (all_later t.waits) t

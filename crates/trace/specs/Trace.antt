@@ -1,7 +1,6 @@
 -- Rule 14.4, demand 3: every list of calls from a fresh start, refused ones included, with clients writing what they like into what
 -- they hold. Assumes nothing.
-use Rattle.std.specs.Prelude.{◌≡◌, List, ℕ, ◌+◌, ◌*◌, ◌≤◌, ◌<◌, length, get_or}
-use Rattle.std.proofs.Math.Option.{some}
+use Rattle.std.specs.Prelude.{◌≡◌, List, ℕ, ◌+◌, ◌*◌, ◌≤◌, ◌<◌, length, get_or, Some}
 use Rattle.manager.specs.Record.{fresh}
 use Rattle.manager.specs.Result.{Result}
 use Rattle.manager.specs.Perform.{Implementation}
@@ -52,8 +51,8 @@ pub data Object : Type 0 where
 
 -- the bytes of an object's loan: from an address on, so many
 pub data Loaned (t : Receipts) : Object → ℕ → ℕ → Type 0 where
-  segment : {id a : ℕ} (e : RegionEntry) → t.regions id ≡ some e → (k : ℕ) → Lent e.loans a k → Loaned t (region id) a (k * unit e)
-  buffer : {id a : ℕ} (e : PartitionEntry) → t.partitions id ≡ some e → In a e.lent → Loaned t (partition id) a e.size
+  segment : {id a : ℕ} (e : RegionEntry) → t.regions id ≡ Some e → (k : ℕ) → Lent e.loans a k → Loaned t (region id) a (k * unit e)
+  buffer : {id a : ℕ} (e : PartitionEntry) → t.partitions id ≡ Some e → In a e.lent → Loaned t (partition id) a e.size
 
 -- word i is of what clients hold
 abbrev pub Owned : Receipts → ℕ → Type 0

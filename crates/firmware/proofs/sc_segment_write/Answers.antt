@@ -12,8 +12,8 @@ returns-then-not-unpacked c = search (rules, segments)
 pub write_segment-given-requires : goal.write_segment-given-requires
 write_segment-given-requires c = search (rules, segments)
 
-pub number-requires : goal.number-requires
-number-requires c = search (rules, segments)
+pub from-requires : goal.from-requires
+from-requires c = search (rules, segments)
 
 pub shape_of-memory : goal.shape_of-memory
 shape_of-memory c = search (rules, segments)

@@ -1,5 +1,6 @@
 -- What every kind of region keeps, so that the stores in its map and what they leave alone are shown once for every kind: its pages stay as
 -- many, a sound map stays sound, and what changes a held segment asks not from where pages are counted. Assumes nothing.
+use Rattle.std.specs.Prelude.{Option, None, Some}
 use Prim.Native.Nat.{ℕ, ◌+◌, ◌≤◌}
 use mathlib.Core.Path.{◌≡◌, refl, sym, ap, ◌∙◌}
 use mathlib.Core.Bool.{Bool, true, false, cond}
@@ -18,8 +19,6 @@ use Rattle.manager.specs.Halves.{place_block, occupy_block, release_block, halve
 use Rattle.manager.specs.Region.{by_halves, kind_of}
 use Rattle.manager.specs.declared.Order.{Order}
 use Rattle.manager.specs.declared.Need.{Need}
-use Rattle.manager.specs.declared.Place.{Place}
-use Rattle.manager.specs.declared.Place.TheVariants.{At, Nowhere}
 use Rattle.manager.proofs.Laws.Map.{Sized}
 use Rattle.manager.proofs.Laws.Apart.{Well, well_sized, well_made_of, well_proper}
 use Rattle.manager.proofs.Laws.Paged as pages
@@ -40,7 +39,7 @@ pub record Keeps (K : Kind) : Type 0 where
   -- who asks for a page is given one
   pub rounded_some : (k : ℕ) → 1 ≤ k → 1 ≤ K.rounded k
   -- a get has its pages in the map
-  pub place_in : (w : Need) (at : ℕ) (s : List Segment) (p : ℕ) → 1 ≤ w.pages → K.place w at s ≡ At p → (at ≤ p) × (p + w.pages ≤ at + total s)
+  pub place_in : (w : Need) (at : ℕ) (s : List Segment) (p : ℕ) → 1 ≤ w.pages → K.place w at s ≡ Some p → (at ≤ p) × (p + w.pages ≤ at + total s)
   -- the pages stay as many
   pub total_take : (w : Need) (at : ℕ) (s : List Segment) → total (allocate K w at s) ≡ total s
   pub total_return : (p at : ℕ) (s : List Segment) → total (K.change p 0 at s) ≡ total s
@@ -98,20 +97,20 @@ halved_of s h = proper_halved s h.proper
 of_halved : {j : ℕ} {s : List Segment} → Halved j s → Stands halves s
 of_halved h = record { sized = halved_sized h; proper = proper_of h }
 
-blocks_in : (k at : ℕ) (s : List Segment) (p : ℕ) → 1 ≤ k → place_block k at s ≡ At p → (at ≤ p) × (p + k ≤ at + total s)
+blocks_in : (k at : ℕ) (s : List Segment) (p : ℕ) → 1 ≤ k → place_block k at s ≡ Some p → (at ≤ p) × (p + k ≤ at + total s)
 blocks_in k at s p o e =
     let h = place_best k at s o p e in
     let w = free_within s at p h.pages h.free in
     (w.0, omega (arith, h.enough, w.1))
 
 module _ (w : Need) (at : ℕ) (s : List Segment) where
-  by_place : (C : List Segment → Type 0) → ((p : ℕ) → place_block w.pages at s ≡ At p → C (occupy_block p w.pages at s)) → C s
+  by_place : (C : List Segment → Type 0) → ((p : ℕ) → place_block w.pages at s ≡ Some p → C (occupy_block p w.pages at s)) → C s
       → C (allocate halves w at s)
   by_place C f z = go (place_block w.pages at s) refl
     where
-      go : (q : Place) → place_block w.pages at s ≡ q → C (on_place q (λ p. occupy_block p w.pages at s) s)
-      go (At p) e = f p e
-      go Nowhere e = z
+      go : (q : Option ℕ) → place_block w.pages at s ≡ q → C (on_place q (λ p. occupy_block p w.pages at s) s)
+      go (Some p) e = f p e
+      go None e = z
 
 halves_take : (w : Need) (at : ℕ) (s : List Segment) → 1 ≤ w.pages → Stands halves s → Stands halves (allocate halves w at s)
 halves_take w at s o h =

@@ -1,6 +1,7 @@
 -- ONE CALL GIVES EACH TASK AT MOST ONE NOTICE, so that all notices have places in the answer. The idea is a balance, kept by each step of
 -- serving and by the tick: of the tasks that pass a test, those told and those that still wait are as many as waited before. In a sound
 -- record no task waits twice, and a place that is used has a task. Assumes nothing.
+use Rattle.std.specs.Prelude.{Option, None, Some}
 use Prim.Native.Nat.{ℕ, suc, ◌+◌, ◌-◌, ◌*◌, ◌≤◌, ◌<◌}
 use mathlib.Core.Path.{◌≡◌, refl, sym, ap, ◌∙◌}
 use mathlib.Core.Bool.{Bool, true, false, cond, not}
@@ -29,8 +30,6 @@ use Rattle.manager.specs.declared.Wait.TheVariants.{No, Yes}
 use Rattle.manager.specs.declared.Status.TheVariants.{Unsatisfied}
 use Rattle.manager.specs.declared.Waiter.{Waiter}
 use Rattle.manager.specs.declared.Notice.{Notice}
-use Rattle.manager.specs.declared.Place.{Place}
-use Rattle.manager.specs.declared.Place.TheVariants.{At, Nowhere}
 use Rattle.manager.proofs.Laws.Lists.{and_first, and_second, index_passes}
 use Rattle.manager.proofs.Laws.Appended.{by_case, every_append, count_append, count_none, count_most, count_all}
 use Rattle.manager.proofs.Laws.Serve.{by_queue, by_after}
@@ -234,9 +233,9 @@ once_balanced m d ok n s e b v =
 -- ---- EVERY CALL
 
 -- by where a search ends
-on_place_lem : (g : Place) (f : ℕ → Result) (r : Result) → ((p : ℕ) → Once (f p)) → Once r → Once (on_place g f r)
-on_place_lem (At p) f r h e = h p
-on_place_lem Nowhere f r h e = e
+on_place_lem : (g : Option ℕ) (f : ℕ → Result) (r : Result) → ((p : ℕ) → Once (f p)) → Once r → Once (on_place g f r)
+on_place_lem (Some p) f r h e = h p
+on_place_lem None f r h e = e
 
 -- a refusal tells nobody, nor does an action without notices
 module _ (m : List ℕ) (d : Manager) (cs : List Check) (act : Result) where

@@ -1,5 +1,6 @@
 -- Placing, taking and changing segments keep a map well formed and its pages in number, and what each does is one place of the list:
 -- the map before it, the segment, and the map behind it. Assumes nothing.
+use Rattle.std.specs.Prelude.{Option, None, Some}
 use Prim.Native.Nat.{ℕ, zero, suc, ◌+◌, ◌-◌, ◌≤◌, ◌<◌}
 use mathlib.Core.Path.{◌≡◌, refl, sym, ap, ◌∙◌}
 use mathlib.Core.Bool.{Bool, true, false, cond, ◌&&◌, and-false}
@@ -18,8 +19,6 @@ use Rattle.manager.proofs.Laws.Apart.{Well, well_after}
 use Rattle.manager.specs.Kind.{on_place, allocate, held_from}
 use Rattle.manager.specs.Paged.{free+, held+, lead, rest, room_from, place_from, occupy_from, paged, reach_from, change_from}
 use Rattle.manager.specs.declared.Need.{Need}
-use Rattle.manager.specs.declared.Place.{Place}
-use Rattle.manager.specs.declared.Place.TheVariants.{At, Nowhere}
 
 -- ---- free pages in front of a map
 
@@ -125,7 +124,7 @@ total_occupy p k at (free n ∷ s) = go (leb at p && leb (p + k) (at + n)) refl 
 
 -- OF ALIGNMENT 0 A GET TAKES THE LOW END OF THE LOWEST SEGMENT THAT HAS THE PAGES, by computing
 pub anywhere : (k at n : ℕ) (s : List Segment)
-    → let w : Need = record { pages = k; every = 0 } in place_from w at (free n ∷ s) ≡ cond (leb k n) (At at) (place_from w (at + n) s)
+    → let w : Need = record { pages = k; every = 0 } in place_from w at (free n ∷ s) ≡ cond (leb k n) (Some at) (place_from w (at + n) s)
 unfolding place_from
 anywhere k at n s = refl
 
@@ -148,16 +147,16 @@ first_fit w at (free n ∷ s) =
     (free n ∷ first_fit w (at + n) s)
 
 -- where nothing is placed, nothing is taken
-fit_none : (w : Need) (at : ℕ) (s : List Segment) → place_from w at s ≡ Nowhere → first_fit w at s ≡ s
+fit_none : (w : Need) (at : ℕ) (s : List Segment) → place_from w at s ≡ None → first_fit w at s ≡ s
 unfolding place_from first_fit
 fit_none w at [] e = refl
 fit_none w at (held n ∷ s) e = ap (λ (t : List Segment). held n ∷ t) (fit_none w (at + n) s e)
 fit_none w at (free n ∷ s) e = go (leb w.pages (room_from w.every at n)) refl (λ e'. fit_none w (at + n) s e')
   where
-    go : (b : Bool) → leb w.pages (room_from w.every at n) ≡ b → (place_from w (at + n) s ≡ Nowhere → first_fit w (at + n) s ≡ s)
+    go : (b : Bool) → leb w.pages (room_from w.every at n) ≡ b → (place_from w (at + n) s ≡ None → first_fit w (at + n) s ≡ s)
         → first_fit w at (free n ∷ s) ≡ free n ∷ s
     go true f ih =
-        let a : At (align_up w.every at) ≡ Nowhere = rw f at e in
+        let a : Some (align_up w.every at) ≡ None = rw f at e in
         absurd (let z : ◌≡◌ {A = ℕ} 0 1 = cc in omega arith)
     go false f ih = rw f (ap (λ (t : List Segment). free n ∷ t) (ih (rw f at e)))
 
@@ -168,7 +167,7 @@ within p k at n h l = rw (le-leb at p h, le-leb (p + k) (at + n) l)
 beyond : (p k at n : ℕ) → at + n < p + k → (leb at p && leb (p + k) (at + n)) ≡ false
 beyond p k at n l = rw (lt-leb (p + k) (at + n) l) (and-false (leb at p))
 
-fit_at : (w : Need) (at : ℕ) (s : List Segment) (p : ℕ) → 1 ≤ w.pages → place_from w at s ≡ At p
+fit_at : (w : Need) (at : ℕ) (s : List Segment) (p : ℕ) → 1 ≤ w.pages → place_from w at s ≡ Some p
     → (at ≤ p) × (occupy_from p w.pages at s ≡ first_fit w at s)
 unfolding place_from first_fit occupy_from free+
 fit_at w at [] p o e = absurd (let z : ◌≡◌ {A = ℕ} 0 1 = cc in omega arith)
@@ -178,10 +177,10 @@ fit_at w at (held n ∷ s) p o e =
 fit_at w at (free n ∷ s) p o e = go (leb w.pages (room_from w.every at n)) refl (λ e'. fit_at w (at + n) s p o e')
   where
     go : (b : Bool) → leb w.pages (room_from w.every at n) ≡ b
-        → (place_from w (at + n) s ≡ At p → (at + n ≤ p) × (occupy_from p w.pages (at + n) s ≡ first_fit w (at + n) s))
+        → (place_from w (at + n) s ≡ Some p → (at + n ≤ p) × (occupy_from p w.pages (at + n) s ≡ first_fit w (at + n) s))
         → (at ≤ p) × (occupy_from p w.pages at (free n ∷ s) ≡ first_fit w at (free n ∷ s))
     go true f ih =
-        let a : At (align_up w.every at) ≡ At p = rw f at e in
+        let a : Some (align_up w.every at) ≡ Some p = rw f at e in
         let q : align_up w.every at ≡ p = cc in
         let l = room_in w.every at n w.pages o (leb-true w.pages (room_from w.every at n) f) in
         let h : at ≤ p = omega (arith, align_ge w.every at) in
@@ -194,30 +193,30 @@ fit_at w at (free n ∷ s) p o e = go (leb w.pages (room_from w.every at n)) ref
 pub fit_is : (w : Need) (at : ℕ) (s : List Segment) → 1 ≤ w.pages → allocate paged w at s ≡ first_fit w at s
 fit_is w at s o = go (place_from w at s) refl
   where
-    go : (q : Place) → place_from w at s ≡ q → on_place q (λ p. occupy_from p w.pages at s) s ≡ first_fit w at s
-    go (At p) e = (fit_at w at s p o e).1
-    go Nowhere e = sym (fit_none w at s e)
+    go : (q : Option ℕ) → place_from w at s ≡ q → on_place q (λ p. occupy_from p w.pages at s) s ≡ first_fit w at s
+    go (Some p) e = (fit_at w at s p o e).1
+    go None e = sym (fit_none w at s e)
 
 -- it keeps a map well formed and its pages in number
 pub well_take : (w : Need) (at : ℕ) (s : List Segment) → 1 ≤ w.pages → Well true s → Well true (allocate paged w at s)
 well_take w at s o h = go (place_from w at s)
   where
-    go : (q : Place) → Well true (on_place q (λ p. occupy_from p w.pages at s) s)
-    go (At p) = well_occupy p w.pages at true s o h
-    go Nowhere = h
+    go : (q : Option ℕ) → Well true (on_place q (λ p. occupy_from p w.pages at s) s)
+    go (Some p) = well_occupy p w.pages at true s o h
+    go None = h
 
 pub total_take : (w : Need) (at : ℕ) (s : List Segment) → total (allocate paged w at s) ≡ total s
 total_take w at s = go (place_from w at s)
   where
-    go : (q : Place) → total (on_place q (λ p. occupy_from p w.pages at s) s) ≡ total s
-    go (At p) = total_occupy p w.pages at s
-    go Nowhere = refl
+    go : (q : Option ℕ) → total (on_place q (λ p. occupy_from p w.pages at s) s) ≡ total s
+    go (Some p) = total_occupy p w.pages at s
+    go None = refl
 
-pub take_none : (w : Need) (at : ℕ) (s : List Segment) → place_from w at s ≡ Nowhere → allocate paged w at s ≡ s
+pub take_none : (w : Need) (at : ℕ) (s : List Segment) → place_from w at s ≡ None → allocate paged w at s ≡ s
 take_none w at s e = rw e
 
 -- a get has its pages in the map
-pub place_within : (w : Need) (at : ℕ) (s : List Segment) (p : ℕ) → 1 ≤ w.pages → place_from w at s ≡ At p
+pub place_within : (w : Need) (at : ℕ) (s : List Segment) (p : ℕ) → 1 ≤ w.pages → place_from w at s ≡ Some p
     → (at ≤ p) × (p + w.pages ≤ at + total s)
 unfolding place_from total
 place_within w at [] p o e = absurd (let z : ◌≡◌ {A = ℕ} 0 1 = cc in omega arith)
@@ -225,9 +224,9 @@ place_within w at (held n ∷ s) p o e = let h = place_within w (at + n) s p o e
 place_within w at (free n ∷ s) p o e = go (leb w.pages (room_from w.every at n)) refl (λ e'. place_within w (at + n) s p o e')
   where
     go : (b : Bool) → leb w.pages (room_from w.every at n) ≡ b
-        → (place_from w (at + n) s ≡ At p → (at + n ≤ p) × (p + w.pages ≤ at + n + total s)) → (at ≤ p) × (p + w.pages ≤ at + (n + total s))
+        → (place_from w (at + n) s ≡ Some p → (at + n ≤ p) × (p + w.pages ≤ at + n + total s)) → (at ≤ p) × (p + w.pages ≤ at + (n + total s))
     go true f ih =
-        let a : At (align_up w.every at) ≡ At p = rw f at e in
+        let a : Some (align_up w.every at) ≡ Some p = rw f at e in
         let q : align_up w.every at ≡ p = cc in
         let l = room_in w.every at n w.pages o (leb-true w.pages (room_from w.every at n) f) in
         (omega (arith, align_ge w.every at), omega arith)

@@ -1,5 +1,6 @@
 -- What a region could serve with nothing held, by its kind: its map is then one free segment, and the search looks at no other. Assumes
 -- nothing.
+use Rattle.std.specs.Prelude.{None, Some}
 use Prim.Native.Nat.{ℕ, zero, suc, ◌≤◌}
 use mathlib.Core.Path.{◌≡◌, refl}
 use mathlib.Core.Bool.{Bool, true, false, cond}
@@ -15,9 +16,8 @@ use Rattle.manager.specs.Paged.{free+, room_from, place_from, paged}
 use Rattle.manager.specs.Halves.{smallest, lowest_free, place_block, halves}
 use Rattle.manager.specs.Region.{servable_at}
 use Rattle.manager.specs.declared.Need.{Need}
-use Rattle.manager.specs.declared.Place.TheVariants.{At, Nowhere}
 
-is_place_lem : (b : Bool) (p : ℕ) → is_place (cond b (At p) Nowhere) ≡ b
+is_place_lem : (b : Bool) (p : ℕ) → is_place (cond b (Some p) None) ≡ b
 is_place_lem true p = refl
 is_place_lem false p = refl
 
@@ -36,7 +36,7 @@ unfolding place_block smallest lowest_free free+
 halves_serve k at zero o = absurd (omega arith)
 halves_serve k at (suc n) o = go (leb k (suc n))
   where
-    go : (b : Bool) → is_place (cond (eqb (cond b (suc n) 0) 0) Nowhere (lowest_free (cond b (suc n) 0) at (free (suc n) ∷ []))) ≡ b
+    go : (b : Bool) → is_place (cond (eqb (cond b (suc n) 0) 0) None (lowest_free (cond b (suc n) 0) at (free (suc n) ∷ []))) ≡ b
     go true = rw (ne_eqb (suc n) 0 (λ e. omega arith), eq-eqb (suc n) (suc n) refl)
     go false = refl
 

@@ -1,5 +1,6 @@
 -- WHAT HOLDS OF SERVING, shown once: of nobody served, and of the first before those behind him; then of one region's queue before those
 -- of the slots behind it. What serving keeps, which words it writes and whom it tells all go by this. Assumes nothing.
+use Rattle.std.specs.Prelude.{Option, None, Some}
 use Prim.Native.Nat.{ℕ, zero, suc, ◌<◌}
 use mathlib.Core.Path.{◌≡◌, refl}
 use mathlib.Core.Bool.{cond}
@@ -16,8 +17,6 @@ use Rattle.manager.specs.declared.Manager.{Manager}
 use Rattle.manager.specs.declared.Waiter.{Waiter}
 use Rattle.manager.specs.declared.Notice.{Notice}
 use Rattle.manager.specs.declared.Need.{Need}
-use Rattle.manager.specs.declared.Place.{Place}
-use Rattle.manager.specs.declared.Place.TheVariants.{At, Nowhere}
 use Rattle.manager.proofs.Laws.Appended.{by_case}
 
 -- the first waiter of a region, what he needs, and the memory after he has his pages
@@ -45,9 +44,9 @@ module _ (id : ℕ) (P : List ℕ → Manager → Served → Type 0) (nobody : (
       by_case (ltb i tasks) (λ b. P m d (cond b (on_place g next (quiet m d)) (quiet m d)))
       (λ h. on_place_lem g next (λ p. first m d (ltb-true i tasks h) (address_of (region_of d id) p) s (by_turns f (after_first m d id) (dequeue d i)))) (λ h. nobody m d)
     where
-      on_place_lem : (g : Place) (next : ℕ → Served) → ((p : ℕ) → P m d (next p)) → P m d (on_place g next (quiet m d))
-      on_place_lem (At p) next h = h p
-      on_place_lem Nowhere next h = nobody m d
+      on_place_lem : (g : Option ℕ) (next : ℕ → Served) → ((p : ℕ) → P m d (next p)) → P m d (on_place g next (quiet m d))
+      on_place_lem (Some p) next h = h p
+      on_place_lem None next h = nobody m d
 
   pub by_queue : (m : List ℕ) (d : Manager) → P m d (serve m d id)
   unfolding serve

@@ -1,5 +1,6 @@
 -- Pages counted from elsewhere: a map that starts `by` pages further on has every page so many further on. So what the stores do by the
 -- places of words in the map is what the rules say by the numbers of pages. Assumes nothing.
+use Rattle.std.specs.Prelude.{Option, None, Some}
 use Prim.Native.Nat.{ℕ, ◌+◌}
 use mathlib.Core.Path.{◌≡◌, refl}
 use mathlib.Core.Bool.{Bool, true, false}
@@ -10,12 +11,10 @@ use borrow.Author.Tests.{eqb-true, eqb-false, eq-eqb, ne_eqb}
 use Rattle.manager.specs.Map.{Segment, free, held}
 use Rattle.manager.specs.Kind.{held_from}
 use Rattle.manager.specs.Paged.{reach_from, change_from}
-use Rattle.manager.specs.declared.Place.{Place}
-use Rattle.manager.specs.declared.Place.TheVariants.{At, Nowhere}
 
-abbrev pub shifted : ℕ → Place → Place
-shifted by (At p) = At (by + p)
-shifted by Nowhere = Nowhere
+abbrev pub shifted : ℕ → Option ℕ → Option ℕ
+shifted by (Some p) = Some (by + p)
+shifted by None = None
 
 module _ (by : ℕ) where
   shift_test : (at p : ℕ) (b : Bool) → eqb at p ≡ b → eqb (by + at) (by + p) ≡ b

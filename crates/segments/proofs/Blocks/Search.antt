@@ -1,5 +1,6 @@
 -- The two searches of a map by halves, each a walk from segment to segment: the pages of the smallest free block that serves, where what is
 -- found so far and what is left give the whole; and the lowest free block of a size. Assumes nothing.
+use Rattle.std.specs.Prelude.{None, Some}
 use Prim.Native.Nat.{ℕ, zero, suc, ◌+◌, ◌/◌, ◌%◌, ◌≤◌, ◌<◌, min}
 use mathlib.Core.Path.{◌≡◌, refl, sym, ap, ◌∙◌}
 use mathlib.Core.Bool.{Bool, true, false, cond}
@@ -11,7 +12,6 @@ use borrow.Author.Tests.{le-leb, lt-leb, leb-true, leb-false, eq-eqb, ne_eqb}
 use Rattle.manager.specs.Map.{Segment, decode, tiled}
 use Rattle.manager.specs.Halves.{lesser, smallest, lowest_free}
 use Rattle.manager.proofs.Laws.Map.{Here, walk_start, walk_step, walk_end, says_free, says_held, next_here}
-use Rattle.manager.specs.declared.Place.TheVariants.{At, Nowhere}
 
 -- ---- the lesser of two sizes
 
@@ -122,7 +122,7 @@ pub find_start : (ws : List ℕ) (b : ℕ) → tiled ws ≡ true → Finding ws 
 find_start ws b ok = record { here = walk_start ws ok; left = refl }
 
 module _ (ws : List ℕ) (b i : ℕ) (p : Finding ws b i) where
-  pub find_end : length ws ≤ i → Nowhere ≡ lowest_free b 0 (decode ws)
+  pub find_end : length ws ≤ i → None ≡ lowest_free b 0 (decode ws)
   unfolding lowest_free
   find_end l = sym (ap (lowest_free b i) (walk_end ws i p.here l)) ∙ p.left
 
@@ -139,7 +139,7 @@ module _ (ws : List ℕ) (b i : ℕ) (p : Finding ws b i) where
           left = sym (ap (lowest_free b i) (says_free ws i p.here l e) ∙ rw (ne_eqb (get_or ws i 0 / 2) b ne)) ∙ p.left;
         }
 
-    pub find_here : get_or ws i 0 % 2 ≡ 0 → get_or ws i 0 / 2 ≡ b → At i ≡ lowest_free b 0 (decode ws)
+    pub find_here : get_or ws i 0 % 2 ≡ 0 → get_or ws i 0 / 2 ≡ b → Some i ≡ lowest_free b 0 (decode ws)
     unfolding lowest_free
     find_here e is = sym (ap (lowest_free b i) (says_free ws i p.here l e) ∙ rw (eq-eqb (get_or ws i 0 / 2) b is)) ∙ p.left
 

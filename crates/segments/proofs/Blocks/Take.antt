@@ -1,5 +1,6 @@
 -- What a get does to the words: the smallest free block that serves, the lowest of its size, stands in the words as a first word and words
 -- 0; just these are lent, and what they are cut to is put back in their place. Assumes nothing.
+use Rattle.std.specs.Prelude.{None, Some}
 use Prim.Native.Nat.{ℕ, zero, suc, ◌+◌, ◌-◌, ◌≤◌}
 use mathlib.Core.Path.{◌≡◌, sym, ap, ◌∙◌}
 use mathlib.Core.Logic.{inl, inr, ⊎_elim}
@@ -17,7 +18,6 @@ use Rattle.manager.specs.Map.{Segment, free, held, words_of, draw, decode, tiled
 use Rattle.manager.specs.Kind.{allocate}
 use Rattle.manager.specs.Halves.{FreeAt, smallest, lowest_free, place_block, carve, occupy_block, halves}
 use Rattle.manager.specs.declared.Need.{Need}
-use Rattle.manager.specs.declared.Place.TheVariants.{At, Nowhere}
 use Rattle.manager.proofs.Laws.Map.{Sized, sound_tiled, sound_proper, redraw, sized_decoded, draw_append, draw_cons, length_draw, length_words}
 use Rattle.manager.proofs.Laws.Map.{total_decoded}
 use Rattle.manager.proofs.Laws.Halves.Cut.{Halved, one, two, proper_halved}
@@ -99,7 +99,7 @@ pub record Took (n : Need) (b i : ℕ) (ws : List ℕ) : Type 0 where
   pub room : n.pages ≤ b
   pub long : length (part ws i b) ≡ b
   pub blank : Blank (part ws i b) n.pages
-  pub place : At i ≡ place_block n.pages 0 (decode ws)
+  pub place : Some i ≡ place_block n.pages 0 (decode ws)
   pub words : (out : List ℕ) → out ≡ draw (carve (level (length (part ws i b))) n.pages (length (part ws i b)))
       → take i ws ++ (out ++ drop (i + b - i) (drop i ws)) ≡ draw (allocate halves n 0 (decode ws))
 
@@ -112,7 +112,7 @@ module _ (ws : List ℕ) (n : Need) (ok : sound_map halves.proper ws ≡ true) w
 
   -- where none serves nothing changes
   module _ (b : ℕ) (eb : b ≡ smallest k (decode ws)) where
-    pub none_large : b ≡ 0 → place_block k 0 (decode ws) ≡ Nowhere
+    pub none_large : b ≡ 0 → place_block k 0 (decode ws) ≡ None
     unfolding place_block
     none_large z = rw (eq-eqb (smallest k (decode ws)) 0 (sym eb ∙ z))
 
@@ -120,17 +120,17 @@ module _ (ws : List ℕ) (n : Need) (ok : sound_map halves.proper ws ≡ true) w
     unfolding place_block
     place_is ne = rw (← eb, ne_eqb b 0 ne)
 
-  pub untaken : place_block k 0 (decode ws) ≡ Nowhere → (Nowhere ≡ place_block k 0 (decode ws)) × (ws ≡ draw (allocate halves n 0 (decode ws)))
+  pub untaken : place_block k 0 (decode ws) ≡ None → (None ≡ place_block k 0 (decode ws)) × (ws ≡ draw (allocate halves n 0 (decode ws)))
   untaken e = (sym e, rw e (sym (redraw ws tiles)))
 
-  module _ (b i : ℕ) (o : 1 ≤ k) (eb : b ≡ smallest k (decode ws)) (ne : b ≡ 0 → ⊥) (ei : lowest_free b 0 (decode ws) ≡ At i) where
+  module _ (b i : ℕ) (o : 1 ≤ k) (eb : b ≡ smallest k (decode ws)) (ne : b ≡ 0 → ⊥) (ei : lowest_free b 0 (decode ws) ≡ Some i) where
     abbrev s : List Segment
     s = decode ws
 
     there : FreeAt s 0 i b
     there = (lowest_there b 0 s i ei).0
 
-    place : place_block k 0 s ≡ At i
+    place : place_block k 0 s ≡ Some i
     place = place_is b eb ne ∙ ei
 
     pub took : Took n b i ws

@@ -1,10 +1,10 @@
 -- A create: the lowest empty slot that is not spent has the partition that was asked for, all its buffers chained by address, and its entry lends none.
 -- Its area meets no other, so all other objects stay as they were. Assumes nothing.
+use Rattle.std.specs.Prelude.{Some}
 use mathlib.Core.Path.{◌≡◌, refl, ◌∙◌, sym, ap, subst}
 use mathlib.Core.Bool.{true, false}
 use mathlib.Core.List.{List, []}
 use mathlib.Core.Logic.{inl, inr}
-use mathlib.Core.Option.{some}
 use Prim.Native.Nat.{ℕ, zero, suc, ◌+◌, ◌*◌, ◌/◌, ◌%◌, ◌≤◌, ◌<◌}
 use native.Mathlib.Nat.{zero-mul}
 use native.Mathlib.Omega.{arith}
@@ -115,16 +115,16 @@ module _ (m : List ℕ) (d : Manager) (t : Receipts) (v : Inv m d t) (name start
     free_slot : unspent (get_or d.partitions slot no_partition).name generation ≡ true
     free_slot = index_passes no_partition (λ p. unspent p.name p.generation) d.partitions (omega (arith, v.picture.partition_slots))
 
-    after : Inv memory (with_partition d slot made) (keeping id (some (asked name start bytes size)) t)
+    after : Inv memory (with_partition d slot made) (keeping id (Some (asked name start bytes size)) t)
     after =
         let nr = v.picture.region_slots in
         let np = v.picture.partition_slots in
         let unnamed = eqb-true _ 0 (and_first (eqb (get_or d.partitions slot no_partition).name 0) _ free_slot) in
-        put_keeps m d t v id slot generation within refl made (inl unnamed) (inr refl) memory (some (asked name start bytes size)) t.partition_deletes only
+        put_keeps m d t v id slot generation within refl made (inl unnamed) (inr refl) memory (Some (asked name start bytes size)) t.partition_deletes only
         (λ x n. overlaps_clear d nr np (area_of made) clear x)
         (names_new (λ p. p.name) no_partition d.partitions np v.picture.partition_names slot within made new)
         (areas_new_partition d nr np slot within v.picture.areas made clear)
-        (subst (λ (p : Partition). PartitionSlot memory p (some (asked name start bytes size)))
+        (subst (λ (p : Partition). PartitionSlot memory p (Some (asked name start bytes size)))
         (sym (there m d t v id slot generation within refl made is.named refl)) (live made (asked name start bytes size) is))
         (slot_filled (λ p. p.name) (λ p. p.generation) emptied_partition no_partition _ _ _ (v.picture.partition_is slot within) free_slot refl is.named)
         (λ j n. refl)
@@ -133,8 +133,8 @@ module _ (m : List ℕ) (d : Manager) (t : Receipts) (v : Inv m d t) (name start
         → Kept (CreatePartition name start bytes size) m t (done memory (with_partition d slot made) id)
     act_kept words =
         let e = asked name start bytes size in
-        kept_done (CreatePartition name start bytes size) m t (keeping id (some e) t) _ (with_partition d slot made) id refl after
-        (λ w h h'. words w (owned_no_link _ _ (keeping id (some e) t) after id e (update_here id (some e) t.partitions) w h'))
+        kept_done (CreatePartition name start bytes size) m t (keeping id (Some e) t) _ (with_partition d slot made) id refl after
+        (λ w h h'. words w (owned_no_link _ _ (keeping id (Some e) t) after id e (update_here id (Some e) t.partitions) w h'))
 
   -- A CREATE KEEPS THE PICTURE
   keeps_create : Kept (CreatePartition name start bytes size) m t (create_partition m d name start bytes size)

@@ -1,10 +1,10 @@
 -- A create: the lowest empty slot that is not spent has the region that was asked for, its map one free segment, its entry no loans. Its area meets no other,
 -- so all other objects stay as they were, and nobody waits for it. Assumes nothing.
+use Rattle.std.specs.Prelude.{None, Some}
 use mathlib.Core.Path.{◌≡◌, refl, sym, ap, subst}
 use mathlib.Core.Bool.{true, false}
 use mathlib.Core.Logic.{inl, inr}
 use mathlib.Core.List.{List, []}
-use mathlib.Core.Option.{none, some}
 use Prim.Native.Nat.{ℕ, ◌+◌, ◌*◌, ◌≤◌, ◌<◌}
 use native.Mathlib.Omega.{arith}
 use lib.ListN.{length, get_or}
@@ -79,33 +79,33 @@ module _ (m : List ℕ) (d : Manager) (t : Receipts) (v : Inv m d t) (name start
     unnamed : (get_or d.regions slot no_region).name ≡ 0
     unnamed = eqb-true _ 0 (and_first (eqb (get_or d.regions slot no_region).name 0) _ free_slot)
 
-    not_there : t.regions id ≡ none
+    not_there : t.regions id ≡ None
     not_there =
         region_unnamed m (region_of d id) (t.regions id) (v.picture.regions id)
         (ap (λ (r : Region). r.name) (slot_empty (λ r. r.name) (λ r. r.generation) no_region d.regions slot within unnamed generation))
 
-    picture : Picture memory manager (registering id (some asked) t)
+    picture : Picture memory manager (registering id (Some asked) t)
     picture =
         let nr = v.picture.region_slots in
         let np = v.picture.partition_slots in
-        put_region m d t v.picture id slot generation within refl (region_as generation asked) (inl unnamed) (inr refl) memory (some asked) t.region_deletes only
+        put_region m d t v.picture id slot generation within refl (region_as generation asked) (inl unnamed) (inr refl) memory (Some asked) t.region_deletes only
         (λ x n. overlaps_clear d nr np (area_for (region_for asked)) clear x)
         (names_new (λ r. r.name) no_region d.regions nr v.picture.region_names slot within (region_as generation asked) new)
         (areas_new_region d nr np slot within v.picture.areas (region_as generation asked) clear)
-        (subst (λ (r : Region). RegionSlot memory r (some asked))
+        (subst (λ (r : Region). RegionSlot memory r (Some asked))
         (sym (region_there m d t v.picture id slot generation within refl (region_as generation asked) step.is.named refl)) (live generation asked step.is))
         (slot_filled (λ r. r.name) (λ r. r.generation) emptied_region no_region _ _ _ (v.picture.region_is slot within) free_slot refl step.is.named)
         (λ j n. refl)
 
     act_kept : Kept asks m t (done memory manager id)
     act_kept =
-        let u = registering id (some asked) t in
+        let u = registering id (Some asked) t in
         let n = note_done asks memory manager t id Successful refl in
         let after : Inv memory manager u =
-        with_waits_lem picture (waits_registered t id (some asked) (none_there d t v.waits id not_there) t.region_deletes (λ w h. refl) d manager refl v.waits) in
+        with_waits_lem picture (waits_registered t id (Some asked) (none_there d t v.waits id not_there) t.region_deletes (λ w h. refl) d manager refl v.waits) in
         record {
           inv = rw n after;
-          stays = λ w h h'. map_stays memory manager u after id asked (update_here id (some asked) t.regions) m memory step.only w
+          stays = λ w h h'. map_stays memory manager u after id asked (update_here id (Some asked) t.regions) m memory step.only w
               (subst (λ (x : Receipts). Owned x w) n h');
           undamaged = refl;
         }

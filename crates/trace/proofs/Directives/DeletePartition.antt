@@ -1,7 +1,7 @@
 -- A delete of a partition with nothing lent: its slot is emptied, with the next generation, and no word changes. Assumes nothing.
+use Rattle.std.specs.Prelude.{None}
 use mathlib.Core.Path.{◌≡◌, refl, sym, subst}
 use mathlib.Core.List.{List, [], ◌∷◌}
-use mathlib.Core.Option.{none}
 use mathlib.Core.Bool.{not}
 use mathlib.Core.Logic.{inl, inr}
 use Prim.Native.Nat.{ℕ, ◌+◌}
@@ -48,15 +48,15 @@ module _ (m : List ℕ) (d : Manager) (t : Receipts) (v : Inv m d t) where
   emptied id = emptied_partition ((partition_of d id).generation + 1)
 
   emptied_keeps : (id : ℕ) (e : PartitionEntry) → PartitionIs m (partition_of d id) e
-      → Inv m (with_partition d (slot_of id) (emptied id)) (with_partition_deletes (deleted id t.partition_deletes) (keeping id none t))
+      → Inv m (with_partition d (slot_of id) (emptied id)) (with_partition_deletes (deleted id t.partition_deletes) (keeping id None t))
   emptied_keeps id e is =
       let slot = live_slot m d t v id e is in
       let h = live_in m d t v id e is in
-      put_keeps m d t v id (slot_of id) (generation_of id) h (id_back id h) (emptied id) (inr slot.same) (inl refl) m none
+      put_keeps m d t v id (slot_of id) (generation_of id) h (id_back id h) (emptied id) (inr slot.same) (inl refl) m None
       (deleted id t.partition_deletes) (only_refl 0 0 m) (λ x n. no_area_lem (area_in d x))
       (names_none (λ p. p.name) no_partition d.partitions v.picture.partition_slots v.picture.partition_names (slot_of id) h (emptied id) refl)
       (areas_no_partition d v.picture.region_slots v.picture.partition_slots (slot_of id) h v.picture.areas ((partition_of d id).generation + 1))
-      (subst (λ (p : Partition). PartitionSlot m p none)
+      (subst (λ (p : Partition). PartitionSlot m p None)
       (sym (gone m d t v id (slot_of id) (generation_of id) h (id_back id h) (emptied id) refl)) (empty 0))
       (slot_emptied (λ p. p.name) (λ p. p.generation) emptied_partition no_partition (partition_of d id) id t.partition_deletes
       (subst (λ (p : Partition). PartitionSlotIs p (t.partition_deletes (slot_of id))) (sym slot.is) (v.picture.partition_is (slot_of id) h))
@@ -69,7 +69,7 @@ module _ (m : List ℕ) (d : Manager) (t : Receipts) (v : Inv m d t) where
   keeps_delete id =
       kept_checked (DeletePartition id) m d t v _ _ (sound_inv m d t v) refl
       (λ c. let s = partition_entry_lem m (partition_of d id) (t.partitions id) (v.picture.partitions id) c.0 in
-      kept_done (DeletePartition id) m t (with_partition_deletes (deleted id t.partition_deletes) (keeping id none t)) m (with_partition d (slot_of id) (emptied id)) 0 refl
+      kept_done (DeletePartition id) m t (with_partition_deletes (deleted id t.partition_deletes) (keeping id None t)) m (with_partition d (slot_of id) (emptied id)) 0 refl
       (emptied_keeps id s.0 s.2)
       (λ w h h'. refl))
 

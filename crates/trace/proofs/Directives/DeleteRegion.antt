@@ -1,9 +1,9 @@
 -- A delete of a region with nothing held: nobody waits for it, and its slot is emptied, with the next generation. Assumes nothing.
+use Rattle.std.specs.Prelude.{None, Some}
 use mathlib.Core.Path.{◌≡◌, refl, sym, ◌∙◌, subst}
 use mathlib.Core.Bool.{false}
 use mathlib.Core.List.{List, [], ◌∷◌}
 use mathlib.Core.Logic.{inl, inr}
-use mathlib.Core.Option.{none, some}
 use Prim.Native.Nat.{ℕ, ◌+◌}
 use native.Mathlib.Omega.{arith}
 use lib.ListN.{length}
@@ -44,7 +44,7 @@ lends_none [] e = refl
 lends_none (x ∷ l) e = let z : ◌≡◌ {A = ℕ} 0 1 = cc in absurd (omega arith)
 
 module _ (m : List ℕ) (d : Manager) (t : Receipts) (v : Inv m d t) (id : ℕ) where
-  module _ (e : RegionEntry) (q : t.regions id ≡ some e) (at : RegionAt m (region_of d id) e) (h : any_held m (region_for e) ≡ false) where
+  module _ (e : RegionEntry) (q : t.regions id ≡ Some e) (at : RegionAt m (region_of d id) e) (h : any_held m (region_for e) ≡ false) where
     slot : Live (λ (r : Region). r.name) (λ r. r.generation) no_region d.regions id
     slot =
         live_object (λ r. r.name) (λ r. r.generation) no_region d.regions refl id
@@ -63,13 +63,13 @@ module _ (m : List ℕ) (d : Manager) (t : Receipts) (v : Inv m d t) (id : ℕ) 
     abbrev deletes : ℕ → ℕ
     deletes = deleted id t.region_deletes
 
-    picture : Picture m (with_region d (slot_of id) emptied) (with_region_deletes deletes (registering id none t))
+    picture : Picture m (with_region d (slot_of id) emptied) (with_region_deletes deletes (registering id None t))
     picture =
-        put_region m d t v.picture id (slot_of id) (generation_of id) now.within (id_back id now.within) emptied (inr slot.same) (inl refl) m none deletes
+        put_region m d t v.picture id (slot_of id) (generation_of id) now.within (id_back id now.within) emptied (inr slot.same) (inl refl) m None deletes
         (only_refl 0 0 m) (λ x n. no_area_lem (area_in d x))
         (names_none (λ r. r.name) no_region d.regions v.picture.region_slots v.picture.region_names (slot_of id) now.within emptied refl)
         (areas_no_region d v.picture.region_slots v.picture.partition_slots (slot_of id) now.within v.picture.areas ((region_of d id).generation + 1))
-        (subst (λ (r : Region). RegionSlot m r none)
+        (subst (λ (r : Region). RegionSlot m r None)
         (sym (region_gone m d t v.picture id (slot_of id) (generation_of id) now.within (id_back id now.within) emptied refl)) (empty 0))
         (slot_emptied (λ r. r.name) (λ r. r.generation) emptied_region no_region (region_of d id) id t.region_deletes
         (subst (λ (r : Region). RegionSlotIs r (t.region_deletes (slot_of id))) (sym slot.is) (v.picture.region_is (slot_of id) now.within))
@@ -86,7 +86,7 @@ module _ (m : List ℕ) (d : Manager) (t : Receipts) (v : Inv m d t) (id : ℕ) 
     act_kept =
         kept_words (DeleteRegion id) m t (done m (with_region d (slot_of id) emptied) 0) refl refl
         (rw (note_done (DeleteRegion id) m (with_region d (slot_of id) emptied) t 0 Successful refl)
-        (with_waits_lem picture (waits_registered t id none nobody deletes same d (with_region d (slot_of id) emptied) refl v.waits)))
+        (with_waits_lem picture (waits_registered t id None nobody deletes same d (with_region d (slot_of id) emptied) refl v.waits)))
 
   -- A DELETE KEEPS THE PICTURE
   keeps_delete : Kept (DeleteRegion id) m t (delete_region m d id)

@@ -1,9 +1,9 @@
 -- A get of a buffer: the front leaves the chain and is lent. Assumes nothing.
+use Rattle.std.specs.Prelude.{Some}
 use mathlib.Core.Path.{◌≡◌, refl, sym, ap, ◌∙◌, subst}
 use mathlib.Core.Bool.{true}
 use mathlib.Core.List.{List, ◌∷◌, []}
 use mathlib.Core.Logic.{◌⊎◌, inl, inr}
-use mathlib.Core.Option.{some}
 use Prim.Native.Nat.{ℕ, ◌<◌, suc}
 use native.Mathlib.Omega.{arith}
 use lib.ListN.{get_or, length}
@@ -100,7 +100,7 @@ module _ (m : List ℕ) (p : Partition) (e : PartitionEntry) (is : PartitionIs m
       get_only m p (partition_shaped m p e is) (live_chain m p is.sound) w (λ a o. n a (rw is.chained at ((on_in a (chain m p)).0 o))) h
 
 module _ (m : List ℕ) (d : Manager) (t : Receipts) (v : Inv m d t) (id : ℕ) where
-  module _ (e : PartitionEntry) (q : t.partitions id ≡ some e) (is : PartitionIs m (partition_of d id) e) (h : 0 < (partition_of d id).free) where
+  module _ (e : PartitionEntry) (q : t.partitions id ≡ Some e) (is : PartitionIs m (partition_of d id) e) (h : 0 < (partition_of d id).free) where
     act_kept : Kept (GetBuffer id) m t (done (after_get m (partition_of d id)) (with_partition d (slot_of id) (gotten m (partition_of d id))) (partition_of d id).front)
     act_kept =
         let p = partition_of d id in

@@ -1,8 +1,8 @@
 -- A get: at the place that it takes, which is then lent; where there is none, 13, or the task waits. Assumes nothing.
+use Rattle.std.specs.Prelude.{Option, None, Some}
 use mathlib.Core.Path.{◌≡◌, refl, sym, subst, ap, ◌∙◌}
 use mathlib.Core.Bool.{true, false, not}
 use mathlib.Core.List.{List, [], ◌∷◌, ◌++◌}
-use mathlib.Core.Option.{some}
 use mathlib.Core.Logic.{inl, inr}
 use Prim.Native.Nat.{ℕ, ◌<◌, ◌-◌}
 use native.Mathlib.Omega.{arith}
@@ -20,7 +20,6 @@ use Rattle.manager.specs.declared.Manager.{Manager}
 use Rattle.manager.specs.declared.Region.{Region}
 use Rattle.manager.specs.declared.Waiter.{Waiter}
 use Rattle.manager.specs.declared.Need.{Need}
-use Rattle.manager.specs.declared.Place.{Place}
 use Rattle.manager.specs.declared.Wait as asking
 use Rattle.manager.specs.declared.Wait.TheVariants.{No, Yes}
 use Rattle.manager.specs.declared.Call.{Call}
@@ -28,7 +27,6 @@ use Rattle.manager.specs.declared.Call.TheVariants.{GetSegment}
 use Rattle.manager.specs.declared.Status.TheVariants.{Successful, NotDefined, Unsatisfied, Waiting, InvalidSize}
 use Rattle.manager.proofs.Laws.Result.{Passed}
 use Rattle.manager.proofs.Laws.Appended.{by_case}
-use Rattle.manager.specs.declared.Place.TheVariants.{At, Nowhere}
 use Rattle.trace.specs.Loans.{Loan, enter}
 use Rattle.trace.specs.Receipts.{Receipts, RegionEntry, Wait, address_in, lend, pages_over, need_in, Alignment, Servable, Reply, reply_of}
 use Rattle.trace.specs.Claims.{Full, waiters_of}
@@ -70,7 +68,7 @@ module _ (m : List ℕ) (d : Manager) (t : Receipts) (v : Inv m d t) (id size al
   abbrev waiter : Waiter
   waiter = record { task = task; region = id; size = size; alignment = alignment; priority = priority; ticks = ticks }
 
-  module _ (e : RegionEntry) (q : t.regions id ≡ some e) (is : RegionIs m e) (z : 0 < size) (a : Alignment e alignment) (h : Servable e size alignment) where
+  module _ (e : RegionEntry) (q : t.regions id ≡ Some e) (is : RegionIs m e) (z : 0 < size) (a : Alignment e alignment) (h : Servable e size alignment) where
     -- the wait that is entered
     abbrev entry : Wait
     entry = record { task = task; id = id; size = size; alignment = alignment; priority = priority; ticks = ticks; since = 0 }
@@ -121,7 +119,7 @@ module _ (m : List ℕ) (d : Manager) (t : Receipts) (v : Inv m d t) (id size al
     act_kept : Passed (wait_checks d wait task priority) → Kept asks m t (getting m d wait waiter (region_for e) (need_in e size alignment))
     act_kept c = go ((shows m e is).got size alignment z)
       where
-        go : {g : Place} {m' : List ℕ} → Gives m e size alignment g m'
+        go : {g : Option ℕ} {m' : List ℕ} → Gives m e size alignment g m'
             → Kept asks m t (on_place g (λ p. done m' d (address_of (region_for e) p)) (unplaced m d wait waiter))
         go (gave {m'} p low s) = placed_kept p m' s
         go (none f) = unplaced_kept f wait c
@@ -191,11 +189,11 @@ module _ (m : List ℕ) (d : Manager) (t : Receipts) (v : Inv m d t) where
   wait_agree Yes task priority act r a =
       test refl (λ n. same (same (same (test (task_already task (eqb-false task 0 n)) (λ z. a)))))
 
-  got_by : (e : RegionEntry) (w : asking.Wait) (x : Waiter) (m' : List ℕ) (g : Place)
+  got_by : (e : RegionEntry) (w : asking.Wait) (x : Waiter) (m' : List ℕ) (g : Option ℕ)
       → reply_of (on_place g (λ p. done m' d (address_of (region_for e) p)) (unplaced m d w x)) ≡ on_place g (λ p. yes (address_in e p)) (no_place w)
-  got_by e w x m' (At p) = refl
-  got_by e No x m' Nowhere = refl
-  got_by e Yes x m' Nowhere = refl
+  got_by e w x m' (Some p) = refl
+  got_by e No x m' None = refl
+  got_by e Yes x m' None = refl
 
   replies_get : (id size alignment : ℕ) (wait : asking.Wait) (task priority ticks : ℕ)
       → reply_of (get_segment m d id size alignment wait task priority ticks) ≡ by_receipts (length m) t (GetSegment id size alignment wait task priority ticks)
@@ -217,7 +215,7 @@ module _ (m : List ℕ) (d : Manager) (t : Receipts) (v : Inv m d t) where
       rw (x.needs size alignment, x.asked size) (agree (test (ap not (x.knows alignment)) (λ a. same (test (ap not (x.servable size alignment z)) (λ s.
       wait_agree wait task priority _ _ (acted
       (got_by e wait w (taken m (region_for e) k) (placed m (region_for e) k)
-      ∙ ap (λ (g : Place). on_place g (λ p. yes (address_in e p)) (no_place wait)) (x.placed size alignment z)))))))))))))
+      ∙ ap (λ (g : Option ℕ). on_place g (λ p. yes (address_in e p)) (no_place wait)) (x.placed size alignment z)))))))))))))
 
   pub right : (id size alignment : ℕ) (wait : asking.Wait) (task priority ticks : ℕ)
       → Right (GetSegment id size alignment wait task priority ticks) m t (get_segment m d id size alignment wait task priority ticks)

@@ -1,9 +1,9 @@
 -- A resize: the loan has the new size where it can have it, and then the region's queue is served; else 13. The value
 -- is the old length. Assumes nothing.
+use Rattle.std.specs.Prelude.{Some}
 use mathlib.Core.Path.{◌≡◌, refl, sym, subst, ap, ◌∙◌}
 use mathlib.Core.Bool.{Bool, false, cond}
 use mathlib.Core.List.{List, [], ◌∷◌}
-use mathlib.Core.Option.{some}
 use Prim.Native.Nat.{ℕ, ◌*◌}
 use lib.Dec.{eqb}
 use lib.ListN.{length}
@@ -46,7 +46,7 @@ module _ (m : List ℕ) (d : Manager) (t : Receipts) (v : Inv m d t) (id a size 
   abbrev asks : Call
   asks = ResizeSegment id a size
 
-  module _ (e : RegionEntry) (q : t.regions id ≡ some e) (is : RegionIs m e) (j : ℕ) (x : Lent e.loans a j) where
+  module _ (e : RegionEntry) (q : t.regions id ≡ Some e) (is : RegionIs m e) (j : ℕ) (x : Lent e.loans a j) where
     -- what it keeps
     act_kept : Kept asks m t (resizing m d id a (region_for e) (pages_over e size))
     act_kept =

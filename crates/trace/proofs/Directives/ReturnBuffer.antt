@@ -1,10 +1,10 @@
 -- A return of a buffer: a buffer that is not on the chain is lent; it is struck from the loans and joins the chain at its rear. Assumes
 -- nothing.
+use Rattle.std.specs.Prelude.{Some}
 use mathlib.Core.Path.{◌≡◌, refl, sym, ap, ◌∙◌, subst}
 use mathlib.Core.Bool.{true, false, Bool, not, ◌&&◌}
 use mathlib.Core.List.{List, [], ◌∷◌, ◌++◌}
 use mathlib.Core.Logic.{◌⊎◌, inl, inr, ⊎_elim}
-use mathlib.Core.Option.{some}
 use Prim.Native.Nat.{ℕ}
 use native.Mathlib.Omega.{arith}
 use lib.ListN.{get_or, length-append, length}
@@ -106,17 +106,17 @@ module _ (m : List ℕ) (p : Partition) (e : PartitionEntry) (is : PartitionIs m
       (λ x q. n x (more_within x a e.unlent (rw is.chained at ((on_in x (chain m p)).0 q)))) l.0 l.1
 
 module _ (m : List ℕ) (d : Manager) (t : Receipts) (v : Inv m d t) (id a : ℕ) where
-  module _ (e : PartitionEntry) (q : t.partitions id ≡ some e) (is : PartitionIs m (partition_of d id) e)
+  module _ (e : PartitionEntry) (q : t.partitions id ≡ Some e) (is : PartitionIs m (partition_of d id) e)
       (b : is_buffer (partition_of d id) a ≡ true) (o : is_free m (partition_of d id) a ≡ false) where
     act_kept : Kept (ReturnBuffer id a) m t (done (after_return m (partition_of d id) a) (with_partition d (slot_of id) (returned (partition_of d id) a)) 0)
     act_kept =
         let p = partition_of d id in
         let after =
         put_live m d t v id e is (returned p a) refl refl refl (after_return m p a) (lent_less a e) (back_only m p e is a b o) (back_is m p e is a b o) in
-        kept_done (ReturnBuffer id a) m t (keeping id (some (lent_less a e)) t) (after_return m p a) (with_partition d (slot_of id) (returned p a)) 0
+        kept_done (ReturnBuffer id a) m t (keeping id (Some (lent_less a e)) t) (after_return m p a) (with_partition d (slot_of id) (returned p a)) 0
         (on_partition_lem id e t (λ (x : PartitionEntry). lent_less a x) q) after
         (λ w h h'. back_words m p e is a b o w
-        (owned_no_link _ _ (keeping id (some (lent_less a e)) t) after id (lent_less a e) (update_here id (some (lent_less a e)) t.partitions) w h'))
+        (owned_no_link _ _ (keeping id (Some (lent_less a e)) t) after id (lent_less a e) (update_here id (Some (lent_less a e)) t.partitions) w h'))
 
   -- A RETURN KEEPS THE PICTURE
   keeps_return : Kept (ReturnBuffer id a) m t (return_buffer m d id a)

@@ -1,8 +1,8 @@
 -- A return: the loan is struck, and then the region's queue is served. Assumes nothing.
+use Rattle.std.specs.Prelude.{Some}
 use mathlib.Core.Path.{◌≡◌, refl, sym, subst, ap, ◌∙◌}
 use mathlib.Core.Bool.{false}
 use mathlib.Core.List.{List, [], ◌∷◌}
-use mathlib.Core.Option.{some}
 use Prim.Native.Nat.{ℕ}
 use lib.Dec.{eqb}
 use lib.ListN.{length}
@@ -36,7 +36,7 @@ returning m d id a r = serve (changed m r a 0) d id
 
 module _ (m : List ℕ) (d : Manager) (t : Receipts) (v : Inv m d t) (id a : ℕ) where
   -- what it keeps
-  act_kept : (e : RegionEntry) → t.regions id ≡ some e → RegionIs m e → (k : ℕ) → Lent e.loans a k
+  act_kept : (e : RegionEntry) → t.regions id ≡ Some e → RegionIs m e → (k : ℕ) → Lent e.loans a k
       → Kept (ReturnSegment id a) m t (from_served 0 (returning m d id a (region_for e)))
   act_kept e q is k x = kept_served m d t v id e q _ _ ((shows m e is).returned a k x) (ReturnSegment id a) 0 (on_region_lem id e t (give_back a) q)
 

@@ -1,5 +1,6 @@
 -- A get on a drawn map: where it is placed, and the map that it leaves, are read off the loans. By induction over the loans: the free
 -- pages before the first one serve, from the first page on the alignment on, or what is behind it does. Assumes nothing.
+use Rattle.std.specs.Prelude.{Option, None, Some}
 use mathlib.Core.Path.{◌≡◌, refl, sym, ap, ◌∙◌}
 use mathlib.Core.Bool.{Bool, false, cond}
 use mathlib.Core.List.{List, [], ◌∷◌}
@@ -15,18 +16,16 @@ use Rattle.manager.specs.Map.{Segment, held}
 use Rattle.manager.specs.Paged.{free+, room_from, place_from}
 use Rattle.manager.proofs.Laws.Paged.{room_in, room_out, first_fit}
 use Rattle.manager.specs.declared.Need.{Need}
-use Rattle.manager.specs.declared.Place.{Place}
-use Rattle.manager.specs.declared.Place.TheVariants.{At, Nowhere}
 use Rattle.trace.specs.Loans.{Loan, loan, enter, Held, Ordered, Span, behind, Run}
 use Rattle.trace.specs.Pages.{drawn, lowest_run, up_to}
 use Rattle.trace.proofs.Loans.Tests.{by_leb}
 use Rattle.trace.proofs.Loans.Drawn.{onward, drawn_next, ordered_next, ordered_end, ordered_from, held_after}
 
 -- what a get of w has to come to, from page `at` on: the lowest run on the alignment, lent, or nothing where there is none
-pub data Got (r : Span) (at : ℕ) (l : List Loan) (w : Need) : Place → List Segment → Type 0 where
+pub data Got (r : Span) (at : ℕ) (l : List Loan) (w : Need) : Option ℕ → List Segment → Type 0 where
   gave : {s : List Segment} (p : ℕ) → s ≡ drawn (behind r) at (enter p w.pages l) → Ordered (behind r) at (enter p w.pages l) → at ≤ p
-      → Run r l w.pages p → OnEvery w.every p → ((q : ℕ) → at ≤ q → Run r l w.pages q → OnEvery w.every q → p ≤ q) → Got r at l w (At p) s
-  lacks : {s : List Segment} → s ≡ drawn (behind r) at l → ((q : ℕ) → at ≤ q → OnEvery w.every q → ¬ Run r l w.pages q) → Got r at l w Nowhere s
+      → Run r l w.pages p → OnEvery w.every p → ((q : ℕ) → at ≤ q → Run r l w.pages q → OnEvery w.every q → p ≤ q) → Got r at l w (Some p) s
+  lacks : {s : List Segment} → s ≡ drawn (behind r) at l → ((q : ℕ) → at ≤ q → OnEvery w.every q → ¬ Run r l w.pages q) → Got r at l w None s
 
 -- a gap of no page has no room
 no_room : (every at k : ℕ) → 0 < k → leb k (room_from every at 0) ≡ false
@@ -35,7 +34,7 @@ no_room (suc every) at k h = lt-leb k (room_from (suc every) at 0) (omega (arith
 
 -- past the free pages in front
 place_gap : (n : ℕ) (w : Need) (at g : ℕ) (l : List Loan) → 0 < w.pages
-    → place_from w at (free+ g (onward n l)) ≡ cond (leb w.pages (room_from w.every at g)) (At (align_up w.every at)) (place_from w (at + g) (onward n l))
+    → place_from w at (free+ g (onward n l)) ≡ cond (leb w.pages (room_from w.every at g)) (Some (align_up w.every at)) (place_from w (at + g) (onward n l))
 unfolding free+ place_from
 place_gap n w at zero l h = rw (add-zero, no_room w.every at w.pages h)
 place_gap n w at (suc g) [] h = refl
@@ -64,7 +63,7 @@ enter_behind a m p k l h = rw (lt-leb p a h)
 -- the free pages before the first loan serve
 first : (r : Span) (at : ℕ) (w : Need) (l : List Loan) → r.first ≤ at → Ordered (behind r) at l → 0 < w.pages
     → w.pages ≤ room_from w.every at (up_to (behind r) l - at)
-    → Got r at l w (At (align_up w.every at)) (filled w at (up_to (behind r) l - at) (onward (behind r) l))
+    → Got r at l w (Some (align_up w.every at)) (filled w at (up_to (behind r) l - at) (onward (behind r) l))
 unfolding Ordered
 first r at w l f o z h =
     let n = behind r in
@@ -93,7 +92,7 @@ unfolding Held
 run_behind r a m l k q u = record { some = u.some; from = u.from; upto = u.upto; unheld = λ i b e x. u.unheld i b e (inr x) }
 
 -- they do not: what the rest of the map comes to
-later : (r : Span) (at a m : ℕ) (l : List Loan) (w : Need) {g : Place} {s : List Segment} → Ordered (behind r) at (loan a m ∷ l)
+later : (r : Span) (at a m : ℕ) (l : List Loan) (w : Need) {g : Option ℕ} {s : List Segment} → Ordered (behind r) at (loan a m ∷ l)
     → room_from w.every at (a - at) < w.pages → Got r (a + m) l w g s → Got r at (loan a m ∷ l) w g (free+ (a - at) (held m ∷ s))
 unfolding Ordered Held
 later r at a m l w o h (gave {s} p e i b run on low) =
@@ -116,7 +115,7 @@ got_from r w at [] f o z =
     let n = behind r in
     rw (drawn_next n at [], place_gap n w at (n - at) [] z, take_gap n w at (n - at) [] z)
     (by_leb w.pages (room_from w.every at (n - at))
-    (λ (t : Bool). Got r at [] w (cond t (At (align_up w.every at)) Nowhere) (cond t (filled w at (n - at) []) (free+ (n - at) [])))
+    (λ (t : Bool). Got r at [] w (cond t (Some (align_up w.every at)) None) (cond t (filled w at (n - at) []) (free+ (n - at) [])))
     (first r at w [] f o z)
     (λ h. lacks (sym (drawn_next n at [])) (λ q b v u. omega (arith, u.upto, room_out w.every at (n - at) w.pages h, align_least w.every at q b v))))
 got_from r w at (loan a m ∷ l) f o z =
@@ -124,7 +123,7 @@ got_from r w at (loan a m ∷ l) f o z =
     let there : at + (a - at) ≡ a = omega arith in
     rw (drawn_next n at (loan a m ∷ l), place_gap n w at (a - at) (loan a m ∷ l) z, take_gap n w at (a - at) (loan a m ∷ l) z)
     (by_leb w.pages (room_from w.every at (a - at))
-    (λ (t : Bool). Got r at (loan a m ∷ l) w (cond t (At (align_up w.every at)) (place_from w (at + (a - at) + m) (drawn n (a + m) l)))
+    (λ (t : Bool). Got r at (loan a m ∷ l) w (cond t (Some (align_up w.every at)) (place_from w (at + (a - at) + m) (drawn n (a + m) l)))
     (cond t (filled w at (a - at) (held m ∷ drawn n (a + m) l)) (free+ (a - at) (held m ∷ first_fit w (at + (a - at) + m) (drawn n (a + m) l)))))
     (first r at w (loan a m ∷ l) f o z)
     (λ h. rw there (later r at a m l w o h (got_from r w (a + m) l (omega arith) o.2 z))))

@@ -1,4 +1,5 @@
 -- A region by halves is a lawful kind: a map is drawn from loans exactly where it is got by halving and says them. Assumes nothing.
+use Rattle.std.specs.Prelude.{Option, None, Some}
 use mathlib.Core.Path.{◌≡◌, refl, sym, ap, ◌∙◌, subst}
 use mathlib.Core.Bool.{true}
 use mathlib.Core.List.{List, []}
@@ -16,8 +17,6 @@ use Rattle.manager.specs.Paged.{free+}
 use Rattle.manager.specs.Halves.{FreeAt, place_block, occupy_block, release_block}
 use Rattle.manager.specs.Halves as kind
 use Rattle.manager.specs.declared.Need.{Need}
-use Rattle.manager.specs.declared.Place.{Place}
-use Rattle.manager.specs.declared.Place.TheVariants.{At, Nowhere}
 use Rattle.manager.proofs.Laws.Paged.{free_front}
 use Rattle.manager.proofs.Laws.Halves.Cut.{Halved, one, halved_sized, halved_total, proper_of, proper_halved}
 use Rattle.manager.proofs.Laws.Halves.Place.{free_within, Best, place_best, place_none}
@@ -120,7 +119,7 @@ module _ {a : Span} {l : List Loan} {s : List Segment} (d : Drawing halves a l s
       }
 
   -- where no free block has as many, no place would
-  none_serves : (i every : ℕ) → place_block (2 ^ i) a.first s ≡ Nowhere → NoPlace halves a l (powers i every)
+  none_serves : (i every : ℕ) → place_block (2 ^ i) a.first s ≡ None → NoPlace halves a l (powers i every)
   none_serves i every e p u =
       let j = level a.count in
       let c = (p - a.first) / 2 ^ i in
@@ -137,9 +136,9 @@ module _ {a : Span} {l : List Loan} {s : List Segment} (d : Drawing halves a l s
       chosen : (p : ℕ) → Best (2 ^ i) a.first p (drawn_map a l) → Smallest a l (2 ^ i) p
       chosen p b = record { pages = b.pages; free = b.free; enough = b.enough; smallest = b.smallest; lowest = b.lowest }
 
-      go : (q : Place) → place_block (2 ^ i) a.first s ≡ q → Gets halves a l (powers i every) q (on_place q (λ p. occupy_block p (2 ^ i) a.first s) s)
-      go Nowhere e = nothing d (none_serves i every e)
-      go (At p) e =
+      go : (q : Option ℕ) → place_block (2 ^ i) a.first s ≡ q → Gets halves a l (powers i every) q (on_place q (λ p. occupy_block p (2 ^ i) a.first s) s)
+      go None e = nothing d (none_serves i every e)
+      go (Some p) e =
           let b = place_best (2 ^ i) a.first s (some_power i) p e in
           let n = free_aligned a.first p b.pages built.cut b.free in
           let m : i ≤ n.level = le_power i n.level (omega (arith, b.enough, n.pages)) in

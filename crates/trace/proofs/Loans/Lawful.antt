@@ -1,6 +1,7 @@
 -- What a kind of region has to prove, so that the queue and the directives can be proved over any kind: what each of its functions comes
 -- to on a map that is drawn from loans, by what the receipts say of the kind (`Reading`). What is found in a map follows for every kind,
 -- since a drawn map says its loans. Assumes nothing.
+use Rattle.std.specs.Prelude.{Option, None, Some}
 use mathlib.Core.Path.{◌≡◌, refl, sym, ap, ◌∙◌, subst}
 use mathlib.Core.Bool.{true}
 use mathlib.Core.List.{List, []}
@@ -13,8 +14,6 @@ use Rattle.manager.specs.Map.{Segment, is_held_segment, draw, decode, sound_map,
 use Rattle.manager.specs.Kind.{Kind, allocate, held_from}
 use Rattle.manager.specs.Paged.{free+}
 use Rattle.manager.specs.declared.Need.{Need}
-use Rattle.manager.specs.declared.Place.{Place}
-use Rattle.manager.specs.declared.Place.TheVariants.{At, Nowhere}
 use Rattle.manager.proofs.Laws.Map.{reread, length_draw, sound_drawn, sound_tiled, sound_proper, sized_decoded, total_decoded}
 use Rattle.manager.proofs.Laws.Kinds.{Stands}
 use Rattle.trace.specs.Loans.{Loan, enter, amend, Lent, Ordered, pages_at, loan_pages, sum, Span, behind}
@@ -30,9 +29,9 @@ pub record Drawing (R : Reading) (a : Span) (l : List Loan) (s : List Segment) :
   pub is : s ≡ R.drawn a l
 
 -- what a get of n comes to: its place, lent, or nothing where no place would serve
-pub data Gets (R : Reading) (a : Span) (l : List Loan) (n : Need) : Place → List Segment → Type 0 where
-  given : {s : List Segment} (p : ℕ) → Drawing R a (enter p n.pages l) s → R.Chosen a l n p → Gets R a l n (At p) s
-  nothing : {s : List Segment} → Drawing R a l s → NoPlace R a l n → Gets R a l n Nowhere s
+pub data Gets (R : Reading) (a : Span) (l : List Loan) (n : Need) : Option ℕ → List Segment → Type 0 where
+  given : {s : List Segment} (p : ℕ) → Drawing R a (enter p n.pages l) s → R.Chosen a l n p → Gets R a l n (Some p) s
+  nothing : {s : List Segment} → Drawing R a l s → NoPlace R a l n → Gets R a l n None s
 
 -- what a get that asks for j pages needs: as many as its kind gives for them, from every so many-th page on
 abbrev pub asking : Reading → ℕ → ℕ → Need
@@ -70,9 +69,9 @@ pub record Lawful (K : Kind) (R : Reading) : Type 0 where
   pub free_runs : {a : Span} {l : List Loan} {s : List Segment} → Drawing R a l s → free_sizes s ≡ R.runs a l
 
 -- a place is the one that a get of n takes, and it can be lent there; or no place would serve
-pub data Found (R : Reading) (a : Span) (l : List Loan) (n : Need) : Place → Type 0 where
-  found : (p : ℕ) → R.Chosen a l n p → R.Fits a (enter p n.pages l) → Found R a l n (At p)
-  nowhere : NoPlace R a l n → Found R a l n Nowhere
+pub data Found (R : Reading) (a : Span) (l : List Loan) (n : Need) : Option ℕ → Type 0 where
+  found : (p : ℕ) → R.Chosen a l n p → R.Fits a (enter p n.pages l) → Found R a l n (Some p)
+  nowhere : NoPlace R a l n → Found R a l n None
 
 -- WHAT FOLLOWS FOR EVERY LAWFUL KIND
 module _ {K : Kind} {R : Reading} (L : Lawful K R) where
@@ -147,6 +146,6 @@ module _ {K : Kind} {R : Reading} (L : Lawful K R) where
     pub place_found : (j every : ℕ) → 0 < j → Found R a l (asking R j every) (R.place a l (asking R j every))
     place_found j every z = subst (Found R a l (asking R j every)) (L.placed (drawn_is o) j every z) (go (L.got (drawn_is o) j every z))
       where
-        go : {g : Place} {s : List Segment} → Gets R a l (asking R j every) g s → Found R a l (asking R j every) g
+        go : {g : Option ℕ} {s : List Segment} → Gets R a l (asking R j every) g s → Found R a l (asking R j every) g
         go (given p d c) = found p c d.fits
         go (nothing d h) = nowhere h

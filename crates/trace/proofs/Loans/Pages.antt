@@ -1,4 +1,5 @@
 -- A region of pages is a lawful kind. Assumes nothing.
+use Rattle.std.specs.Prelude.{Option}
 use mathlib.Core.Path.{◌≡◌, refl, ap, sym, ◌∙◌}
 use mathlib.Core.Bool.{true}
 use mathlib.Core.Logic.{◌↔◌}
@@ -12,7 +13,6 @@ use Rattle.manager.specs.Map.{Segment, free_sizes, total}
 use Rattle.manager.specs.Kind.{allocate}
 use Rattle.manager.specs.Paged.{paged, place_from, reach_from, change_from}
 use Rattle.manager.specs.declared.Need.{Need}
-use Rattle.manager.specs.declared.Place.{Place}
 use Rattle.manager.proofs.Laws.Apart.{Well, well_sized, well_made_of, well_proper}
 use Rattle.manager.proofs.Laws.Paged.{fit_is}
 use Rattle.manager.proofs.Laws.Kinds.{Stands}
@@ -24,7 +24,7 @@ use Rattle.trace.proofs.Loans.Change as change
 use Rattle.trace.proofs.Loans.Redrawn.{well, total_drawn, drawn_says, free_runs, drawn_new, ordered_new, ordered_of, drawn_of}
 use Rattle.trace.proofs.Loans.Lawful.{Drawing, Gets, given, nothing, asking, Lawful}
 
-gets : {a : Span} {w : Need} {l : List Loan} {g : Place} {s : List Segment} → Ordered (behind a) a.first l → Got a a.first l w g s
+gets : {a : Span} {w : Need} {l : List Loan} {g : Option ℕ} {s : List Segment} → Ordered (behind a) a.first l → Got a a.first l w g s
     → Gets pages a l w g s
 gets o (gave p e i b run on low) = given p (record { fits = i; is = e }) (record { run = run; starts = on; first = λ q u. low q u.from u })
 gets o (lacks e no_run) = nothing (record { fits = o; is = e }) (λ q u. no_run q u.run.from u.starts u.run)

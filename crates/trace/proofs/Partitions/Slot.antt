@@ -1,10 +1,10 @@
 -- A partition put into a slot, and its entry under the slot's id: where only words of its area differ, and its area meets no other
 -- object's, everything else is as it was. The waits rest on regions alone. Assumes nothing.
+use Rattle.std.specs.Prelude.{Option, Some}
 use mathlib.Core.Path.{◌≡◌, refl, sym, ap, ◌∙◌, subst}
 use mathlib.Core.Bool.{Bool, true, false, cond}
 use mathlib.Core.List.{List}
 use mathlib.Core.Logic.{inl, inr}
-use mathlib.Core.Option.{Option, some}
 use Prim.Native.Nat.{ℕ, ◌+◌, ◌*◌, ◌<◌}
 use native.Mathlib.Omega.{arith}
 use lib.ListN.{length, get_or, set, length-set}
@@ -45,7 +45,7 @@ use Rattle.manager.specs.Sound.{other_name, sound_areas, Shaped}
 
 -- a slot that is not empty is in the receipts
 pub partition_entry_lem : (m : List ℕ) (p : Partition) (o : Option PartitionEntry) → PartitionSlot m p o → dead_partition p ≡ false
-    → (e : PartitionEntry) × (o ≡ some e) × PartitionIs m p e
+    → (e : PartitionEntry) × (o ≡ Some e) × PartitionIs m p e
 partition_entry_lem m p o (empty g) q = let z : ◌≡◌ {A = ℕ} 0 1 = cc in absurd (omega arith)
 partition_entry_lem m p o (live x e is) q = (e, refl, is)
 
@@ -67,8 +67,8 @@ module _ (m : List ℕ) (p : Partition) (e : PartitionEntry) (is : PartitionIs m
 abbrev pub keeping : ℕ → Option PartitionEntry → Receipts → Receipts
 keeping id o t = with_partitions (update id o t.partitions) t
 
-pub on_partition_lem : (id : ℕ) (e : PartitionEntry) (t : Receipts) (g : PartitionEntry → PartitionEntry) → t.partitions id ≡ some e
-    → on_partition id g t ≡ keeping id (some (g e)) t
+pub on_partition_lem : (id : ℕ) (e : PartitionEntry) (t : Receipts) (g : PartitionEntry → PartitionEntry) → t.partitions id ≡ Some e
+    → on_partition id g t ≡ keeping id (Some (g e)) t
 on_partition_lem id e t g q = ap (λ (o : Option PartitionEntry). keeping id (map_option g o) t) q
 
 -- the waits rest on regions alone
@@ -144,17 +144,17 @@ module _ (m : List ℕ) (d : Manager) (t : Receipts) (v : Inv m d t) (id : ℕ) 
   module _ (p : Partition) (name : p.name ≡ (partition_of d id).name) (generation : p.generation ≡ (partition_of d id).generation)
       (area : area_of p ≡ area_of (partition_of d id)) (m' : List ℕ) (e' : PartitionEntry) (only : Only p.start p.length m m')
       (is' : PartitionIs m' p e') where
-    pub put_live : Inv m' (with_partition d (slot_of id) p) (keeping id (some e') t)
+    pub put_live : Inv m' (with_partition d (slot_of id) p) (keeping id (Some e') t)
     put_live =
         let slot = live_slot.is in
         let g : p.generation ≡ generation_of id = generation ∙ ap (λ (q : Partition). q.generation) slot ∙ live_slot.same in
         let before = v.picture.partition_is (slot_of id) live_in in
-        put_keeps m d t v id (slot_of id) (generation_of id) live_in (id_back id live_in) p (inr live_slot.same) (inr g) m' (some e') t.partition_deletes only
+        put_keeps m d t v id (slot_of id) (generation_of id) live_in (id_back id live_in) p (inr live_slot.same) (inr g) m' (Some e') t.partition_deletes only
         (subst (λ (a : Area). (x : Object) → ¬ (x ≡ partition id) → Clear a (area_in d x)) (sym area) live_clear)
         (names_same (λ p. p.name) no_partition d.partitions v.picture.partition_slots v.picture.partition_names (slot_of id) live_in p
         (name ∙ ap (λ (q : Partition). q.name) slot))
         (areas_same_partition d v.picture.region_slots v.picture.partition_slots (slot_of id) live_in v.picture.areas p (area ∙ ap area_of slot))
-        (subst (λ (q : Partition). PartitionSlot m' q (some e')) (sym (there m d t v id (slot_of id) (generation_of id) live_in (id_back id live_in) p is'.named g)) (live p e' is'))
+        (subst (λ (q : Partition). PartitionSlot m' q (Some e')) (sym (there m d t v id (slot_of id) (generation_of id) live_in (id_back id live_in) p is'.named g)) (live p e' is'))
         (record {
           same = generation ∙ ap (λ (q : Partition). q.generation) slot ∙ before.same;
           sound = rw (name, ap (λ (q : Partition). q.name) slot) before.sound;

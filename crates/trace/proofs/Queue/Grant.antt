@@ -1,9 +1,9 @@
 -- The first waiter of a region: where he stands in the array, and what is left when he is taken out. Assumes nothing.
+use Rattle.std.specs.Prelude.{Some}
 use mathlib.Core.Path.{◌≡◌, refl, sym, ap, ◌∙◌, subst}
 use mathlib.Core.Bool.{Bool}
 use mathlib.Core.List.{List, [], ◌∷◌, ◌++◌, append_assoc}
 use mathlib.Core.Logic.{inl, inr}
-use mathlib.Core.Option.{some}
 use Prim.Native.Nat.{ℕ, ◌-◌, ◌≤◌, ◌<◌}
 use native.Mathlib.Omega.{arith}
 use lib.ListN.{length, get_or, replicate, length-append}
@@ -55,7 +55,7 @@ module _ (d : Manager) (t : Receipts) (v : Waits d t) where
   each_struck task w m =
       wait_same t (struck task t) w (v.each w ((in_keep (not_of task) w t.waits).0 (rw (without_keep task t.waits v.once) at m)).0) refl refl
 
-  module _ (id : ℕ) (e : RegionEntry) (f : t.regions id ≡ some e) where
+  module _ (id : ℕ) (e : RegionEntry) (f : t.regions id ≡ Some e) where
     -- NOBODY WAITS: no place is a waiter's of the region
     pub none_first : queue_of id e t ≡ [] → tasks ≤ first_of id d.waiters
     unfolding waiters_of

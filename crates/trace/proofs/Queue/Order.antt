@@ -1,10 +1,10 @@
 -- The order of all waits is strict: by slot, within a region by its order, and those alike by arrival. So a region's queue is what the line
 -- of all waits has of it. Assumes nothing.
+use Rattle.std.specs.Prelude.{Option, Some}
 use mathlib.Core.Path.{◌≡◌, refl, sym, ap, ◌∙◌}
 use mathlib.Core.Bool.{Bool, true, false, cond, ◌&&◌, ◌||◌}
 use mathlib.Core.List.{List, [], ◌∷◌}
 use mathlib.Core.Logic.{◌⊎◌, inl, inr, ◌↔◌}
-use mathlib.Core.Option.{Option, some}
 use Prim.Native.Nat.{ℕ, ◌≤◌, ◌<◌}
 use native.Mathlib.Omega.{arith}
 use lib.Dec.{ltb, eqb}
@@ -136,7 +136,7 @@ in_all_waits t w =
     let l = in_line_lem (stands_before (orders t)) w [] t.waits in (λ h. elim (l.0 h) [ inl z ↦ absurd z | inr z ↦ z ], λ h. l.1 (inr h))
 
 -- A REGION'S QUEUE IS WHAT THE LINE HAS OF IT
-pub queue_of_lem : (id : ℕ) (e : RegionEntry) (t : Receipts) → t.regions id ≡ some e → queue_of id e t ≡ waits_in id (in_line t)
+pub queue_of_lem : (id : ℕ) (e : RegionEntry) (t : Receipts) → t.regions id ≡ Some e → queue_of id e t ≡ waits_in id (in_line t)
 unfolding keep Sorted In
 queue_of_lem id e t f =
     let o = orders t in

@@ -1,10 +1,10 @@
 -- The tasks of waits: each waits once, so there are no more waits than tasks, a task names its wait, and a wait is struck by its task.
 -- Assumes nothing.
+use Rattle.std.specs.Prelude.{Some}
 use mathlib.Core.Path.{◌≡◌, refl, sym, ap, ◌∙◌, subst}
 use mathlib.Core.Bool.{Bool, true, cond, not}
 use mathlib.Core.List.{List, [], ◌∷◌, ◌++◌}
 use mathlib.Core.Logic.{◌⊎◌, inl, inr}
-use mathlib.Core.Option.{some}
 use Prim.Native.Nat.{ℕ, suc, ◌-◌, ◌≤◌, ◌<◌}
 use native.Mathlib.Omega.{arith}
 use lib.ListN.{length}
@@ -160,7 +160,7 @@ keep_others (x ∷ a) w b d =
 abbrev pub counting : ℕ → Wait → Wait
 counting n w = record { task = w.task; id = w.id; size = w.size; alignment = w.alignment; priority = w.priority; ticks = w.ticks; since = n }
 
-pub wait_moved : (t u : Receipts) (w : Wait) (n : ℕ) (l : List Loan) (a : WaitIs t w) → u.regions w.id ≡ some (with_loans l a.entry)
+pub wait_moved : (t u : Receipts) (w : Wait) (n : ℕ) (l : List Loan) (a : WaitIs t w) → u.regions w.id ≡ Some (with_loans l a.entry)
     → u.region_deletes (slot_of w.id) ≡ t.region_deletes (slot_of w.id) → ¬ (l ≡ []) → (w.ticks ≡ 0) ⊎ (n < w.ticks) → WaitIs u (counting n w)
 wait_moved t u w n l a found same lending time =
     record {

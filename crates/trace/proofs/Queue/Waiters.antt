@@ -1,9 +1,9 @@
 -- The record's array of waiters is the line of all waits: as many, each for its wait, and of each region its queue. Assumes nothing.
+use Rattle.std.specs.Prelude.{Some}
 use mathlib.Core.Path.{◌≡◌, refl, sym, ap, ◌∙◌, subst}
 use mathlib.Core.Bool.{true, cond}
 use mathlib.Core.List.{List, [], ◌∷◌, ◌++◌, append-nil}
 use mathlib.Core.Logic.{inl, inr}
-use mathlib.Core.Option.{some}
 use Prim.Native.Nat.{ℕ, suc, ◌-◌, ◌≤◌, ◌<◌}
 use native.Mathlib.Omega.{arith}
 use lib.ListN.{length, replicate}
@@ -112,7 +112,7 @@ module _ (d : Manager) (t : Receipts) (v : Waits d t) where
   line_some w m = let a = v.each w ((in_all_waits t w).0 m) in (a.id_now_lem, a.task_some)
 
   -- A REGION'S WAITERS ARE ITS QUEUE
-  pub queue_waiters : (id : ℕ) (e : RegionEntry) → t.regions id ≡ some e → keep (waits_for id) d.waiters ≡ waiters_of (queue_of id e t)
+  pub queue_waiters : (id : ℕ) (e : RegionEntry) → t.regions id ≡ Some e → keep (waits_for id) d.waiters ≡ waiters_of (queue_of id e t)
   queue_waiters id e f =
       let ws = waiters_of (in_line t) in
       ap (keep (waits_for id)) v.queue
@@ -122,7 +122,7 @@ module _ (d : Manager) (t : Receipts) (v : Waits d t) where
       ∙ keep_waiters id (in_line t) (λ w m. (line_some w m).1)
       ∙ ap waiters_of (sym (queue_of_lem id e t f))
 
-  pub waiters_for_lem : (id : ℕ) (e : RegionEntry) → t.regions id ≡ some e → waiters_for id d.waiters ≡ waiters_of (queue_of id e t)
+  pub waiters_for_lem : (id : ℕ) (e : RegionEntry) → t.regions id ≡ Some e → waiters_for id d.waiters ≡ waiters_of (queue_of id e t)
   waiters_for_lem id e f = for_keep id d.waiters ∙ queue_waiters id e f
 
   -- a task that waits by the receipts waits in the record

@@ -1,9 +1,9 @@
 -- The entry of a partition, read off a sound record: the buffers on its chain are not lent, and all the others are. Assumes nothing.
+use Rattle.std.specs.Prelude.{Option, None, Some}
 use mathlib.Core.Path.{◌≡◌, refl, sym, ◌∙◌, subst}
 use mathlib.Core.Bool.{Bool, true, false, cond, ◌&&◌}
 use mathlib.Core.List.{List, [], ◌∷◌}
 use mathlib.Core.Logic.{inl, inr, ⊎_elim}
-use mathlib.Core.Option.{Option, none, some}
 use Prim.Native.Nat.{ℕ, ◌+◌, ◌<◌}
 use native.Mathlib.Omega.{arith}
 use lib.ListN.{length}
@@ -71,7 +71,7 @@ partition_entry m p =
     }
 
 abbrev pub partition_slot : List ℕ → Partition → Option PartitionEntry
-partition_slot m p = cond (dead_partition p) none (some (partition_entry m p))
+partition_slot m p = cond (dead_partition p) None (Some (partition_entry m p))
 
 -- an empty slot is all zeros but for its generation
 pub no_partition_lem : (p : Partition) → p.name ≡ 0 → empty_partition p ≡ true → p ≡ emptied_partition p.generation
@@ -99,8 +99,8 @@ pub is_partition : (m : List ℕ) (p : Partition) → ¬ (p.name ≡ 0) → live
 is_partition m p n e =
     let s = (live_laid m p e).shaped in
     let all = buffers_from (buffers p) p.size p.start in
-    let some : 0 < p.size = omega (arith, s.big) in
-    let once : Distinct all = distinct_buffers (buffers p) p.size p.start some in
+    let Some : 0 < p.size = omega (arith, s.big) in
+    let once : Distinct all = distinct_buffers (buffers p) p.size p.start Some in
     record {
       named = n;
       name = refl;
@@ -124,7 +124,7 @@ is_partition m p n e =
 pub partition_read : (m : List ℕ) (p : Partition) → sound_partition m p ≡ true → PartitionSlot m p (partition_slot m p)
 partition_read m p e = go (dead_partition p) refl
   where
-    go : (b : Bool) → dead_partition p ≡ b → PartitionSlot m p (cond b none (some (partition_entry m p)))
+    go : (b : Bool) → dead_partition p ≡ b → PartitionSlot m p (cond b None (Some (partition_entry m p)))
     go true f =
-        subst (λ (x : Partition). PartitionSlot m x none) (sym (no_partition_lem p (eqb-true p.name 0 f) (empty_partition_lem m p e f))) (empty p.generation)
+        subst (λ (x : Partition). PartitionSlot m x None) (sym (no_partition_lem p (eqb-true p.name 0 f) (empty_partition_lem m p e f))) (empty p.generation)
     go false f = live p (partition_entry m p) (is_partition m p (eqb-false p.name 0 f) (live_partition_lem m p e f))

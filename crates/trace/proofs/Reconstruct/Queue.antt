@@ -1,10 +1,10 @@
 -- A sound queue is in the order of the receipts that are read off it: each of its waits stands where it would have been put. Assumes
 -- nothing.
+use Rattle.std.specs.Prelude.{Some}
 use mathlib.Core.Path.{◌≡◌, refl, sym, ap, ◌∙◌, subst}
 use mathlib.Core.Bool.{Bool, true, false, ◌&&◌, true≢false}
 use mathlib.Core.List.{List, [], ◌∷◌, ◌++◌, append_assoc, append-nil}
 use mathlib.Core.Logic.{◌⊎◌, inl, inr}
-use mathlib.Core.Option.{some}
 use Prim.Native.Nat.{ℕ, ◌-◌}
 use lib.ListN.{length, replicate}
 use borrow.Author.Tests.{not-true}
@@ -69,7 +69,7 @@ module _ (m : List ℕ) (d : Manager) (t : Receipts) (entries : (id : ℕ) → t
 
   order_of_lem : (w : Waiter) → sound_place m d w ≡ true → unused w ≡ false → orders t w.region ≡ (region_of d w.region).order
   order_of_lem w e f =
-      let g : slot_entry m (region_of d w.region) ≡ some (entry_of m (region_of d w.region)) = rw (waiter_parts m d w e f).alive in
+      let g : slot_entry m (region_of d w.region) ≡ Some (entry_of m (region_of d w.region)) = rw (waiter_parts m d w e f).alive in
       ap order_in (entries w.region ∙ g)
 
   -- a used place that stands before another does so by the receipts' order

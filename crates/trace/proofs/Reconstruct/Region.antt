@@ -1,9 +1,9 @@
 -- The entry of a region, read off a sound record: its numbers are the record's, and its loans are the held segments of its map, at their
 -- addresses. Assumes nothing.
+use Rattle.std.specs.Prelude.{Option, None, Some}
 use mathlib.Core.Path.{◌≡◌, refl, sym, ap, ◌∙◌, subst}
 use mathlib.Core.Bool.{Bool, true, false, cond, ◌&&◌, true≢false}
 use mathlib.Core.List.{List}
-use mathlib.Core.Option.{Option, none, some}
 use Prim.Native.Nat.{ℕ, ◌%◌, ◌≤◌}
 use native.Mathlib.Omega.{arith}
 use lib.ListN.{length}
@@ -60,7 +60,7 @@ abbrev pub entry_of : List ℕ → Region → RegionEntry
 entry_of m r = record { name = r.name; start = r.start; bytes = r.length; page = r.page; order = r.order; loans = at_pages r.page (loans_of (first_page_of r) (segments m r)) }
 
 abbrev pub slot_entry : List ℕ → Region → Option RegionEntry
-slot_entry m r = cond (dead r) none (some (entry_of m r))
+slot_entry m r = cond (dead r) None (Some (entry_of m r))
 
 -- an empty slot is all zeros but for its generation
 pub no_region_lem : (r : Region) → r.name ≡ 0 → empty_region r ≡ true → r ≡ emptied_region r.generation
@@ -118,11 +118,11 @@ is_region m g e n q l h s =
 pub region_read : (m : List ℕ) (r : Region) → sound_region m r ≡ true → RegionSlot m r (slot_entry m r)
 region_read m r e = go (dead r) refl
   where
-    go : (b : Bool) → dead r ≡ b → RegionSlot m r (cond b none (some (entry_of m r)))
+    go : (b : Bool) → dead r ≡ b → RegionSlot m r (cond b None (Some (entry_of m r)))
     go true f =
-        subst (λ (x : Region). RegionSlot m x none) (sym (no_region_lem r (eqb-true r.name 0 f) (empty_of m r e f))) (empty r.generation)
+        subst (λ (x : Region). RegionSlot m x None) (sym (no_region_lem r (eqb-true r.name 0 f) (empty_of m r e f))) (empty r.generation)
     go false f =
         let q = region_parts m r (live_of m r e f) in
         let b = region_back m r q.whole in
-        subst (λ (x : Region). RegionSlot m x (some (entry_of m r))) (sym b)
+        subst (λ (x : Region). RegionSlot m x (Some (entry_of m r))) (sym b)
         (live r.generation (entry_of m r) (is_region m r.generation (entry_of m r) (eqb-false r.name 0 f) (subst (RegionParts m) b q) (omega (arith, q.least)) q.most (ap (λ (x : Region). at_pages x.page (loans_of (first_page_of x) (segments m x))) b)))

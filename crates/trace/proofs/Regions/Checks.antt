@@ -1,9 +1,9 @@
 -- What is shown of a directive, and how: every check passes and it acts, or one refuses. A refusal leaves the memory, the record and the
 -- receipts as they were. Assumes nothing.
+use Rattle.std.specs.Prelude.{Some}
 use mathlib.Core.Path.{◌≡◌, refl, ap, subst}
 use mathlib.Core.Bool.{Bool, true, false, not, ◌&&◌}
 use mathlib.Core.List.{List, []}
-use mathlib.Core.Option.{some}
 use Prim.Native.Nat.{ℕ}
 use native.Mathlib.Omega.{arith}
 use lib.ListN.{length, get_or}
@@ -92,7 +92,7 @@ kept_words c m t s e u v = record { inv = v; stays = λ w o h. ap (λ (l : List 
 
 module _ (c : Call) (m : List ℕ) (d : Manager) (t : Receipts) (v : Inv m d t) where
   -- where it changes only the map of a live region
-  pub kept_map : (id : ℕ) (e : RegionEntry) → t.regions id ≡ some e → (s : Result) → OnlyMap e m s.memory → damaged s.status ≡ false
+  pub kept_map : (id : ℕ) (e : RegionEntry) → t.regions id ≡ Some e → (s : Result) → OnlyMap e m s.memory → damaged s.status ≡ false
       → Inv s.memory s.manager (note c (reply_of s) t) → Kept c m t s
   kept_map id e q s o u v' = record { inv = v'; stays = λ w h h'. map_stays m d t v id e q m s.memory o w h; undamaged = u }
 

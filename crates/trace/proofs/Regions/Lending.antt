@@ -1,9 +1,9 @@
 -- The waits of the receipts when the loans of one region change: the queue's picture stays, and so do the waits where something is lent or
 -- nobody waits. Assumes nothing.
+use Rattle.std.specs.Prelude.{Option, None, Some}
 use mathlib.Core.Path.{◌≡◌, refl, sym, ap, ◌∙◌, subst, fun_ext}
 use mathlib.Core.Bool.{Bool, true, false, cond}
 use mathlib.Core.List.{List, [], ◌∷◌}
-use mathlib.Core.Option.{Option, none, some}
 use mathlib.Core.Logic.{inl, inr}
 use Prim.Native.Nat.{ℕ}
 use native.Mathlib.Omega.{arith}
@@ -28,18 +28,18 @@ NoWait t id = (w : Wait) → In w t.waits → ¬ (w.id ≡ id)
 
 module _ (d : Manager) (t : Receipts) (v : Waits d t) (id : ℕ) where
   -- for one that is not there
-  pub none_there : t.regions id ≡ none → NoWait t id
+  pub none_there : t.regions id ≡ None → NoWait t id
   none_there q w i f =
       let x = v.each w i in
-      let y : none ≡ some x.entry = sym q ∙ ap t.regions (sym f) ∙ x.found in
+      let y : None ≡ Some x.entry = sym q ∙ ap t.regions (sym f) ∙ x.found in
       let z : ◌≡◌ {A = ℕ} 0 1 = cc in
       omega arith
 
   -- FOR A REGION THAT LENDS NOTHING
-  pub none_lent : (e : RegionEntry) → t.regions id ≡ some e → e.loans ≡ [] → NoWait t id
+  pub none_lent : (e : RegionEntry) → t.regions id ≡ Some e → e.loans ≡ [] → NoWait t id
   none_lent e q n w i f =
       let x = v.each w i in
-      let y : some e ≡ some x.entry = sym q ∙ ap t.regions (sym f) ∙ x.found in
+      let y : Some e ≡ Some x.entry = sym q ∙ ap t.regions (sym f) ∙ x.found in
       let s : x.entry ≡ e = cc in
       x.lending (ap (λ (g : RegionEntry). g.loans) s ∙ n)
 
@@ -64,11 +64,11 @@ queue_none t id e n = go (queue_of id e t) (λ w h. h)
 
 -- ---- other loans of one region
 
-module _ (t : Receipts) (id : ℕ) (e : RegionEntry) (q : t.regions id ≡ some e) (l : List Loan) where
+module _ (t : Receipts) (id : ℕ) (e : RegionEntry) (q : t.regions id ≡ Some e) (l : List Loan) where
   -- it has the order that it had
   orders_lent : orders (lending id e l t) ≡ orders t
   orders_lent =
-      fun_ext (λ j. by_eqb j id (λ (b : Bool). order_in (cond b (some (with_loans l e)) (t.regions j)) ≡ order_in (t.regions j))
+      fun_ext (λ j. by_eqb j id (λ (b : Bool). order_in (cond b (Some (with_loans l e)) (t.regions j)) ≡ order_in (t.regions j))
       (λ h. ap order_in (sym (ap t.regions h ∙ q))) (λ h. refl))
 
   -- a wait, where its region still lends
@@ -78,10 +78,10 @@ module _ (t : Receipts) (id : ℕ) (e : RegionEntry) (q : t.regions id ≡ some 
       go : (b : Bool) → eqb w.id id ≡ b → WaitIs (lending id e l t) w
       go true f =
           let s : w.id ≡ id = eqb-true w.id id f in
-          let r : t.regions id ≡ some a.entry = subst (λ (j : ℕ). t.regions j ≡ some a.entry) s a.found in
+          let r : t.regions id ≡ Some a.entry = subst (λ (j : ℕ). t.regions j ≡ Some a.entry) s a.found in
           let g : a.entry ≡ e = cc in
-          wait_moved t (lending id e l t) w w.since l a (rw (s, update_here id (some (with_loans l e)) t.regions, g)) refl (h s) a.time
-      go false f = wait_same t (lending id e l t) w a (update_other id (some (with_loans l e)) t.regions w.id (eqb-false w.id id f)) refl
+          wait_moved t (lending id e l t) w w.since l a (rw (s, update_here id (Some (with_loans l e)) t.regions, g)) refl (h s) a.time
+      go false f = wait_same t (lending id e l t) w a (update_other id (Some (with_loans l e)) t.regions w.id (eqb-false w.id id f)) refl
 
   -- THE WAITS STAY, where something is lent to each region that somebody waits for
   pub waits_lent : (d : Manager) → Waits d t → ((w : Wait) → In w t.waits → w.id ≡ id → ¬ (l ≡ [])) → Waits d (lending id e l t)

@@ -1,9 +1,9 @@
 -- The picture of the objects, without the waits: the memory and the record as the receipts say. A step in one region keeps the picture,
 -- with the loans of that region changed. Assumes nothing.
+use Rattle.std.specs.Prelude.{Option, Some}
 use mathlib.Core.Path.{◌≡◌, refl, sym, ap, subst, fun_ext}
 use mathlib.Core.Bool.{Bool, true, cond}
 use mathlib.Core.List.{List}
-use mathlib.Core.Option.{Option, some}
 use Prim.Native.Nat.{ℕ}
 use native.Mathlib.Omega.{arith}
 use lib.ListN.{length}
@@ -46,17 +46,17 @@ abbrev pub registering : ℕ → Option RegionEntry → Receipts → Receipts
 registering id o t = with_regions (update id o t.regions) t
 
 abbrev pub lending : ℕ → RegionEntry → List Loan → Receipts → Receipts
-lending id e l t = registering id (some (with_loans l e)) t
+lending id e l t = registering id (Some (with_loans l e)) t
 
 module _ (id : ℕ) (e : RegionEntry) (t : Receipts) where
-  pub on_region_lem : (g : RegionEntry → RegionEntry) → t.regions id ≡ some e → on_region id g t ≡ registering id (some (g e)) t
+  pub on_region_lem : (g : RegionEntry → RegionEntry) → t.regions id ≡ Some e → on_region id g t ≡ registering id (Some (g e)) t
   on_region_lem g q = ap (λ (o : Option RegionEntry). registering id (map_option g o) t) q
 
   pub lending_again : (l k : List Loan) → lending id e k (lending id e l t) ≡ lending id e k t
-  lending_again l k = ap (λ (f : ℕ → Option RegionEntry). with_regions f t) (update_again id (some (with_loans k e)) t.regions (some (with_loans l e)))
+  lending_again l k = ap (λ (f : ℕ → Option RegionEntry). with_regions f t) (update_again id (Some (with_loans k e)) t.regions (Some (with_loans l e)))
 
-  pub lending_same : (l : List Loan) → t.regions id ≡ some (with_loans l e) → lending id e l t ≡ t
-  lending_same l q = ap (λ (f : ℕ → Option RegionEntry). with_regions f t) (update_same id (some (with_loans l e)) t.regions q)
+  pub lending_same : (l : List Loan) → t.regions id ≡ Some (with_loans l e) → lending id e l t ≡ t
+  lending_same l q = ap (λ (f : ℕ → Option RegionEntry). with_regions f t) (update_same id (Some (with_loans l e)) t.regions q)
 
 -- ---- the picture
 
@@ -80,7 +80,7 @@ any_queue m d t q w v =
 pub words_same : (m m' : List ℕ) → length m' ≡ length m → sound_length m ≡ true → sound_length m' ≡ true
 words_same m m' e h = rw e h
 
-module _ (m : List ℕ) (d : Manager) (t : Receipts) (v : Picture m d t) (id : ℕ) (e : RegionEntry) (q : t.regions id ≡ some e) where
+module _ (m : List ℕ) (d : Manager) (t : Receipts) (v : Picture m d t) (id : ℕ) (e : RegionEntry) (q : t.regions id ≡ Some e) where
   pub live_at : RegionAt m (region_of d id) e
   live_at = region_at_lem m (region_of d id) (t.regions id) e (v.regions id) q
 
@@ -92,9 +92,9 @@ module _ (m : List ℕ) (d : Manager) (t : Receipts) (v : Picture m d t) (id : �
     clear : (x : Object) → ¬ (region id ≡ x) → Clear (area_for (region_for e)) (area_in d x)
     clear x n = subst (λ (r : Region). Clear (area_for r) (area_in d x)) live_at.region (sound_clear d v.region_slots v.partition_slots v.areas (region id) x n)
 
-    slot_at : (j : ℕ) → RegionSlot m' (region_of d j) (update id (some (with_loans l e)) t.regions j)
+    slot_at : (j : ℕ) → RegionSlot m' (region_of d j) (update id (Some (with_loans l e)) t.regions j)
     slot_at j =
-        by_eqb j id (λ (b : Bool). RegionSlot m' (region_of d j) (cond b (some (with_loans l e)) (t.regions j)))
+        by_eqb j id (λ (b : Bool). RegionSlot m' (region_of d j) (cond b (Some (with_loans l e)) (t.regions j)))
         (λ h. rw (h, live_at.region) (live live_at.generation (with_loans l e) step.is))
         (λ h. region_kept m m' (area_for (region_for e)) (region_of d j) (t.regions j) only
         (clear (region j) (λ (p : region id ≡ region j). h (let s : id ≡ j = cc in sym s))) (v.regions j))

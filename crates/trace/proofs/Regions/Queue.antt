@@ -1,9 +1,9 @@
 -- The queue of a pictured state: the record is sound, a region's waiters are its queue by the receipts, a wait can be entered, and the
 -- first can be taken out. Assumes nothing.
+use Rattle.std.specs.Prelude.{Some}
 use mathlib.Core.Path.{◌≡◌, refl, sym, ap, ◌∙◌}
 use mathlib.Core.Bool.{Bool, true, false, cond}
 use mathlib.Core.List.{List, [], ◌∷◌, ◌++◌}
-use mathlib.Core.Option.{some}
 use Prim.Native.Nat.{ℕ, suc, ◌≤◌, ◌<◌}
 use native.Mathlib.Omega.{arith}
 use lib.ListN.{length}
@@ -78,7 +78,7 @@ few_queue d t id e v =
     omega (arith, length_line (urgent_than e.order) [] (waits_in id t.waits), waits_fewer id t.waits, few_waits d t v)
 
 -- each of a region's queue asks for something
-pub queue_asks : (d : Manager) (t : Receipts) → Waits d t → (id : ℕ) (e : RegionEntry) → t.regions id ≡ some e → (w : Wait) → In w (queue_of id e t) → 0 < w.size
+pub queue_asks : (d : Manager) (t : Receipts) → Waits d t → (id : ℕ) (e : RegionEntry) → t.regions id ≡ Some e → (w : Wait) → In w (queue_of id e t) → 0 < w.size
 queue_asks d t v id e q w h =
     let y : In w t.waits = (in_all_waits t w).0 ((in_waits id w (in_line t)).0 (rw (queue_of_lem id e t q) at h)).0 in
     (v.each w y).size_some

@@ -1,8 +1,8 @@
 -- Serving the queues of several slots, one after the other: the invariant that one leaves is what the next rests on. An empty slot has no
 -- queue. Each changes its own map only, and what clients hold they still hold after it, so none of their words is moved. Assumes nothing.
+use Rattle.std.specs.Prelude.{Option, Some}
 use mathlib.Core.Path.{◌≡◌, refl, ap, ◌∙◌}
 use mathlib.Core.List.{List, [], ◌∷◌, ◌++◌}
-use mathlib.Core.Option.{Option, some}
 use Prim.Native.Nat.{ℕ, zero, suc, ◌+◌, ◌≤◌}
 use native.Mathlib.Omega.{arith}
 use lib.ListN.{get_or}
@@ -59,7 +59,7 @@ grants_on n i t gs = gs ++ grants_from n (suc i) (all_noticed gs t)
 
 module _ (m : List ℕ) (d : Manager) (t : Receipts) (v : Inv m d t) (n i : ℕ) where
   -- A LIVE SLOT: its queue is served, and then the others', with its notices entered
-  module _ (e : RegionEntry) (q : t.regions (region_now t i) ≡ some e) (is : RegionIs m e) where
+  module _ (e : RegionEntry) (q : t.regions (region_now t i) ≡ Some e) (is : RegionIs m e) where
     abbrev id : ℕ
     id = region_now t i
 

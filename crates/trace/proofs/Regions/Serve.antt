@@ -1,9 +1,9 @@
 -- Serving a region's queue: the first wait gets its place, then the next, up to the first that has none. In between a region may lend
 -- nothing while others wait; in the end it does not, since where nothing is lent the first wait has a place. Assumes nothing.
+use Rattle.std.specs.Prelude.{Option, None, Some}
 use mathlib.Core.Path.{◌≡◌, refl, sym, ap, ◌∙◌, subst}
 use mathlib.Core.List.{List, [], ◌∷◌}
 use mathlib.Core.Logic.{◌⊎◌, inl, inr, ⊎_elim}
-use mathlib.Core.Option.{some}
 use Prim.Native.Nat.{ℕ, zero, suc, ◌≤◌, ◌<◌}
 use native.Mathlib.Omega.{arith}
 use lib.ListN.{length, get_or}
@@ -16,8 +16,6 @@ use Rattle.manager.specs.Serve.{Served, quiet, granted, telling, serve_up_to}
 use Rattle.manager.specs.declared.Manager.{Manager}
 use Rattle.manager.specs.declared.Region.{Region}
 use Rattle.manager.specs.declared.Waiter.{Waiter}
-use Rattle.manager.specs.declared.Place.{Place}
-use Rattle.manager.specs.declared.Place.TheVariants.{At, Nowhere}
 use Rattle.manager.specs.declared.Notice.{Notice}
 use Rattle.trace.specs.Loans.{Loan, loan, enter}
 use Rattle.trace.specs.Receipts.{Receipts, RegionEntry, Wait, address_in, lend, on_region, update, with_waits, without, noticed, all_noticed, pages_over, Servable, with_loans}
@@ -64,7 +62,7 @@ something = loan 0 1 ∷ []
 
 pub record Serving (id : ℕ) (e : RegionEntry) (m : List ℕ) (d : Manager) (t : Receipts) (l : List Loan) (ws : List Wait) : Type 0 where
   pub picture : Picture m d t
-  pub entry : t.regions id ≡ some (with_loans l e)
+  pub entry : t.regions id ≡ Some (with_loans l e)
   pub waits : Waits d (lending id e something t)
   pub queue : queue_of id e t ≡ ws
 
@@ -78,14 +76,14 @@ module _ (id : ℕ) (e : RegionEntry) where
     ended h =
         with_waits_lem v.picture
         (subst (λ (u : Receipts). Waits d u) (lending_again id e t something l ∙ lending_same id e t l v.entry)
-        (waits_lent (lending id e something t) id (with_loans something e) (update_here id (some (with_loans something e)) t.regions) l d v.waits
+        (waits_lent (lending id e something t) id (with_loans something e) (update_here id (Some (with_loans something e)) t.regions) l d v.waits
         (⊎_elim (λ (x : ¬ (l ≡ [])) w i r. x) (λ (x : ws ≡ []) w i r. absurd (none_queued t id e (v.queue ∙ x) w i r)) h)))
 
   -- the first wait of a queue that is being served
   module _ (m : List ℕ) (d : Manager) (t : Receipts) (l : List Loan) (w : Wait) (ws : List Wait) (v : Serving id e m d t l (w ∷ ws)) where
     first : queue.Granted d (lending id e something t) id (with_loans something e) w ws
     first =
-        queue.granted d (lending id e something t) v.waits id (with_loans something e) (update_here id (some (with_loans something e)) t.regions) w ws v.queue
+        queue.granted d (lending id e something t) v.waits id (with_loans something e) (update_here id (Some (with_loans something e)) t.regions) w ws v.queue
 
     first_is : WaitIs (lending id e something t) w
     first_is = v.waits.each w first.waits
@@ -93,9 +91,9 @@ module _ (id : ℕ) (e : RegionEntry) where
     -- he asks for what the region could serve with nothing lent
     asker : (u : WaitIs (lending id e something t) w) → u.entry ≡ with_loans something e
     asker u =
-        let p : update id (some (with_loans something e)) t.regions id ≡ some u.entry =
-        subst (λ (j : ℕ). update id (some (with_loans something e)) t.regions j ≡ some u.entry) first.region u.found in
-        let q : update id (some (with_loans something e)) t.regions id ≡ some (with_loans something e) = update_here id (some (with_loans something e)) t.regions in
+        let p : update id (Some (with_loans something e)) t.regions id ≡ Some u.entry =
+        subst (λ (j : ℕ). update id (Some (with_loans something e)) t.regions j ≡ Some u.entry) first.region u.found in
+        let q : update id (Some (with_loans something e)) t.regions id ≡ Some (with_loans something e) = update_here id (Some (with_loans something e)) t.regions in
         cc
 
     fits : Servable e w.size w.alignment
@@ -125,7 +123,7 @@ module _ (id : ℕ) (e : RegionEntry) where
         record {
           picture = any_queue m' d (lending id e (lent p) t) (dequeue d (first_of id d.waiters)).waiters (without w.task t.waits)
               (stepped m d t v.picture id (with_loans l e) v.entry m' (lent p) s);
-          entry = update_here id (some (with_loans (lent p) e)) t.regions;
+          entry = update_here id (Some (with_loans (lent p) e)) t.regions;
           waits = rw (lending_again id e left (lent p) something) first.after;
           queue = first.rest;
         }
@@ -133,12 +131,12 @@ module _ (id : ℕ) (e : RegionEntry) where
     -- one turn, where the turns after it are right
     module _ (f : ℕ) (next : (m : List ℕ) (d : Manager) (t : Receipts) (l : List Loan) → Serving id e m d t l ws → Outcome e l ws m t (serve_up_to f m d id)) where
       -- the grants by the place that is found
-      first_grant : (g : Place) → g ≡ place_in e l w.size w.alignment
+      first_grant : (g : Option ℕ) → g ≡ place_in e l w.size w.alignment
           → on_place g (λ p. granted (waiter_of w) (address_in e p) ∷ grants_in e (lent p) ws) [] ≡ grants_in e l (w ∷ ws)
       unfolding grants_in
-      first_grant g h = ap (λ (q : Place). on_place q (λ p. granted (waiter_of w) (address_in e p) ∷ grants_in e (lent p) ws) []) h
+      first_grant g h = ap (λ (q : Option ℕ). on_place q (λ p. granted (waiter_of w) (address_in e p) ∷ grants_in e (lent p) ws) []) h
 
-      turned : {g : Place} {m' : List ℕ} → Gives m (with_loans l e) w.size w.alignment g m' → g ≡ place_in e l w.size w.alignment
+      turned : {g : Option ℕ} {m' : List ℕ} → Gives m (with_loans l e) w.size w.alignment g m' → g ≡ place_in e l w.size w.alignment
           → Outcome e l (w ∷ ws) m t
           (on_place g (λ p. telling (granted (waiter_of w) (address_in e p)) (serve_up_to f m' (dequeue d (first_of id d.waiters)) id)) (quiet m d))
       unfolding all_noticed
@@ -146,13 +144,13 @@ module _ (id : ℕ) (e : RegionEntry) where
           let o = next _ _ _ _ (after p m' s) in
           let a = serve_up_to f m' (dequeue d (first_of id d.waiters)) id in
           record {
-            grants = ap (λ (ns : List Notice). granted (waiter_of w) (address_in e p) ∷ ns) o.grants ∙ first_grant (At p) h;
+            grants = ap (λ (ns : List Notice). granted (waiter_of w) (address_in e p) ∷ ns) o.grants ∙ first_grant (Some p) h;
             only = only_trans _ _ m m' a.memory s.only o.only;
             inv = subst (λ (u : Receipts). Inv a.memory a.manager (all_noticed a.notices u)) (sym (lends p)) o.inv;
           }
       turned (none full) h =
           record {
-            grants = first_grant Nowhere h;
+            grants = first_grant None h;
             only = only_refl _ _ m;
             inv = ended m d t l (w ∷ ws) v (inl (full_lends (with_loans l e) w.size w.alignment fits full));
           }
@@ -176,7 +174,7 @@ module _ (id : ℕ) (e : RegionEntry) where
   served zero m d t l (w ∷ ws) v h = absurd (omega arith)
   served (suc f) m d t l [] v h =
       rw (serve_nobody f m d id
-      (queue.none_first d (lending id e something t) v.waits id (with_loans something e) (update_here id (some (with_loans something e)) t.regions) v.queue))
+      (queue.none_first d (lending id e something t) v.waits id (with_loans something e) (update_here id (Some (with_loans something e)) t.regions) v.queue))
       (record { grants = refl; only = only_refl _ _ m; inv = ended m d t l [] v (inr refl) })
   served (suc f) m d t l (w ∷ ws) v h =
       took_turn m d t l w ws v f (λ m' d' t' l' v'. served f m' d' t' l' ws v' (omega arith))

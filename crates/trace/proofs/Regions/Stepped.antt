@@ -1,7 +1,7 @@
 -- A step in a region, and then its queue is served: a return and a resize do this, and a tick serves without a step. Assumes nothing.
+use Rattle.std.specs.Prelude.{Some}
 use mathlib.Core.Path.{◌≡◌, refl, sym, subst}
 use mathlib.Core.List.{List}
-use mathlib.Core.Option.{some}
 use Prim.Native.Nat.{ℕ}
 use native.Mathlib.Omega.{arith}
 use Rattle.manager.specs.Record.{tasks}
@@ -21,14 +21,14 @@ use Rattle.trace.proofs.Regions.Lending.{waits_lent}
 use Rattle.trace.proofs.Regions.Queue.{few_queue}
 use Rattle.trace.proofs.Regions.Serve.{Outcome, Serving, something, served}
 
-module _ (m : List ℕ) (d : Manager) (t : Receipts) (v : Inv m d t) (id : ℕ) (e : RegionEntry) (q : t.regions id ≡ some e) where
+module _ (m : List ℕ) (d : Manager) (t : Receipts) (v : Inv m d t) (id : ℕ) (e : RegionEntry) (q : t.regions id ≡ Some e) where
   -- A STEP TO OTHER LOANS
   module _ (m' : List ℕ) (l : List Loan) (step : Steps m e m' l) where
     serving : Serving id e m' d (lending id e l t) l (queue_of id e t)
     serving =
         record {
           picture = stepped m d t v.picture id e q m' l step;
-          entry = update_here id (some (with_loans l e)) t.regions;
+          entry = update_here id (Some (with_loans l e)) t.regions;
           waits = rw (lending_again id e t l something)
               (waits_lent t id e q something d v.waits (λ y i r n. let z : ◌≡◌ {A = ℕ} 0 1 = cc in omega arith));
           queue = refl;

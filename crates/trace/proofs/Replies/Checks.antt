@@ -1,8 +1,8 @@
 -- A chain of checks answers by the receipts where each test does, up to the first that refuses. Assumes nothing.
+use Rattle.std.specs.Prelude.{Option, Some}
 use mathlib.Core.Path.{◌≡◌, refl, sym, ◌∙◌, ap}
 use mathlib.Core.Bool.{Bool, true, false, cond, true≢false}
 use mathlib.Core.List.{List, [], ◌∷◌}
-use mathlib.Core.Option.{Option, some}
 use Prim.Native.Nat.{ℕ}
 use borrow.Author.Tests.{ne_eqb}
 use Rattle.manager.proofs.Laws.Appended.{by_case}
@@ -72,14 +72,14 @@ module _ (m : List ℕ) (d : Manager) where
 
   -- 4, and then what the entry says
   pub at_region : (r : Region) (o : Option RegionEntry) → RegionSlot m r o → (cs : Region → List Check) (act : Region → Result) (f : RegionEntry → Reply)
-      → ((g : ℕ) (e : RegionEntry) → RegionIs m e → o ≡ some e → r ≡ region_as g e → Answers m d (cs (region_as g e)) (act (region_as g e)) (f e))
+      → ((g : ℕ) (e : RegionEntry) → RegionIs m e → o ≡ Some e → r ≡ region_as g e → Answers m d (cs (region_as g e)) (act (region_as g e)) (f e))
       → Answers m d (check (dead r) InvalidId ∷ cs r) (act r) (living o f)
   unfolding checked
   at_region r o (empty g) cs act f h = refl
   at_region r o (live g e is) cs act f h = rw (not_dead m e is) (h g e is refl refl)
 
   pub at_partition : (p : Partition) (o : Option PartitionEntry) → PartitionSlot m p o → (cs : Partition → List Check) (act : Partition → Result) (f : PartitionEntry → Reply)
-      → ((e : PartitionEntry) → PartitionIs m p e → o ≡ some e → Answers m d (cs p) (act p) (f e))
+      → ((e : PartitionEntry) → PartitionIs m p e → o ≡ Some e → Answers m d (cs p) (act p) (f e))
       → Answers m d (check (dead_partition p) InvalidId ∷ cs p) (act p) (living o f)
   unfolding checked
   at_partition p o (empty g) cs act f h = refl

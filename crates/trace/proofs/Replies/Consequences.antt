@@ -1,11 +1,11 @@
 -- What the replies by the receipts come to, in the words of demand 3. Laws over the receipts alone: a live region's loans are regular, and
 -- nothing is known of a memory or of a record. So of any implementation that answers as the receipts say, each field of the claims about
 -- an answer follows. Assumes nothing.
+use Rattle.std.specs.Prelude.{Option, None, Some}
 use mathlib.Core.Path.{◌≡◌, refl, sym, ap, ◌∙◌}
 use mathlib.Core.Bool.{Bool, true, false, cond, not, true≢false}
 use mathlib.Core.List.{List, [], ◌∷◌, ◌++◌}
 use mathlib.Core.Logic.{◌⊎◌, inl, inr, ◌↔◌}
-use mathlib.Core.Option.{some}
 use Prim.Native.Nat.{ℕ, ◌+◌, ◌*◌, ◌/◌, ◌%◌, ◌<◌}
 use native.Mathlib.Omega.{arith}
 use lib.ListN.{length}
@@ -17,8 +17,6 @@ use Rattle.manager.specs.Kind.{on_place}
 use Rattle.manager.specs.Region.{is_alignment}
 use Rattle.manager.specs.Result.{Check, check}
 use Rattle.manager.specs.declared.Call.TheVariants.{GetSegment, ReturnSegment, SegmentSize, ResizeSegment, RegionInformation, GetBuffer}
-use Rattle.manager.specs.declared.Place.{Place}
-use Rattle.manager.specs.declared.Place.TheVariants.{At, Nowhere}
 use Rattle.manager.specs.declared.Wait as asking
 use Rattle.manager.specs.declared.Wait.TheVariants.{No, Yes}
 use Rattle.manager.specs.declared.Status.TheVariants.{Successful, InvalidSize, NotDefined, Unsatisfied}
@@ -38,11 +36,11 @@ use Rattle.trace.proofs.Replies.Checks.{passed}
 
 -- ---- the answers about a region
 
-module _ (n : ℕ) (t : Receipts) (id : ℕ) (e : RegionEntry) (q : t.regions id ≡ some e) (g : Regular e) where
+module _ (n : ℕ) (t : Receipts) (id : ℕ) (e : RegionEntry) (q : t.regions id ≡ Some e) (g : Regular e) where
   -- a get
   module _ (size alignment task priority ticks : ℕ) where
     -- the place that it finds, and its checks by the region, behind the one for 4
-    abbrev found : Place
+    abbrev found : Option ℕ
     found = place_in e e.loans size alignment
 
     abbrev checks : List Check
@@ -62,7 +60,7 @@ module _ (n : ℕ) (t : Receipts) (id : ℕ) (e : RegionEntry) (q : t.regions id
       asked = by_receipts n t (GetSegment id size alignment wait task priority ticks)
 
       -- its answer by the place
-      abbrev placing : Place → Reply
+      abbrev placing : Option ℕ → Reply
       placing p = on_place p (λ p. yes (address_in e p)) (no_place wait)
 
       asked_is : asked ≡ decided (check (eqb size 0) InvalidSize ∷ []) (decided (checks ++ waiting_checks t wait task priority) (placing found))
@@ -87,7 +85,7 @@ module _ (n : ℕ) (t : Receipts) (id : ℕ) (e : RegionEntry) (q : t.regions id
           let b : asked ≡ placing found = asked_is ∙ s.1 ∙ u.1 in
           rw b (go a (places e g size alignment (let y = eqb-false size 0 s.0.0 in omega arith)) (ap (λ (r : Reply). r.status) (sym b) ∙ h))
         where
-          go : Alignment e alignment → {p : Place} → Places e size alignment p → (placing p).status ≡ Successful → (placing p).value % alignment ≡ 0
+          go : Alignment e alignment → {p : Option ℕ} → Places e size alignment p → (placing p).status ≡ Successful → (placing p).value % alignment ≡ 0
           go a (takes i c r) y = address_on e alignment a o i ((law e).aligned alignment a.known o (span_in e) (need_in e size alignment) i (chosen i c).starts)
           go a (full f) y = absurd (never_done wait y)
 
@@ -95,7 +93,7 @@ module _ (n : ℕ) (t : Receipts) (id : ℕ) (e : RegionEntry) (q : t.regions id
     abbrev at_once : Reply
     at_once = asked No
 
-    abbrev by_place : Place → Reply
+    abbrev by_place : Option ℕ → Reply
     by_place = placing No
 
     get_is : at_once ≡ decided (check (eqb size 0) InvalidSize ∷ []) (decided checks (by_place found))
@@ -112,14 +110,14 @@ module _ (n : ℕ) (t : Receipts) (id : ℕ) (e : RegionEntry) (q : t.regions id
           (λ h. (λ y. absurd (other (is_alignment (unit e) alignment) (servable_in e size alignment) found y), λ y. absurd (true≢false y)))
           (λ h. (λ y. refl, λ y. refl)))
         where
-          known : Bool → Bool → Place → Reply
+          known : Bool → Bool → Option ℕ → Reply
           known b c p = cond (not b) (no InvalidSize) (cond (not c) (no InvalidSize) (by_place p))
 
-          other : (b c : Bool) (p : Place) → ¬ ((known b c p).status ≡ NotDefined)
+          other : (b c : Bool) (p : Option ℕ) → ¬ ((known b c p).status ≡ NotDefined)
           other false c p y = let x : ◌≡◌ {A = ℕ} 0 1 = cc in omega arith
           other true false p y = let x : ◌≡◌ {A = ℕ} 0 1 = cc in omega arith
-          other true true (At i) y = let x : ◌≡◌ {A = ℕ} 0 1 = cc in omega arith
-          other true true Nowhere y = let x : ◌≡◌ {A = ℕ} 0 1 = cc in omega arith
+          other true true (Some i) y = let x : ◌≡◌ {A = ℕ} 0 1 = cc in omega arith
+          other true true None y = let x : ◌≡◌ {A = ℕ} 0 1 = cc in omega arith
 
       -- on an alignment that the kind knows
       serves : (servable_in e size alignment ≡ true) ↔ Servable e size alignment
@@ -145,9 +143,9 @@ module _ (n : ℕ) (t : Receipts) (id : ℕ) (e : RegionEntry) (q : t.regions id
           Fine : Type 0
           Fine = Alignment e alignment × Servable e size alignment
 
-          other : (p : Place) → ¬ ((by_place p).status ≡ InvalidSize)
-          other (At i) y = let x : ◌≡◌ {A = ℕ} 0 1 = cc in omega arith
-          other Nowhere y = let x : ◌≡◌ {A = ℕ} 0 1 = cc in omega arith
+          other : (p : Option ℕ) → ¬ ((by_place p).status ≡ InvalidSize)
+          other (Some i) y = let x : ◌≡◌ {A = ℕ} 0 1 = cc in omega arith
+          other None y = let x : ◌≡◌ {A = ℕ} 0 1 = cc in omega arith
 
       -- on one that is allowed, where it could be served
       module _ (a : Alignment e alignment) (h : Servable e size alignment) where
@@ -158,7 +156,7 @@ module _ (n : ℕ) (t : Receipts) (id : ℕ) (e : RegionEntry) (q : t.regions id
         pub unsatisfied_by : (at_once.status ≡ Unsatisfied) ↔ Full e e.loans size alignment
         unsatisfied_by = rw get_by (go (places e g size alignment z))
           where
-            go : {p : Place} → Places e size alignment p → ((by_place p).status ≡ Unsatisfied) ↔ Full e e.loans size alignment
+            go : {p : Option ℕ} → Places e size alignment p → ((by_place p).status ≡ Unsatisfied) ↔ Full e e.loans size alignment
             go (takes i c o) = (
               λ (x : Successful ≡ Unsatisfied). let y : ◌≡◌ {A = ℕ} 0 1 = cc in absurd (omega arith),
               λ f. absurd (f i (chosen i c)),
@@ -170,7 +168,7 @@ module _ (n : ℕ) (t : Receipts) (id : ℕ) (e : RegionEntry) (q : t.regions id
             ⊎ ((p : ℕ) × Takes e e.loans size alignment p × (at_once.status ≡ Successful) × (at_once.value ≡ address_in e p))
         lowest_by = rw get_by (go (places e g size alignment z))
           where
-            go : {p : Place} → Places e size alignment p
+            go : {p : Option ℕ} → Places e size alignment p
                 → ((by_place p).status ≡ Unsatisfied)
                 ⊎ ((i : ℕ) × Takes e e.loans size alignment i × ((by_place p).status ≡ Successful) × ((by_place p).value ≡ address_in e i))
             go (takes i c o) = inr (i, c, refl, refl)
@@ -240,7 +238,7 @@ module _ (n : ℕ) (t : Receipts) (id : ℕ) (e : RegionEntry) (q : t.regions id
 
 -- ---- the answers about a partition
 
-module _ (n : ℕ) (t : Receipts) (id : ℕ) (e : PartitionEntry) (q : t.partitions id ≡ some e) (counted : length e.lent + length e.unlent ≡ buffers_in e) where
+module _ (n : ℕ) (t : Receipts) (id : ℕ) (e : PartitionEntry) (q : t.partitions id ≡ Some e) (counted : length e.lent + length e.unlent ≡ buffers_in e) where
   front_is : by_receipts n t (GetBuffer id) ≡ front e.unlent
   unfolding by_receipts
   front_is = rw q

@@ -1,10 +1,10 @@
 -- What ident and create answer to a name, over the receipts alone: of a kind by its entries, of which no two have one name, each under the
 -- id that its slot has now. Assumes nothing.
+use Rattle.std.specs.Prelude.{Option, None, Some}
 use mathlib.Core.Path.{◌≡◌, refl, sym, ap, ◌∙◌, subst}
 use mathlib.Core.Bool.{Bool, true, false, cond, not, true≢false}
 use mathlib.Core.List.{List, [], ◌∷◌}
 use mathlib.Core.Logic.{◌⊎◌, inl, inr, ⊎_elim, ◌↔◌}
-use mathlib.Core.Option.{Option, none, some}
 use Prim.Native.Nat.{ℕ, zero, suc, ◌+◌, ◌≤◌, ◌<◌}
 use native.Mathlib.Omega.{arith}
 use lib.Dec.{eqb, leb, ltb}
@@ -38,9 +38,9 @@ first_least p (suc n) k i l h e =
     refl
 
 -- an object that is there and passes a test
-has_some : {E : Type 0} (p : E → Bool) (o : Option E) → has p o ≡ true → (e : E) × (o ≡ some e) × (p e ≡ true)
-has_some p none h = absurd (let z : ◌≡◌ {A = ℕ} 0 1 = cc in omega arith)
-has_some p (some e) h = (e, refl, h)
+has_some : {E : Type 0} (p : E → Bool) (o : Option E) → has p o ≡ true → (e : E) × (o ≡ Some e) × (p e ≡ true)
+has_some p None h = absurd (let z : ◌≡◌ {A = ℕ} 0 1 = cc in omega arith)
+has_some p (Some e) h = (e, refl, h)
 
 -- 3 is not answered by checks that have another status, nor by what is behind them
 abbrev spares : Check → Bool
@@ -61,7 +61,7 @@ module _ {E : Type 0} {entries : ℕ → Option E} {deletes : ℕ → ℕ} {name
   slot n = slot_with entries deletes (λ e. eqb (name e) n)
 
   -- one that is found is of an object with the name
-  in_slot_lem : (n : ℕ) → slot n < slots → (e : E) × (entries (id_now deletes (slot n)) ≡ some e) × (name e ≡ n)
+  in_slot_lem : (n : ℕ) → slot n < slots → (e : E) × (entries (id_now deletes (slot n)) ≡ Some e) × (name e ≡ n)
   in_slot_lem n h =
       let r = has_some (λ e. eqb (name e) n) (entries (id_now deletes (slot n))) (first_passes (λ i. has (λ e. eqb (name e) n) (entries (id_now deletes i))) slots 0 (omega arith)) in
       (r.0, r.1, eqb-true (name r.0) n r.2)
@@ -70,7 +70,7 @@ module _ {E : Type 0} {entries : ℕ → Option E} {deletes : ℕ → ℕ} {name
   in_use n h = let r = in_slot_lem n h in (id_now deletes (slot n), r.0, r.1, r.2)
 
   -- and each object with the name is in it
-  module _ (id : ℕ) (e : E) (q : entries id ≡ some e) where
+  module _ (id : ℕ) (e : E) (q : entries id ≡ Some e) where
     found : slot (name e) < slots
     found =
         let u = v.now id e q in
@@ -86,7 +86,7 @@ module _ {E : Type 0} {entries : ℕ → Option E} {deletes : ℕ → ℕ} {name
   identified n = decided (check (eqb n 0) InvalidName ∷ check (leb slots (slot n)) InvalidName ∷ []) (yes (id_now deletes (slot n)))
 
   -- THE ID OF THE ONLY ONE
-  found_by : (id : ℕ) (e : E) → entries id ≡ some e → ((identified (name e)).status ≡ Successful) × ((identified (name e)).value ≡ id)
+  found_by : (id : ℕ) (e : E) → entries id ≡ Some e → ((identified (name e)).status ≡ Successful) × ((identified (name e)).value ≡ id)
   unfolding decided
   found_by id e q = rw (ne_eqb (name e) 0 (v.named id e q), lt-leb slots (slot (name e)) (found id e q)) (refl, found_id id e q)
 

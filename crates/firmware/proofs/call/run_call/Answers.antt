@@ -24,8 +24,8 @@ pack-requires c = search (rules, calling)
 pub put-requires : goal.put-requires
 put-requires c = search (rules, calling)
 
-pub number-requires : goal.number-requires
-number-requires c = search (rules, calling)
+pub from-requires : goal.from-requires
+from-requires c = search (rules, calling)
 
 pub shape_of-state : goal.shape_of-state
 shape_of-state c = search (rules, calling)

@@ -1,5 +1,6 @@
 -- Where a get by halves is placed: at the lowest of the smallest free blocks that have the pages; nowhere exactly where no free block has
 -- them. Of any list of segments. Assumes nothing.
+use Rattle.std.specs.Prelude.{None, Some}
 use Prim.Native.Nat.{ℕ, ◌+◌, ◌≤◌, ◌<◌}
 use mathlib.Core.Path.{◌≡◌, refl}
 use mathlib.Core.Logic.{◌⊎◌, inl, inr, ⊎_elim}
@@ -10,7 +11,6 @@ use lib.Dec.{eqb, leb}
 use borrow.Author.Tests.{leb-true, leb-false, le-leb, eqb-true, eqb-false}
 use Rattle.manager.specs.Map.{Segment, free, held, total}
 use Rattle.manager.specs.Halves.{FreeAt, lesser, smallest, lowest_free, place_block}
-use Rattle.manager.specs.declared.Place.TheVariants.{At, Nowhere}
 
 -- ---- free blocks
 
@@ -111,14 +111,14 @@ smallest_least k (free n ∷ s) at q m o (inr x) l = go (leb k n) refl (smallest
 
 -- ---- the lowest of a size
 
-pub lowest_there : (b at : ℕ) (s : List Segment) (p : ℕ) → lowest_free b at s ≡ At p → FreeAt s at p b × ((q : ℕ) → FreeAt s at q b → p ≤ q)
+pub lowest_there : (b at : ℕ) (s : List Segment) (p : ℕ) → lowest_free b at s ≡ Some p → FreeAt s at p b × ((q : ℕ) → FreeAt s at q b → p ≤ q)
 unfolding lowest_free FreeAt
 lowest_there b at [] p e = absurd (let z : ◌≡◌ {A = ℕ} 0 1 = cc in omega arith)
 lowest_there b at (held n ∷ s) p e = lowest_there b (at + n) s p e
 lowest_there b at (free n ∷ s) p e = go (eqb n b) refl e (λ e'. lowest_there b (at + n) s p e')
   where
-    go : (t : Bool) → eqb n b ≡ t → cond t (At at) (lowest_free b (at + n) s) ≡ At p
-        → (lowest_free b (at + n) s ≡ At p → FreeAt s (at + n) p b × ((q : ℕ) → FreeAt s (at + n) q b → p ≤ q))
+    go : (t : Bool) → eqb n b ≡ t → cond t (Some at) (lowest_free b (at + n) s) ≡ Some p
+        → (lowest_free b (at + n) s ≡ Some p → FreeAt s (at + n) p b × ((q : ℕ) → FreeAt s (at + n) q b → p ≤ q))
         → (((at ≡ p) × (n ≡ b)) ⊎ FreeAt s (at + n) p b) × ((q : ℕ) → ((at ≡ q) × (n ≡ b)) ⊎ FreeAt s (at + n) q b → p ≤ q)
     go true f h ih =
         let z : at ≡ p = cc in
@@ -127,14 +127,14 @@ lowest_there b at (free n ∷ s) p e = go (eqb n b) refl e (λ e'. lowest_there 
         let x = ih h in
         (inr x.0, λ q y. elim y [ inl z ↦ absurd (eqb-false n b f z.1) | inr z ↦ x.1 q z ])
 
-pub lowest_none : (b at : ℕ) (s : List Segment) (q : ℕ) → lowest_free b at s ≡ Nowhere → FreeAt s at q b → ⊥
+pub lowest_none : (b at : ℕ) (s : List Segment) (q : ℕ) → lowest_free b at s ≡ None → FreeAt s at q b → ⊥
 unfolding lowest_free FreeAt
 lowest_none b at [] q e x = x
 lowest_none b at (held n ∷ s) q e x = lowest_none b (at + n) s q e x
 lowest_none b at (free n ∷ s) q e x = go (eqb n b) refl e x (λ e' y. lowest_none b (at + n) s q e' y)
   where
-    go : (t : Bool) → eqb n b ≡ t → cond t (At at) (lowest_free b (at + n) s) ≡ Nowhere → ((at ≡ q) × (n ≡ b)) ⊎ FreeAt s (at + n) q b
-        → (lowest_free b (at + n) s ≡ Nowhere → FreeAt s (at + n) q b → ⊥) → ⊥
+    go : (t : Bool) → eqb n b ≡ t → cond t (Some at) (lowest_free b (at + n) s) ≡ None → ((at ≡ q) × (n ≡ b)) ⊎ FreeAt s (at + n) q b
+        → (lowest_free b (at + n) s ≡ None → FreeAt s (at + n) q b → ⊥) → ⊥
     go true f h y ih = let z : ◌≡◌ {A = ℕ} 0 1 = cc in omega arith
     go false f h (inl y) ih = eqb-false n b f y.1
     go false f h (inr y) ih = ih h y
@@ -149,11 +149,11 @@ pub record Best (k at p : ℕ) (s : List Segment) : Type 0 where
   pub lowest : (q : ℕ) → FreeAt s at q pages → p ≤ q
 
 module _ (k at : ℕ) (s : List Segment) (o : 1 ≤ k) where
-  pub place_best : (p : ℕ) → place_block k at s ≡ At p → Best k at p s
+  pub place_best : (p : ℕ) → place_block k at s ≡ Some p → Best k at p s
   unfolding place_block
   place_best p e = go (eqb (smallest k s) 0) refl e
     where
-      go : (b : Bool) → eqb (smallest k s) 0 ≡ b → cond b Nowhere (lowest_free (smallest k s) at s) ≡ At p → Best k at p s
+      go : (b : Bool) → eqb (smallest k s) 0 ≡ b → cond b None (lowest_free (smallest k s) at s) ≡ Some p → Best k at p s
       go true f h = absurd (let z : ◌≡◌ {A = ℕ} 0 1 = cc in omega arith)
       go false f h =
           let n = eqb-false (smallest k s) 0 f in
@@ -167,11 +167,11 @@ module _ (k at : ℕ) (s : List Segment) (o : 1 ≤ k) where
             lowest = x.1;
           }
 
-  pub place_none : place_block k at s ≡ Nowhere → (q m : ℕ) → FreeAt s at q m → m < k
+  pub place_none : place_block k at s ≡ None → (q m : ℕ) → FreeAt s at q m → m < k
   unfolding place_block
   place_none e q m x = by_order (leb k m) refl
     where
-      go : (b : Bool) → eqb (smallest k s) 0 ≡ b → cond b Nowhere (lowest_free (smallest k s) at s) ≡ Nowhere → k ≤ m → ⊥
+      go : (b : Bool) → eqb (smallest k s) 0 ≡ b → cond b None (lowest_free (smallest k s) at s) ≡ None → k ≤ m → ⊥
       go true f h l = let y = smallest_least k s at q m o x l in omega (arith, eqb-true (smallest k s) 0 f, y.0)
       go false f h l =
           let y = smallest_least k s at q m o x l in

@@ -1,4 +1,5 @@
 -- Pages counted from elsewhere, in a map by halves: every page so many further on, and the map the same. Assumes nothing.
+use Rattle.std.specs.Prelude.{Option, None, Some}
 use Prim.Native.Nat.{ℕ, zero, suc, ◌+◌, ◌^◌}
 use mathlib.Core.Path.{◌≡◌, refl}
 use mathlib.Core.Bool.{Bool, true, false, cond}
@@ -10,8 +11,6 @@ use Rattle.manager.specs.Map.{Segment, free, held}
 use Rattle.manager.specs.Kind.{on_place, allocate}
 use Rattle.manager.specs.Halves.{low_of, high_of, smallest, lowest_free, place_block, occupy_block, release_block, halves}
 use Rattle.manager.specs.declared.Need.{Need}
-use Rattle.manager.specs.declared.Place.{Place}
-use Rattle.manager.specs.declared.Place.TheVariants.{At, Nowhere}
 use Rattle.manager.proofs.Laws.Shift.{shifted, shift_at}
 
 module _ (by : ℕ) where
@@ -22,7 +21,7 @@ module _ (by : ℕ) where
   lowest_shift b at (free n ∷ s) = let e : by + at + n ≡ by + (at + n) = omega arith in rw e (go (eqb n b) (lowest_shift b (at + n) s))
     where
       go : (t : Bool) → lowest_free b (by + (at + n)) s ≡ shifted by (lowest_free b (at + n) s)
-          → cond t (At (by + at)) (lowest_free b (by + (at + n)) s) ≡ shifted by (cond t (At at) (lowest_free b (at + n) s))
+          → cond t (Some (by + at)) (lowest_free b (by + (at + n)) s) ≡ shifted by (cond t (Some at) (lowest_free b (at + n) s))
       go true h = refl
       go false h = h
 
@@ -30,7 +29,7 @@ module _ (by : ℕ) where
   unfolding place_block
   place_shift k at s = go (eqb (smallest k s) 0)
     where
-      go : (t : Bool) → cond t Nowhere (lowest_free (smallest k s) (by + at) s) ≡ shifted by (cond t Nowhere (lowest_free (smallest k s) at s))
+      go : (t : Bool) → cond t None (lowest_free (smallest k s) (by + at) s) ≡ shifted by (cond t None (lowest_free (smallest k s) at s))
       go true = refl
       go false = lowest_shift (smallest k s) at s
 
@@ -43,9 +42,9 @@ module _ (by : ℕ) where
   pub take_shift : (w : Need) (at : ℕ) (s : List Segment) → allocate halves w (by + at) s ≡ allocate halves w at s
   take_shift w at s = rw (place_shift w.pages at s) (go (place_block w.pages at s))
     where
-      go : (q : Place) → on_place (shifted by q) (λ p. occupy_block p w.pages (by + at) s) s ≡ on_place q (λ p. occupy_block p w.pages at s) s
-      go (At p) = occupy_shift p w.pages at s
-      go Nowhere = refl
+      go : (q : Option ℕ) → on_place (shifted by q) (λ p. occupy_block p w.pages (by + at) s) s ≡ on_place q (λ p. occupy_block p w.pages at s) s
+      go (Some p) = occupy_shift p w.pages at s
+      go None = refl
 
   shift_under : (p q : ℕ) → ltb (by + p) (by + q) ≡ ltb p q
   shift_under p q = go (ltb p q) refl

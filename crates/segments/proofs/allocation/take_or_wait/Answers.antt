@@ -6,8 +6,8 @@ use Rattle.segments.proofs.allocation.take_or_wait.Goals as goal
 pub address_of-requires : goal.address_of-requires
 address_of-requires c = search (rules, placing)
 
-pub returns-in-At : goal.returns-in-At
-returns-in-At c = search (rules, placing)
+pub returns-in-Some : goal.returns-in-Some
+returns-in-Some c = search (rules, placing)
 
 pub returns-in-No : goal.returns-in-No
 returns-in-No c = search (rules, placing)

@@ -18,14 +18,14 @@ allocate-requires-2 c = search (rules, kinds, not-true, not-false)
 pub overflow_add-page : goal.overflow_add-page
 overflow_add-page c =
     page_fits c.args.o _ c.by_halves.ensures _ c.requires.sound.0 c.if-not-by_halves.false
-    c.args.n c.args.first _ _ c.allocate-2.ensures c.requires.some.1 c.requires.sound.1 c.requires.some.0 _ c.in-At.is
+    c.args.n c.args.first _ _ c.allocate-2.ensures c.requires.some.1 c.requires.sound.1 c.requires.some.0 _ c.in-Some.is
 
-pub returns-in-Nowhere : goal.returns-in-Nowhere
-returns-in-Nowhere c =
+pub returns-in-None : goal.returns-in-None
+returns-in-None c =
     halves_none c.args.o _ c.by_halves.ensures _ c.requires.sound.0 c.if-not-by_halves.false
-    c.args.n c.args.first _ _ c.allocate-2.ensures c.in-Nowhere.is
+    c.args.n c.args.first _ _ c.allocate-2.ensures c.in-None.is
 
-pub returns-in-At : goal.returns-in-At
-returns-in-At c =
+pub returns-in-Some : goal.returns-in-Some
+returns-in-Some c =
     halves_at c.args.o _ c.by_halves.ensures _ c.requires.sound.0 c.if-not-by_halves.false
-    c.args.n c.args.first _ _ c.allocate-2.ensures _ c.in-At.is
+    c.args.n c.args.first _ _ c.allocate-2.ensures _ c.in-Some.is

@@ -12,8 +12,8 @@ take_pages-requires c = search (rules, turning)
 pub address_of-requires : goal.address_of-requires
 address_of-requires c = search (rules, turning)
 
-pub returns-in-Nowhere : goal.returns-in-Nowhere
-returns-in-Nowhere c = search (rules, turning)
+pub returns-in-None : goal.returns-in-None
+returns-in-None c = search (rules, turning)
 
-pub returns-in-At : goal.returns-in-At
-returns-in-At c = search (rules, turning)
+pub returns-in-Some : goal.returns-in-Some
+returns-in-Some c = search (rules, turning)
