@@ -1,8 +1,8 @@
--- Powers of two by doubling from 1 on: up to the first that reaches k, and up to the last that n does not fall short of. Assumes nothing.
-use Prim.Native.Nat.{ℕ, ◌-◌, ◌*◌, ◌/◌, ◌≤◌, ◌<◌}
+-- The powers of two next to a number, and the page count by halves. Assumes nothing.
+use Prim.Native.Nat.{ℕ, zero, suc, ◌*◌, ◌/◌, ◌^◌, ◌≤◌, ◌<◌, max}
+use Rattle.std.specs.Int.{IsPowerOfTwo}
 use mathlib.Core.Path.{◌≡◌, refl, ap, ◌∙◌}
-use mathlib.Core.Logic.{◌⊎◌, inl, inr, ⊎_elim}
-use mathlib.Core.Bool.{true}
+use mathlib.Core.Logic.{inl, inr, ⊎_elim}
 use native.Mathlib.Omega.{arith}
 use native.Mathlib.Nat.{eq-zero-or-pos}
 use mir.Syntax.{w32}
@@ -12,50 +12,21 @@ use Rattle.arith.specs.Power.{power_up, is_power}
 use Rattle.arith.specs.Layout.{largest, any_number, page_count, layout_with, layout_of}
 use Rattle.arith.specs.declared.Layout.{Layout}
 use Rattle.arith.proofs.Laws.Layout.{largest_under, largest_most, largest_passes, count_under, count_fits, count_allowed, count_zero, count_over, count_most, fits_less}
-use Rattle.arith.proofs.Laws.Power.{is_power_lem, power_some, next_power, least_is, largest_is}
+use Rattle.arith.proofs.Laws.Power.{some_power, double, is_power_lem, least_is, largest_is}
 
--- HOW FAR IT HAS COME: to a power of two, the first or one whose half is below k
-pub record Rising (k b : ℕ) : Type 0 where
-  pub power : is_power b ≡ true
-  pub under : (b ≡ 1) ⊎ (b < k * 2)
+-- the next power of two of a number is the least at or above it
+pub next_is_up : (k b : ℕ) → IsPowerOfTwo b → k ≤ b → b / 2 < max 1 k → b ≡ power_up k
+next_is_up k b (zero, e) above under = least_is k b (rw (e, is_power_lem 0)) above (inl e)
+next_is_up k b (suc j, e) above under =
+    least_is k b (rw (e, is_power_lem (suc j))) above (inr (omega (arith, e, double j, some_power j)))
 
-pub rising_start : (k : ℕ) → Rising k 1
-rising_start k = record { power = is_power_lem 0; under = inl refl }
-
-module _ (k b : ℕ) (r : Rising k b) where
-  pub rising_on : b < k → Rising k (b * 2)
-  rising_on h = record { power = next_power b r.power; under = inr (omega arith) }
-
-  pub rising_falls : b < k → k - b * 2 < k - b
-  rising_falls h = omega (arith, power_some b r.power)
-
-  pub rising_end : k ≤ b → b ≡ power_up k
-  rising_end h = least_is k b r.power h r.under
-
-pub ruleset rising = (rising_start, rising_on, rising_falls, rising_end)
-
--- and from below: to one at or below n
-pub record Below (n b : ℕ) : Type 0 where
-  pub power : is_power b ≡ true
-  pub under : b ≤ n
-
+-- 0 has none at or below it
 pub below_none : (n : ℕ) → n ≡ 0 → 0 ≡ largest n is_power
 below_none n e = omega (arith, largest_under n is_power)
 
-pub below_start : (n : ℕ) → (n ≡ 0 → ⊥) → Below n 1
-below_start n h = record { power = is_power_lem 0; under = ⊎_elim (λ (z : n ≡ 0). absurd (h z)) (λ (z : 0 < n). z) (eq-zero-or-pos n) }
-
-module _ (n b : ℕ) (r : Below n b) where
-  pub below_on : b ≤ n / 2 → Below n (b * 2)
-  below_on h = record { power = next_power b r.power; under = omega arith }
-
-  pub below_falls : b ≤ n / 2 → n - b * 2 < n - b
-  below_falls h = omega (arith, power_some b r.power)
-
-  pub below_end : n / 2 < b → b ≡ largest n is_power
-  below_end h = largest_is n b r.power r.under (omega arith)
-
-pub ruleset below = (below_none, below_start, below_on, below_falls, below_end)
+-- and two to the logarithm of any other number is the largest there
+pub log_is_down : (n j : ℕ) → 2 ^ j ≤ n → n < 2 * 2 ^ j → 2 ^ j ≡ largest n is_power
+log_is_down n j le lt = largest_is n (2 ^ j) (is_power_lem j) le (omega arith)
 
 -- it fits where n does
 pub below_fits : (n b : ℕ) → Fits w32 n → b ≡ largest n is_power → Fits w32 b

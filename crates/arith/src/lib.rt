@@ -24,8 +24,7 @@ fn multiples(x: u64, p: u32) -> u64
     if p == 0 {
         return 0;
     }
-    let wide = p as u64;
-    (x + (wide - 1)) / wide
+    x.div_ceil(u64::from(p))
 }
 
 // The first multiple of p at or above x; 0 where p is 0.
@@ -102,12 +101,7 @@ pub fn layout_of(start: u32, length: u32, page: u32) -> Layout
 pub fn power_up(k: u32) -> u64
     ensures { result ≡ power_up k }
 {
-    let wide = k as u64;
-    let mut b: u64 = 1;
-    while b < wide {
-        b = b * 2;
-    }
-    b
+    u64::from(k).next_power_of_two()
 }
 
 // The largest power of two at or below a number; 0 for 0.
@@ -117,11 +111,7 @@ pub fn power_down(most: u64) -> u64
     if most == 0 {
         return 0;
     }
-    let mut b: u64 = 1;
-    while b <= most / 2 {
-        b = b * 2;
-    }
-    b
+    1 << most.ilog2()
 }
 
 // The layout of an area with the largest power of two pages that fits: what fewer pages take fits too, so that is the largest at or

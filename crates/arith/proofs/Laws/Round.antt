@@ -1,12 +1,13 @@
 -- What rounding up gives: the least multiple at or above, and the least number of whole pages. All follows from the two bounds on
 -- a quotient: n / p * p ≤ n < n / p * p + p. Assumes nothing.
-use Prim.Native.Nat.{ℕ, zero, suc, ◌+◌, ◌-◌, ◌*◌, ◌/◌, ◌%◌, ◌≤◌, ◌<◌}
+use Prim.Native.Nat.{ℕ, zero, suc, ◌+◌, ◌-◌, ◌*◌, ◌/◌, ◌%◌, ◌≤◌, ◌<◌, min}
 use mathlib.Core.Path.{◌≡◌, ap}
 use mathlib.Core.Logic.{⊎_elim}
 use native.Mathlib.Nat.{div-mul-le_self, lt-div-mul-add, div-lt_iff_lt-mul, le-div_iff_mul-le, div-zero, mul-mod_left, suc-mul, div-add-mod', mod-lt, lt_of_mul-lt-mul_right, pos_of_ne-zero}
 use native.Mathlib.Nat.{eq-zero-or-pos, le-mul_of_pos_right, mul-le-mul_right}
 use native.Mathlib.Numerals.{add-one}
 use native.Mathlib.Omega.{arith}
+use Rattle.std.proofs.lemmas.Grind.{div_ceil_times}
 use Rattle.arith.specs.Round.{round_up, pages_for, align_up, OnEvery}
 
 -- at most x + (p - 1), for any p
@@ -35,6 +36,14 @@ pub pages_least : (x p k : ℕ) → 0 < p → x ≤ k * p → pages_for x p ≤ 
 pages_least x p k h g =
     let q : (x + (p - 1)) / p < k + 1 = (div-lt_iff_lt-mul h).1 (rw (add-one k, suc-mul k p) (omega arith)) in
     omega arith
+
+-- what `div_ceil` gives, which says the quotient rounded up by the rest
+pub ceil_is_pages : (x p k : ℕ) → 0 < p → k ≡ x / p + min 1 (x % p) → k ≡ pages_for x p
+ceil_is_pages x p k h e =
+    let b = div_ceil_times x p h in
+    let up = pages_least x p (x / p + min 1 (x % p)) h b.0 in
+    let down : (x / p + min 1 (x % p)) * p ≤ x + (p - 1) = omega (arith, b.1) in
+    omega (arith, (le-div_iff_mul-le h).1 down)
 
 -- no multiple of p at or above x is below it
 pub round_least : (x p k : ℕ) → 0 < p → x ≤ k * p → round_up x p ≤ k * p

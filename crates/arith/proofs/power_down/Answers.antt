@@ -1,22 +1,12 @@
--- `power_down` meets its contract: it doubles from 1 on up to the last power of two at or below n. Assumes nothing.
-use borrow.Author.Rules.{rules}
-use Rattle.arith.proofs.Doubling.{below}
+-- `power_down` meets its contract: two to the logarithm is the largest power at or below a number. Assumes nothing.
+use native.Mathlib.Omega.{arith}
+use Rattle.arith.proofs.Doubling.{below_none, log_is_down}
 use Rattle.arith.proofs.power_down.Goals as goal
 
 pub returns-then-most-eq0 : goal.returns-then-most-eq0
-returns-then-most-eq0 c = search (rules, below)
-
-pub loop-b-init : goal.loop-b-init
-loop-b-init c = search (rules, below)
-
-pub overflow_mul-b : goal.overflow_mul-b
-overflow_mul-b c = search (rules, below)
-
-pub loop-b-smaller : goal.loop-b-smaller
-loop-b-smaller c = search (rules, below)
-
-pub loop-b-preserved : goal.loop-b-preserved
-loop-b-preserved c = search (rules, below)
+returns-then-most-eq0 c = below_none _ c.if-most-eq0.true
 
 pub returns : goal.returns
-returns c = search (rules, below)
+returns c =
+    let e = c.ilog2.ensures in
+    omega (arith, log_is_down _ _ e.power_le e.next_power_gt, e.power_le, c.ranges.most.fits)
