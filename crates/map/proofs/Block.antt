@@ -6,16 +6,13 @@ use mathlib.Core.Bool.{Bool, true, false, not, ◌&&◌, and-false}
 use mathlib.Core.List.{List, [], ◌∷◌, ◌++◌}
 use native.Mathlib.Omega.{arith}
 use native.Mathlib.Numerals.{sub-one}
-use borrow.Author.Tests.{eq-eqb, ne_eqb, le-leb}
+use borrow.Author.Tests.{eq-eqb, ne_eqb, eqb-true, eqb-false, le-leb}
 use lib.Dec.{eqb}
 use lib.ListN.{length, get_or, take, drop, length-drop, take-append-drop}
 use lib.Seq.{take_at, drop_at, take_all, length-take-le, get_or-take, get_or-drop}
-use Rattle.arith.specs.Power.{level, is_power}
-use Rattle.arith.proofs.Laws.Power.{some_power, double, is_power_lem, power_is, power_some, level_power, largest_is}
-use Rattle.arith.specs.Layout.{largest}
-use Rattle.arith.proofs.Laws.Layout.{largest_passes}
+use Rattle.arith.specs.Power.{level, power_up, is_power}
+use Rattle.arith.proofs.Laws.Power.{some_power, double, is_power_lem, power_is, power_some, level_power}
 use Rattle.manager.specs.Lists.{every}
-use Rattle.manager.proofs.Laws.Lists.{Passing, every_from, every_fail, every_next, every_end}
 use Rattle.manager.specs.Map.{Segment, free, held, size_of, segment_of, draw, decode, tiled_from, tiled, sound_map, total}
 use Rattle.manager.specs.Halves.{is_free, halves}
 use Rattle.arith.proofs.Laws.Layout.{both_true}
@@ -25,14 +22,6 @@ use Rattle.manager.proofs.Laws.Halves.Cut.{Halved, one, two, halved_sized, halve
 -- sound words of a map by halves
 abbrev Sound : List ℕ → Bool
 Sound ws = sound_map halves.proper ws
-
-not_true : (b : Bool) → not b ≡ true → b ≡ false
-not_true true e = sym e
-not_true false e = refl
-
-not_false : (b : Bool) → not b ≡ false → b ≡ true
-not_false true e = refl
-not_false false e = sym e
 
 not_free : (b : Bool) → (b ≡ true → ⊥) → b ≡ false
 not_free true h = absurd (h refl)
@@ -165,7 +154,7 @@ even n p h = go (level n) (power_is n p)
 
 module _ (ws : List ℕ) (p : is_power (length ws) ≡ true) where
   abbrev low : List ℕ
-  low = take (length ws / 2 - 0) ws
+  low = take (length ws / 2) ws
 
   abbrev high : List ℕ
   high = take (length ws - length ws / 2) (drop (length ws / 2) ws)
@@ -181,7 +170,7 @@ module _ (ws : List ℕ) (p : is_power (length ws) ≡ true) where
     n = 2 ^ ev.level
 
     low_is : low ≡ take n ws
-    low_is = let e : length ws / 2 - 0 ≡ n = omega (arith, ev.half) in rw e
+    low_is = let e : length ws / 2 ≡ n = ev.half in rw e
 
     high_is : high ≡ drop n ws
     high_is =
@@ -235,11 +224,11 @@ module _ (ws : List ℕ) (p : is_power (length ws) ≡ true) where
           go false h = refl
           go true h = sym e ∙ f h
 
-      pub low_bad : (b : Bool) → b ≡ Sound low → not b ≡ true → false ≡ Sound ws
-      low_bad b e f = by_sound b (λ h. e ∙ low_sound h) (not_true b f)
+      pub low_bad : (b : Bool) → b ≡ Sound low → b ≡ false → false ≡ Sound ws
+      low_bad b e f = by_sound b (λ h. e ∙ low_sound h) f
 
-      pub high_bad : (b : Bool) → b ≡ Sound high → not b ≡ true → false ≡ Sound ws
-      high_bad b e f = by_sound b (λ h. e ∙ high_sound h) (not_true b f)
+      pub high_bad : (b : Bool) → b ≡ Sound high → b ≡ false → false ≡ Sound ws
+      high_bad b e f = by_sound b (λ h. e ∙ high_sound h) f
 
     -- a sound half is wholly free where its first word says so
     module _ (part : List ℕ) (long : length part ≡ n) (ok : Sound part ≡ true) where
@@ -260,12 +249,12 @@ module _ (ws : List ℕ) (p : is_power (length ws) ≡ true) where
           go j s h z w = free_by j s h (ap (λ (l : List ℕ). get_or l 0 0) (sym w) ∙ e ∙ ev.is ∙ ap (λ (i : ℕ). 2 ^ suc i) (sym z))
 
     -- both halves sound
-    module _ (x y : Bool) (ex : x ≡ Sound low) (ey : y ≡ Sound high) (tx : not x ≡ false) (ty : not y ≡ false) where
+    module _ (x y : Bool) (ex : x ≡ Sound low) (ey : y ≡ Sound high) (tx : x ≡ true) (ty : y ≡ true) where
       low_ok : Sound low ≡ true
-      low_ok = sym ex ∙ not_false x tx
+      low_ok = sym ex ∙ tx
 
       high_ok : Sound high ≡ true
-      high_ok = sym ey ∙ not_false y ty
+      high_ok = sym ey ∙ ty
 
       abbrev a : List Segment
       a = decode low
@@ -313,25 +302,16 @@ module _ (ws : List ℕ) (p : is_power (length ws) ≡ true) where
               let q : is_free s.1 ≡ true = ap is_free (sym v) ∙ word_free high high_long high_ok (high_first ∙ k) in
               sym s.4 ∙ rw (p, q)
 
--- ---- the words behind the first, one by one
+      -- where the low half may be wholly free, the first word of the high one tells
+      pub high_says : (get_or ws 0 0 / 2 ≡ length ws → ⊥) → get_or ws 0 0 ≡ length ws
+          → not (eqb (get_or ws (length ws / 2) 0) (length ws)) ≡ Sound ws
+      high_says first h = go (eqb (get_or ws (length ws / 2) 0) (length ws)) refl
+        where
+          go : (e : Bool) → eqb (get_or ws (length ws / 2) 0) (length ws) ≡ e → not e ≡ Sound ws
+          go true e = both_free first h (eqb-true (get_or ws (length ws / 2) 0) (length ws) e)
+          go false e = high_held (eqb-false (get_or ws (length ws / 2) 0) (length ws) e)
 
-module _ (ws : List ℕ) where
-  pub rest_start : 1 ≤ length ws → Passing (λ w. eqb w 0) ws (length ws) (every (λ w. eqb w 0) (drop 1 ws)) 1
-  rest_start h = every_from (λ w. eqb w 0) ws (length ws) 1 refl h
-
-  module _ (i : ℕ) (v : Passing (λ w. eqb w 0) ws (length ws) (every (λ w. eqb w 0) (drop 1 ws)) i) where
-    pub rest_bad : i < length ws → (get_or ws i 0 ≡ 0 → ⊥) → false ≡ every (λ w. eqb w 0) (drop 1 ws)
-    rest_bad h e = every_fail (λ w. eqb w 0) ws (length ws) _ i v h 0 (ne_eqb (get_or ws i 0) 0 e)
-
-    pub rest_good : i < length ws → get_or ws i 0 ≡ 0 → Passing (λ w. eqb w 0) ws (length ws) (every (λ w. eqb w 0) (drop 1 ws)) (i + 1)
-    rest_good h e = every_next (λ w. eqb w 0) ws (length ws) _ i v h 0 (eq-eqb (get_or ws i 0) 0 e)
-
-    pub rest_end : length ws ≤ i → true ≡ every (λ w. eqb w 0) (drop 1 ws)
-    rest_end h = every_end (λ w. eqb w 0) ws (length ws) _ i v h
-
-pub ruleset resting = (rest_start, rest_bad, rest_good, rest_end)
-
--- ---- A WHOLE MAP: a power of two of words, which the largest power of two at or below their number tells
+-- ---- A WHOLE MAP: a power of two of words
 
 sound_power : (ws : List ℕ) → Sound ws ≡ true → is_power (length ws) ≡ true
 sound_power ws e =
@@ -348,18 +328,10 @@ module _ (ws : List ℕ) where
       go false e = refl
       go true e = absurd (h (sound_power ws e))
 
-  pub map_none : length ws ≡ 0 → false ≡ Sound ws
-  map_none z = not_power (λ e. omega (arith, power_some (length ws) e))
+  -- their number is the least power of two at or above it, or the map is not sound
+  module _ (b : ℕ) (e : b ≡ power_up (length ws)) where
+    pub map_power : b ≡ length ws → is_power (length ws) ≡ true
+    map_power h = eq-eqb (power_up (length ws)) (length ws) (sym e ∙ h)
 
-  module _ (b : ℕ) (e : b ≡ largest (length ws) is_power) where
-    pub map_uneven : (b ≡ length ws → ⊥) → false ≡ Sound ws
-    map_uneven h = not_power (λ p. h (e ∙ sym (largest_is (length ws) (length ws) p (omega arith) (omega (arith, power_some (length ws) p)))))
-
-    pub map_power : (length ws ≡ 0 → ⊥) → b ≡ length ws → is_power (length ws) ≡ true
-    map_power z h = rw (sym h ∙ e) (largest_passes (length ws) is_power (some (largest (length ws) is_power) (λ q. z (sym h ∙ e ∙ q))))
-      where
-        some : (n : ℕ) → (n ≡ 0 → ⊥) → 0 < n
-        some zero h = absurd (h refl)
-        some (suc n) h = omega arith
-
-pub ruleset wholes = (map_none, map_uneven, map_power)
+    pub map_uneven : (b ≡ length ws → ⊥) → eqb b (length ws) ≡ Sound ws
+    map_uneven h = ne_eqb b (length ws) h ∙ not_power (λ p. h (e ∙ eqb-true (power_up (length ws)) (length ws) p))

@@ -1,6 +1,6 @@
 pub mod Scan
 pub mod Order
-pub mod Alignment
+pub mod NothingHeld
 pub mod Check
 pub mod Block
 pub mod Part

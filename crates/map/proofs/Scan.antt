@@ -1,16 +1,14 @@
 -- A scan of a map's words, one by one: each word that is not 0 starts a segment, held where it is odd, and adds its pages to the page
 -- number; a word 0 adds none. `at_page` is what a function says of the held segment that starts at page p. Assumes nothing.
-use Prim.Native.Nat.{ℕ, zero, suc, ◌+◌, ◌/◌, ◌%◌, ◌≤◌, ◌<◌}
-use mathlib.Core.Path.{◌≡◌, refl, sym, ap}
+use Prim.Native.Nat.{ℕ, zero, suc, ◌+◌, ◌/◌, ◌%◌, ◌<◌}
+use mathlib.Core.Path.{◌≡◌, refl, ap}
 use mathlib.Core.Bool.{Bool, true, false, cond, ◌||◌}
 use mathlib.Core.List.{List, [], ◌∷◌}
 use native.Mathlib.Nat.{add-zero}
 use native.Mathlib.Omega.{arith}
 use borrow.Author.Tests.{eq-eqb, ne_eqb, eqb-true}
 use lib.Dec.{eqb}
-use lib.ListN.{length, get_or}
 use Rattle.manager.specs.Lists.{any}
-use Rattle.manager.proofs.Laws.Lists.{Seeking, some_next, some_here, some_end}
 use Rattle.manager.proofs.Laws.Map.{decode_skip}
 use Rattle.manager.specs.Map.{Segment, free, held, is_held, is_held_segment, decode}
 use Rattle.manager.specs.Kind.{held_from}
@@ -75,19 +73,3 @@ module _ (g : ℕ → List Segment → ℕ) (p : ℕ) where
   unfolding at_page
   word_free q zero ws h = rw (decode_skip 0 ws refl, add-zero q)
   word_free q (suc w) ws h = rw (decode_free (suc w) ws h (λ e. omega arith))
-
--- the search for a held segment, word by word
-pub any_start : (ws : List ℕ) → Seeking is_held ws (length ws) (any is_held_segment (decode ws)) 0
-any_start ws = record { size = refl; within = omega arith; rest = sym (held_words ws) }
-
-module _ (ws : List ℕ) (r : Bool) (i : ℕ) (v : Seeking is_held ws (length ws) r i) where
-  pub any_even : i < length ws → (get_or ws i 0 % 2 ≡ 1 → ⊥) → Seeking is_held ws (length ws) r (i + 1)
-  any_even h o = some_next is_held ws (length ws) r i v h 0 (ne_eqb (get_or ws i 0 % 2) 1 o)
-
-  pub any_odd : i < length ws → get_or ws i 0 % 2 ≡ 1 → true ≡ r
-  any_odd h o = some_here is_held ws (length ws) r i v h 0 (eq-eqb (get_or ws i 0 % 2) 1 o)
-
-  pub any_end : length ws ≤ i → false ≡ r
-  any_end h = some_end is_held ws (length ws) r i v h
-
-pub ruleset finding = (any_start, any_even, any_odd, any_end)

@@ -10,14 +10,7 @@ fn rest_zero(map: &[u32]) -> bool
     requires { 1 ≤ length map.now }
     ensures { result ≡ every (λ w. eqb w 0) (drop 1 map.now) }
 {
-    let mut i: usize = 1;
-    while i < map.len() {
-        if map[i] != 0 {
-            return false;
-        }
-        i += 1;
-    }
-    true
+    map[1..].iter().all(|word| *word == 0)
 }
 
 // Whether the words, a power of two of them, are a block got by halving.
@@ -34,20 +27,9 @@ fn is_block(map: &[u32]) -> bool
         return false;
     }
     let half = n / 2;
-    if !is_block(&map[0..half]) {
-        return false;
-    }
-    if !is_block(&map[half..n]) {
-        return false;
-    }
-    if first as usize != n {
-        return true;
-    }
-    let middle = map[half];
-    if middle as usize != n {
-        return true;
-    }
-    false
+    is_block(&map[..half])
+        && is_block(&map[half..])
+        && !(first as usize == n && map[half] as usize == n)
 }
 
 // Whether the words are a sound map of a region by halves.
@@ -55,11 +37,5 @@ pub(crate) fn is_sound(map: &[u32]) -> bool
     ensures { result ≡ sound_map halves.proper map.now }
 {
     let n = map.len();
-    if n == 0 {
-        return false;
-    }
-    if arith::power_down(n as u64) != n as u64 {
-        return false;
-    }
-    is_block(map)
+    n.next_power_of_two() == n && is_block(map)
 }

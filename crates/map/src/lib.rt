@@ -17,23 +17,18 @@ use manager::{Need, Order, Region};
 pub fn by_halves(o: Order) -> bool
     ensures { result ≡ by_halves o }
 {
-    match o {
-        Order::Fifo => false,
-        Order::Priority => false,
-        Order::HalvesFifo => true,
-        Order::HalvesPriority => true,
-    }
+    matches!(o, Order::HalvesFifo | Order::HalvesPriority)
 }
 
 // Where the region's map and pages lie: a directive works it out once, and hands it on.
 pub fn layout_of(r: Region) -> Layout
     ensures { result ≡ layout_of r }
 {
-    let order = r.order;
-    if by_halves(order) {
-        return arith::layout_by_halves(r.start, r.length, r.page);
+    if by_halves(r.order) {
+        arith::layout_by_halves(r.start, r.length, r.page)
+    } else {
+        arith::layout_of(r.start, r.length, r.page)
     }
-    arith::layout_of(r.start, r.length, r.page)
 }
 
 // How many pages a request for so many bytes takes: by halves, a power of two.
@@ -41,34 +36,25 @@ pub fn pages_asked(r: Region, size: u32) -> u64
     ensures { result ≡ pages_asked r size }
 {
     let n = arith::pages_for(size, r.page);
-    let order = r.order;
-    if by_halves(order) {
-        return arith::power_up(n);
+    if by_halves(r.order) {
+        arith::power_up(n)
+    } else {
+        u64::from(n)
     }
-    n as u64
 }
 
 // Whether a region of an order knows an alignment: by halves only 0.
 pub fn aligns(o: Order, alignment: u32) -> bool
     ensures { result ≡ (kind_of o).aligns alignment }
 {
-    if by_halves(o) {
-        return alignment == 0;
-    }
-    true
+    alignment == 0 || !by_halves(o)
 }
 
 // Whether an alignment is 0, for the page size, or a multiple of the page size up to 4,096.
 pub fn is_alignment(page: u32, alignment: u32) -> bool
     ensures { result ≡ is_alignment page alignment }
 {
-    if 4096 < alignment {
-        return false;
-    }
-    if page == 0 {
-        return alignment == 0;
-    }
-    alignment % page == 0
+    alignment <= 4096 && alignment.is_multiple_of(page)
 }
 
 // What a request for so many bytes on an alignment needs: its pages, and from which ones on.
@@ -76,11 +62,7 @@ pub fn need_of(r: Region, size: u32, alignment: u32) -> Need
     ensures { result ≡ need_of r size alignment }
 {
     let pages = pages_asked(r, size);
-    let page = r.page;
-    if page == 0 {
-        return Need { pages, every: 0 };
-    }
-    let every = alignment / page;
+    let every = alignment.checked_div(r.page).unwrap_or(0);
     Need { pages, every }
 }
 
@@ -88,41 +70,27 @@ pub fn need_of(r: Region, size: u32, alignment: u32) -> Need
 pub fn room_from(every: u32, at: u64, n: u32) -> u32
     ensures { result ≡ room_from every at n }
 {
-    let gap = arith::gap_to(every, at);
-    if n as u64 <= gap {
-        return 0;
-    }
-    n - gap as u32
+    u64::from(n).saturating_sub(arith::gap_to(every, at)) as u32
 }
 
 // Whether a region of an order and a layout could serve a need with nothing held.
 pub fn servable(o: Order, l: Layout, n: Need) -> bool
     ensures { result ≡ servable_at (kind_of o) l n }
 {
-    let pages = l.pages;
-    if pages == 0 {
-        return false;
-    }
-    if by_halves(o) {
-        return n.pages <= pages as u64;
-    }
-    n.pages <= room_from(n.every, l.first, pages) as u64
+    let room = if by_halves(o) {
+        l.pages
+    } else {
+        room_from(n.every, l.first, l.pages)
+    };
+    l.pages != 0 && n.pages <= u64::from(room)
 }
 
 // The words of a map: fewer where the memory ends before them.
 pub fn map_words<'a>(mem: &'a [u32], l: Layout) -> &'a [u32]
     ensures { result.now ≡ words_at mem.now l }
 {
-    let at = l.map;
-    let n = l.pages as usize;
-    if mem.len() < at {
-        return &mem[0..0];
-    }
-    if mem.len() - at < n {
-        return &mem[at..];
-    }
-    let end = at + n;
-    &mem[at..end]
+    let words = mem.get(l.map..).unwrap_or(&[]);
+    words.get(..l.pages as usize).unwrap_or(words)
 }
 
 // Whether the words are a sound map of a region of an order.
@@ -130,21 +98,19 @@ pub fn is_sound(map: &[u32], o: Order) -> bool
     ensures { result ≡ sound_map (kind_of o).proper map.now }
 {
     if by_halves(o) {
-        return halves::is_sound(map);
+        halves::is_sound(map)
+    } else {
+        is_apart(map)
     }
-    is_apart(map)
 }
 
 // Whether the words are a sound map of a region of pages. `due` words of the segment that was begun are still to come; `before` is 1 where it is held.
 fn is_apart(map: &[u32]) -> bool
     ensures { result ≡ sound_map apart map.now }
 {
-    let mut i = 0;
     let mut due: u32 = 0;
     let mut before: u32 = 1;
-    while i < map.len() {
-        let w = map[i];
-        i += 1;
+    for &w in map {
         if due == 0 {
             if w < 2 {
                 return false;
@@ -169,15 +135,7 @@ fn is_apart(map: &[u32]) -> bool
 pub fn any_held(map: &[u32]) -> bool
     ensures { result ≡ any is_held_segment (decode map.now) }
 {
-    let mut i = 0;
-    while i < map.len() {
-        let word = map[i];
-        if word % 2 == 1 {
-            return true;
-        }
-        i += 1;
-    }
-    false
+    map.iter().any(|word| word % 2 == 1)
 }
 
 // The pages that word p of a map says, where it is marked as held; else 0. In a sound map that is the held segment which starts there,
@@ -185,46 +143,28 @@ pub fn any_held(map: &[u32]) -> bool
 pub fn held_word(map: &[u32], p: usize) -> u32
     ensures { result ≡ held_word map.now p }
 {
-    if map.len() <= p {
-        return 0;
+    match map.get(p) {
+        Some(first) if first % 2 == 1 => first / 2,
+        _ => 0,
     }
-    let first = map[p];
-    if first % 2 == 1 {
-        return first / 2;
-    }
-    0
 }
 
 // The place in a map of the word of the page at an address; 0 where the address is before the first page.
 pub fn index_at(l: Layout, page: u32, address: u32) -> usize
     ensures { result ≡ address / page - l.first }
 {
-    if page == 0 {
-        return 0;
-    }
-    let p = (address / page) as u64;
-    let first = l.first;
-    if p < first {
-        return 0;
-    }
-    (p - first) as usize
+    let p = u64::from(address.checked_div(page).unwrap_or(0));
+    p.saturating_sub(l.first) as usize
 }
 
 // The pages of the held segment that starts at an address, as the word of that page says it; 0 where none does.
 pub fn held_word_at(mem: &[u32], l: Layout, page: u32, address: u32) -> u32
     ensures { result ≡ held_word_at mem.now l page address }
 {
-    if page == 0 {
+    if page == 0 || address % page != 0 || u64::from(address / page) < l.first {
         return 0;
     }
-    if address % page != 0 {
-        return 0;
-    }
-    if ((address / page) as u64) < l.first {
-        return 0;
-    }
-    let map = map_words(mem, l);
-    held_word(map, index_at(l, page, address))
+    held_word(map_words(mem, l), index_at(l, page, address))
 }
 
 // Whether the first word says one free segment of all pages. In a sound map that is so where nothing is held, and no other word has to be
@@ -232,11 +172,8 @@ pub fn held_word_at(mem: &[u32], l: Layout, page: u32, address: u32) -> u32
 pub fn one_free(mem: &[u32], l: Layout) -> bool
     ensures { result ≡ one_free mem.now l }
 {
-    let map = map_words(mem, l);
-    let n = l.pages;
-    if map.len() == 0 {
-        return n == 0;
+    match map_words(mem, l).first() {
+        None => l.pages == 0,
+        Some(first) => u64::from(*first) == 2 * u64::from(l.pages),
     }
-    let first = map[0];
-    first as u64 == 2 * n as u64
 }

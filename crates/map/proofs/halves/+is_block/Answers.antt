@@ -1,82 +1,53 @@
 -- `is_block` meets its contract: the laws of `Block`, and the words of a half are fewer than those of the block. Assumes nothing.
 use native.Mathlib.Omega.{arith}
-use lib.ListN.{length}
-use Rattle.map.proofs.Block.{block_some, whole_block, page_bad, low_power, high_power, low_less, high_less, low_bad, high_bad, low_held, high_held, both_free}
-use Prim.Native.Nat.{◌/◌}
-use mathlib.Core.Path.{ap}
-use mathlib.Core.Bool.{not}
+use mathlib.Core.Path.{sym, ap, ◌∙◌}
+use mathlib.Core.Bool.{not, false≢true}
+use borrow.Author.Tests.{ne_eqb}
+use Rattle.map.proofs.Block.{whole_block, page_bad, low_power, high_power, low_less, high_less, low_bad, high_bad, low_held, high_says}
+use Rattle.map.proofs.halves.+is_block.Goals.{then-is_block, else-is_block, then-first-n-2, else-first-n-2}
 use Rattle.map.proofs.halves.+is_block.Goals as goal
 
-pub bounds-map-0 : goal.bounds-map-0
-bounds-map-0 t c =
-    omega (arith, block_some c.args.map.now c.requires)
-
-pub overflow_cast-first : goal.overflow_cast-first
-overflow_cast-first t c = omega (arith, c.shared_slice_known-2-1.given 0)
-
-pub rest_zero-requires : goal.rest_zero-requires
-rest_zero-requires t c =
-    block_some c.args.map.now c.requires
-
 pub returns-then-first-n : goal.returns-then-first-n
-returns-then-first-n t c =
-    whole_block c.args.map.now c.requires c.if-first-n.true _ c.rest_zero.ensures
+returns-then-first-n t c = whole_block c.args.map.now c.requires c.if-first-n.true _ c.rest_zero.ensures
 
 pub returns-then-n-eq1 : goal.returns-then-n-eq1
-returns-then-n-eq1 t c =
-    page_bad c.args.map.now c.if-n-eq1.true c.if-first-n.false
+returns-then-n-eq1 t c = page_bad c.args.map.now c.if-n-eq1.true c.if-first-n.false
 
 pub is_block-requires : goal.is_block-requires
-is_block-requires t c = (
-  omega (arith, low_less c.args.map.now c.requires c.if-n-eq1.false),
-  low_power c.args.map.now c.requires
-      c.if-n-eq1.false,
-)
+is_block-requires t c =
+    let ws = c.args.map.now in
+    (omega (arith, low_less ws c.requires c.if-n-eq1.false), low_power ws c.requires c.if-n-eq1.false)
 
-pub returns-then-not-is_block : goal.returns-then-not-is_block
-returns-then-not-is_block t c =
-    low_bad c.args.map.now c.requires c.if-n-eq1.false c.if-first-n.false _
-    c.is_block.ensures (ap not c.if-not-is_block.true)
+pub is_block-requires-then-is_block : goal.is_block-requires-then-is_block
+is_block-requires-then-is_block t c =
+    let ws = c.args.map.now in
+    (omega (arith, high_less ws c.requires c.if-n-eq1.false), high_power ws c.requires c.if-n-eq1.false)
 
-pub is_block-requires-2 : goal.is_block-requires-2
-is_block-requires-2 t c = (
-  omega (
-    arith,
-    high_less c.args.map.now c.requires
-        c.if-n-eq1.false,
-  ),
-  high_power c.args.map.now c.requires
-      c.if-n-eq1.false,
-)
+pub returns-else-is_block-2 : goal.returns-else-is_block-2
+returns-else-is_block-2 t c =
+    let ws = c.args.map.now in
+    let h = c.if-first-n.false in
+    elim c.if-is_block.branch [
+      | then-is_block w ↦
+          let r = w.is_block-then-is_block in
+          c.if-is_block-2.false ∙ high_bad ws c.requires c.if-n-eq1.false h _ r.ensures (sym w.value-is ∙ c.if-is_block-2.false)
+      | else-is_block w ↦ w.value-is ∙ w.if-is_block.false ∙ low_bad ws c.requires c.if-n-eq1.false h _ c.is_block.ensures w.if-is_block.false
+    ]
 
-pub returns-then-not-is_block-2 : goal.returns-then-not-is_block-2
-returns-then-not-is_block-2 t c =
-    high_bad c.args.map.now c.requires c.if-n-eq1.false
-    c.if-first-n.false _ c.is_block-2.ensures (ap not c.if-not-is_block-2.true)
-
-pub overflow_cast-first-2 : goal.overflow_cast-first-2
-overflow_cast-first-2 t c = omega (arith, c.shared_slice_known-2-1.given 0)
-
-pub returns-then-first-n-2 : goal.returns-then-first-n-2
-returns-then-first-n-2 t c =
-    low_held c.args.map.now c.requires c.if-n-eq1.false _ _
-    c.is_block.ensures c.is_block-2.ensures
-    (ap not c.if-not-is_block.false) (ap not c.if-not-is_block-2.false) c.if-first-n-2.true
-
-pub overflow_cast-middle : goal.overflow_cast-middle
-overflow_cast-middle t c =
-    omega (arith, c.shared_slice_known-3-1.given (length c.args.map.now / 2))
-
-pub returns-then-middle-n : goal.returns-then-middle-n
-returns-then-middle-n t c =
-    high_held c.args.map.now c.requires c.if-n-eq1.false _ _
-    c.is_block.ensures c.is_block-2.ensures
-    (ap not c.if-not-is_block.false) (ap not c.if-not-is_block-2.false) c.if-middle-n.true
-
-pub returns : goal.returns
-returns t c =
-    both_free c.args.map.now c.requires c.if-n-eq1.false _ _
-    c.is_block.ensures c.is_block-2.ensures
-    (ap not c.if-not-is_block.false) (ap not c.if-not-is_block-2.false)
-    c.if-first-n.false c.if-first-n-2.false
-    c.if-middle-n.false
+pub returns-after-first-n-2 : goal.returns-after-first-n-2
+returns-after-first-n-2 t c =
+    let ws = c.args.map.now in
+    elim c.if-is_block.branch [
+      | then-is_block w ↦
+          let r = w.is_block-then-is_block in
+          let low = w.if-is_block.true in
+          let high = sym w.value-is ∙ c.if-is_block-2.true in
+          elim c.if-first-n-2.branch [
+            | then-first-n-2 v ↦
+                ap not v.result-is
+                ∙ high_says ws c.requires c.if-n-eq1.false _ _ c.is_block.ensures r.ensures low high c.if-first-n.false v.if-first-n-2.true
+            | else-first-n-2 v ↦
+                ap not (v.result-is ∙ ne_eqb _ _ v.if-first-n-2.false) ∙ low_held ws c.requires c.if-n-eq1.false _ _ c.is_block.ensures r.ensures low high v.if-first-n-2.false
+          ]
+      | else-is_block w ↦ absurd (false≢true (sym (w.value-is ∙ w.if-is_block.false) ∙ c.if-is_block-2.true))
+    ]

@@ -1,28 +1,14 @@
--- `rest_zero` meets its contract: word by word from the second on. Assumes nothing.
-use borrow.Author.Rules.{rules}
-use Rattle.map.proofs.Block.{resting}
+-- `rest_zero` meets its contract: every word behind the first is compared. Assumes nothing.
+use Rattle.std.proofs.Common.{rules, tests, arith, ◌-◌}
+use mathlib.Core.Path.{◌∙◌}
+use lib.ListN.{length, drop, length-drop}
+use lib.Seq.{take_all}
+use lib.Dec.{eqb}
+use Rattle.manager.proofs.Laws.Chains.{every_from_all}
 use Rattle.map.proofs.halves.rest_zero.Goals as goal
 
-pub loop-i-init : goal.loop-i-init
-loop-i-init c = search (rules, resting)
-
-pub offset_bounds-map-i : goal.offset_bounds-map-i
-offset_bounds-map-i c = search (rules, resting)
-
-pub bounds-map-i : goal.bounds-map-i
-bounds-map-i c = search (rules, resting)
-
-pub returns-then-map-i-ne0 : goal.returns-then-map-i-ne0
-returns-then-map-i-ne0 c = search (rules, resting)
-
-pub overflow_add-i : goal.overflow_add-i
-overflow_add-i c = search (rules, resting)
-
-pub loop-i-smaller : goal.loop-i-smaller
-loop-i-smaller c = search (rules, resting)
-
-pub loop-i-preserved : goal.loop-i-preserved
-loop-i-preserved c = search (rules, resting)
-
 pub returns : goal.returns
-returns c = search (rules, resting)
+returns c =
+    let ws = c.args.map.now in
+    let behind = c.iter.ensures.rest ∙ take_all (length ws - 1) (drop 1 ws) (omega (arith, length-drop 1 ws)) in
+    every_from_all (λ w. eqb w 0) (drop 1 ws) _ _ c.all.result c.all.ensures.ran behind (λ x b q k. search (rules, tests))
