@@ -1,49 +1,14 @@
 -- One step of each definition of the chain, as the code takes it: what a test or a turn shows, over plain variables. Assumes nothing.
-use Prim.Native.Nat.{ℕ, zero, suc, ◌-◌, ◌/◌, ◌%◌, ◌≤◌, ◌<◌}
+use Prim.Native.Nat.{ℕ, zero, suc, ◌-◌, ◌≤◌, ◌<◌}
 use mathlib.Core.Path.{◌≡◌, refl, ap, sym, ◌∙◌}
-use mathlib.Core.Bool.{Bool, true, false, ◌&&◌}
+use mathlib.Core.Bool.{Bool, true, false}
 use mathlib.Core.List.{List}
 use native.Mathlib.Omega.{arith}
-use native.Mathlib.Nat.{div-zero}
-use lib.ListN.{length, get_or, set, get_or-eq_default}
-use lib.Seq.{set_out}
-use lib.Dec.{eqb, leb, ltb}
-use borrow.Author.Tests.{eq-eqb, ne_eqb, le-ltb, le-leb, lt-leb}
+use lib.Dec.{eqb}
+use borrow.Author.Tests.{eq-eqb, ne_eqb}
 use Rattle.manager.specs.Lists.{any}
-use Rattle.manager.specs.Partition.{is_buffer, next_of, set_next, set_before, link, follow, after_get, after_return}
+use Rattle.manager.specs.Partition.{next_of, set_next, set_before, link, follow, after_get, after_return}
 use Rattle.manager.specs.declared.Partition.{Partition}
-
--- words past the memory
-pub reads_past : (m : List ℕ) (i : ℕ) → length m ≤ i → 0 ≡ get_or m i 0
-reads_past m i h = sym (get_or-eq_default m 0 h)
-
-pub writes_past : (m : List ℕ) (i v : ℕ) → length m ≤ i → m ≡ set m i v
-writes_past m i v h = sym (set_out m i v h)
-
-pub ruleset words = (reads_past, writes_past)
-
--- whether an address is a buffer's
-pub and_false : (a b : Bool) → b ≡ false → (a && b) ≡ false
-and_false true b e = e
-and_false false b e = refl
-
-module _ (p : Partition) (a : ℕ) where
-  pub buffer_below : a < p.start → false ≡ is_buffer p a
-  buffer_below h = rw (lt-leb _ _ h)
-
-  pub buffer_none : p.size ≡ 0 → false ≡ is_buffer p a
-  buffer_none e =
-      let f : ltb ((a - p.start) / p.size) (p.length / p.size) ≡ false = rw (e, div-zero (a - p.start), div-zero p.length) (le-ltb 0 0 (omega arith)) in
-      sym (and_false (leb p.start a) _ (and_false (eqb ((a - p.start) % p.size) 0) _ f))
-
-  module _ (h : p.start ≤ a) where
-    pub buffer_within : ((a - p.start) % p.size ≡ 0 → ⊥) → false ≡ is_buffer p a
-    buffer_within e = rw (le-leb _ _ h, ne_eqb _ _ e)
-
-    pub buffer_counted : (a - p.start) % p.size ≡ 0 → ltb ((a - p.start) / p.size) (p.length / p.size) ≡ is_buffer p a
-    buffer_counted e = rw (le-leb _ _ h, eq-eqb _ _ e)
-
-pub ruleset bounds = (buffer_below, buffer_none, buffer_within, buffer_counted)
 
 -- the search along the chain
 abbrev pub meets : List ℕ → ℕ → ℕ → ℕ → Bool
@@ -82,8 +47,6 @@ module _ (m : List ℕ) (a n₀ at₀ : ℕ) where
 
     pub seek_none : n ≤ 0 → false ≡ meets m a n₀ at₀
     seek_none h = meet_none m a n at h ∙ v.rest
-
-pub ruleset seeking = (seek_start, seek_found, seek_next, seek_none)
 
 -- the stores
 module _ (m : List ℕ) (p : Partition) where

@@ -11,10 +11,7 @@ use manager::Partition;
 fn read_word(mem: &[u32], at: usize) -> u32
     ensures { result ≡ get_or mem.now at 0 }
 {
-    if at < mem.len() {
-        return mem[at];
-    }
-    0
+    mem.get(at).copied().unwrap_or(0)
 }
 
 // The memory with another word.
@@ -58,29 +55,19 @@ pub fn set_links(mem: &mut [u32], a: u32, next: u32, before: u32)
 pub fn is_buffer(p: Partition, a: u32) -> bool
     ensures { result ≡ is_buffer p a }
 {
-    let start = p.start;
-    let size = p.size;
-    if a < start {
+    if a < p.start || p.size == 0 {
         return false;
     }
-    if size == 0 {
-        return false;
-    }
-    let offset = a - start;
-    if offset % size != 0 {
-        return false;
-    }
-    offset / size < p.length / size
+    let offset = a - p.start;
+    offset % p.size == 0 && offset / p.size < p.length / p.size
 }
 
 // Whether a buffer is on the chain.
 pub fn is_free(mem: &[u32], p: Partition, a: u32) -> bool
     ensures { result ≡ is_free mem.now p a }
 {
-    let mut left = p.free;
     let mut at = p.front;
-    while left > 0 {
-        left = left - 1;
+    for _ in 0..p.free {
         if a == at {
             return true;
         }
