@@ -42,6 +42,13 @@ id_is i g = omega arith
 pub id_fits : (i g v : ℕ) → i < slots → g ≤ generations → v ≡ id_of i g → Fits w32 v
 id_fits i g v k h e = Fits-under w32 v 2097152 (let s = id_small i g k h in omega arith) tt
 
+-- the id of what is in a slot
+pub id_of_fits : {A : Type 0} (g : A → ℕ) (z : A) {l m : List A} {i n v : ℕ} {x : A}
+    → l ≡ m → length l ≡ slots → i < slots → x ≡ get_or l i x → n ≡ g x → g (get_or m i z) ≤ generations → v ≡ id_of i n → Fits w32 v
+id_of_fits g z {l = l} {i = i} {n = n} {v = v} {x = x} e h k f q b w =
+    let same : g (get_or l i z) ≡ n = ap g (get_d_any l i z x (omega (arith, h)) ∙ sym f) ∙ sym q in
+    id_fits i n v k (rw same at rw (← e) at b) w
+
 pub ruleset fitting = (unmapped, id_fits)
 
 module _ (name g : ℕ) where

@@ -1,4 +1,6 @@
+pub mod Chains
 pub mod Fill
 pub mod Laws
-pub mod Live
-pub mod Names
+pub mod Pairs
+pub mod Searched
+pub mod Slots

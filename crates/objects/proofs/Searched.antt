@@ -1,0 +1,75 @@
+-- What a caller knows where a search has found something, and where it has not. Assumes nothing.
+use Rattle.std.proofs.Common.{◌≡◌, ℕ, ◌≤◌, ◌<◌, Bool, true, false, cond, ltb, leb, refl, sym, Some, None}
+use Rattle.std.proofs.lemmas.Option.{none-some, same_Some, cond_some}
+use borrow.Author.Tests.{ltb-true, ltb-false, le-leb, lt-leb}
+use Rattle.manager.specs.Record.{region_of, partition_of}
+use Rattle.manager.specs.Region.{dead}
+use Rattle.manager.specs.Partition.{dead_partition}
+use Rattle.manager.specs.declared.Manager.{Manager}
+use Rattle.manager.specs.declared.Region.{Region}
+use Rattle.manager.specs.declared.Partition.{Partition}
+use Rattle.objects.specs.Slots.{live, below}
+
+-- a choice between nothing and a value, by which it was
+module _ {A : Type 0} where
+  was_none : (b : Bool) (x : A) → None ≡ cond b None (Some x) → b ≡ true
+  was_none true x e = refl
+  was_none false x e = absurd (none-some x e)
+
+  was_some : (b : Bool) (x y : A) → Some y ≡ cond b None (Some x) → (b ≡ false) × (y ≡ x)
+  was_some true x y e = absurd (none-some y (sym e))
+  was_some false x y e = (refl, same_Some y x e)
+
+  was_absent : (b : Bool) (x : A) → None ≡ cond b (Some x) None → b ≡ false
+  was_absent true x e = absurd (none-some x e)
+  was_absent false x e = refl
+
+-- AN OBJECT, by `find`: none is live under the id; or this is the one, and it is live
+module _ (d : Manager) (id : ℕ) where
+  pub region_missing : None ≡ live (λ (r : Region). r.name) (region_of d id) → dead (region_of d id) ≡ true
+  region_missing e = was_none (dead (region_of d id)) (region_of d id) e
+
+  pub partition_missing : None ≡ live (λ (p : Partition). p.name) (partition_of d id) → dead_partition (partition_of d id) ≡ true
+  partition_missing e = was_none (dead_partition (partition_of d id)) (partition_of d id) e
+
+  module _ (r : Region) (e : Some r ≡ live (λ (r : Region). r.name) (region_of d id)) where
+    pub region_found : r ≡ region_of d id
+    region_found = let v = was_some (dead (region_of d id)) (region_of d id) r e in v.1
+
+    pub region_live : dead (region_of d id) ≡ false
+    region_live = let v = was_some (dead (region_of d id)) (region_of d id) r e in v.0
+
+  module _ (p : Partition) (e : Some p ≡ live (λ (p : Partition). p.name) (partition_of d id)) where
+    pub partition_found : p ≡ partition_of d id
+    partition_found = let v = was_some (dead_partition (partition_of d id)) (partition_of d id) p e in v.1
+
+    pub partition_live : dead_partition (partition_of d id) ≡ false
+    partition_live = let v = was_some (dead_partition (partition_of d id)) (partition_of d id) p e in v.0
+
+pub ruleset objects_found = (region_missing, region_found, region_live, partition_missing, partition_found, partition_live)
+
+-- A PLACE, by `named` and `unspent`: i is past the last of n; or this is i, and one of them
+module _ (n i : ℕ) where
+  pub place_missing : None ≡ below n i → n ≤ i
+  place_missing e = ltb-false i n (was_absent (ltb i n) i e)
+
+  pub place_unlisted : None ≡ below n i → ltb i n ≡ false
+  place_unlisted e = was_absent (ltb i n) i e
+
+  pub place_past : None ≡ below n i → leb n i ≡ true
+  place_past e = le-leb n i (place_missing e)
+
+  module _ (k : ℕ) (e : Some k ≡ below n i) where
+    pub place_found : k ≡ i
+    place_found = let v = cond_some (ltb i n) i k (sym e) in sym v.1
+
+    pub place_listed : ltb i n ≡ true
+    place_listed = let v = cond_some (ltb i n) i k (sym e) in v.0
+
+    pub place_within : k < n
+    place_within = rw place_found (ltb-true i n place_listed)
+
+    pub place_before : leb n i ≡ false
+    place_before = lt-leb n i (ltb-true i n place_listed)
+
+pub ruleset places_found = (place_missing, place_unlisted, place_past, place_found, place_listed, place_within, place_before)
