@@ -1,5 +1,5 @@
 -- Each object with those behind it, one step after the other; and the areas of both kinds. Assumes nothing.
-use Rattle.std.proofs.Common.{◌≡◌, ℕ, ◌+◌, Bool, true, false, not, ◌&&◌, ◌||◌, List, [], ◌∷◌, ◌++◌, length, eqb, ltb, refl, sym, ap, ◌∙◌, arith, eq-eqb, ne_eqb}
+use Rattle.std.proofs.Common.{◌≡◌, ℕ, ◌+◌, Bool, true, false, not, ◌&&◌, ◌||◌, List, [], ◌∷◌, ◌++◌, length, eqb, ltb, refl, sym, ap, ◌∙◌, arith}
 use borrow.Author.Tests.{eqb-true, le-ltb}
 use mathlib.Core.Bool.{and-false, and-true}
 use Rattle.manager.specs.declared.Area.{Area}
@@ -17,11 +17,6 @@ module _ {A : Type 0} where
   unfolding any
   none_any t h [] = refl
   none_any t h (x ∷ l) = rw (h x) (none_any t h l)
-
-  every_all : (t : A → Bool) → ((x : A) → t x ≡ true) → (l : List A) → every t l ≡ true
-  unfolding every
-  every_all t h [] = refl
-  every_all t h (x ∷ l) = rw (h x) (every_all t h l)
 
   every_same : (t u : A → Bool) → ((x : A) → t x ≡ u x) → (l : List A) → every t l ≡ every u l
   unfolding every
@@ -70,22 +65,21 @@ module _ {A : Type 0} where
     pub clash_next : b ≡ false → pairwise (λ x y. not (u x y)) behind ≡ pairwise (λ x y. not (u x y)) all
     clash_next g = pairs_next (λ x y. not (u x y)) all rest h x behind e (met ∙ ap not g)
 
-  -- where it is of names: one without a name passes with all
-  module _ (name : A → ℕ) (all rest : List A) (h : pairwise (other_name name) rest ≡ pairwise (other_name name) all) (x : A) (behind : List A) (e : rest ≡ x ∷ behind) where
-    pub name_empty : name x ≡ 0 → pairwise (other_name name) behind ≡ pairwise (other_name name) all
-    name_empty z = pairs_next (other_name name) all rest h x behind e (every_all (other_name name x) (λ y. rw (eq-eqb (name x) 0 z) refl) behind)
+  -- names that differ are names that are not shared
+  module _ (name : A → ℕ) where
+    abbrev pub shared : A → A → Bool
+    shared x y = not (eqb (name x) 0) && eqb (name x) (name y)
 
-    module _ (n : name x ≡ 0 → ⊥) (b : Bool) (f : b ≡ any (λ y. eqb (name x) (name y)) behind) where
-      same : every (other_name name x) behind ≡ not b
-      same =
-          every_same (other_name name x) (λ y. not (eqb (name x) (name y))) (λ y. rw (ne_eqb (name x) 0 n) refl) behind
-          ∙ every_not (λ y. eqb (name x) (name y)) behind ∙ ap not (sym f)
+    other : (b e : Bool) → not (not b && e) ≡ (b || not e)
+    other true e = refl
+    other false e = refl
 
-      pub name_here : b ≡ true → false ≡ pairwise (other_name name) all
-      name_here g = pairs_here (other_name name) all rest h x behind e (same ∙ ap not g)
-
-      pub name_next : b ≡ false → pairwise (other_name name) behind ≡ pairwise (other_name name) all
-      name_next g = pairs_next (other_name name) all rest h x behind e (same ∙ ap not g)
+    pub names_shared : (l : List A) → pairwise (λ x y. not (shared x y)) l ≡ pairwise (other_name name) l
+    unfolding pairwise
+    names_shared [] = refl
+    names_shared (x ∷ l) =
+        rw (every_same (λ y. not (shared x y)) (other_name name x) (λ y. other (eqb (name x) 0) (eqb (name x) (name y))) l)
+        (ap (λ (b : Bool). every (other_name name x) l && b) (names_shared l))
 
 -- an area that is nowhere meets none
 pub nowhere_meets : (a : Area) → nowhere a ≡ true → (b : Area) → overlap a b ≡ false

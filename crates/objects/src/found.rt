@@ -46,7 +46,7 @@ fn differ<T: Slot>(all: &[T]) -> bool
 {
     let mut rest = all;
     while let Some((x, behind)) = rest.split_first() {
-        if x.name() != 0 && behind.iter().any(|y| x.name() == y.name()) {
+        if behind.iter().any(|y| x.shares_name(y)) {
             return false;
         }
         rest = behind;
