@@ -1,4 +1,3 @@
-pub mod Chains
 pub mod Fill
 pub mod Laws
 pub mod Pairs

@@ -1,29 +1,19 @@
 -- The slots of a kind of object: what a search of them finds, by the definitions. Assumes nothing.
-use Rattle.std.proofs.Common.{◌≡◌, ℕ, suc, ◌+◌, ◌≤◌, Bool, true, false, cond, not, List, [], ◌∷◌, length, get_or, eqb, refl, sym, ap, ◌∙◌, arith, eq-eqb}
+use Rattle.std.proofs.Common.{◌≡◌, ℕ, ◌≤◌, Bool, true, false, cond, not, List, length, get_or, eqb, ltb, refl, sym, ap, ◌∙◌, arith, eq-eqb}
 use borrow.Author.Tests.{not-true}
 use Rattle.std.specs.declared.option.Option.{Option}
-use Rattle.std.specs.declared.option.Option.TheVariants.{None}
+use Rattle.std.specs.declared.option.Option.TheVariants.{None, Some}
 use Rattle.std.specs.Bool.{then_some}
-use Rattle.std.specs.List.{position, position_or_len}
-use Rattle.manager.specs.Record.{slot_of, has_id, object_of}
+use Rattle.manager.specs.Record.{slots, slot_of, has_id, object_of}
 use Rattle.manager.specs.Lists.{index_of}
 use Rattle.manager.proofs.Laws.Lists.{and_first}
 use Rattle.manager.proofs.Laws.Ids.{object_there, object_none, object_beyond}
 use Rattle.objects.specs.Slots.{live, below}
 
-module _ {A : Type 0} (t : A → Bool) where
-  or_here : (b : Bool) (p w : ℕ) → p ≡ w → cond (not b) (1 + p) 0 ≡ cond b 0 (suc w)
-  or_here true p w e = refl
-  or_here false p w e = omega (arith, e)
-
-  place_is : (l : List A) → position_or_len t l ≡ index_of t l
-  unfolding index_of
-  place_is [] = refl
-  place_is (x ∷ l) = or_here (t x) (position_or_len t l) (index_of t l) (place_is l)
-
-  -- the position of the first that passes, where there are as many places as slots
-  pub found_below : (l m : List A) (n : ℕ) → l ≡ m → length l ≡ n → position t l ≡ below n (index_of t m)
-  found_below l m n e h = rw (place_is l, h) (ap (λ (k : List A). below n (index_of t k)) e)
+-- the place of the first that passes, where there are as many places as slots
+pub found_below : {A : Type 0} (t : A → Bool) (l m : List A) → l ≡ m → length l ≡ slots → (r : Option ℕ)
+    → r ≡ cond (ltb (index_of t l) (length l)) (Some (index_of t l)) None → r ≡ below slots (index_of t m)
+found_below {A = A} t l m e h r f = f ∙ rw h (ap (λ (k : List A). below slots (index_of t k)) e)
 
 -- THE LIVE OBJECT OF AN ID, by what is in its place
 module _ {A : Type 0} (name g : A → ℕ) (z : A) (l m : List A) (q : l ≡ m) (id i : ℕ) (o : name z ≡ 0) (e : i ≡ slot_of id) where

@@ -4,7 +4,7 @@ use Rattle.manager.specs.declared.Manager.{Manager}
 use Rattle.manager.specs.declared.Region.{Region}
 use Rattle.manager.specs.Lists.{any, pairwise}
 use Rattle.manager.specs.Region.{overlap, area_of}
-use Rattle.objects.proofs.Chains.{every_from_all}
+use Rattle.manager.proofs.Laws.Chains.{every_from_all}
 use Rattle.objects.proofs.Pairs.{region_area, and_then, and_not, pairs_parts}
 use Rattle.objects.proofs.areas.apart.Goals as goal
 use Rattle.objects.proofs.areas.apart.Goals.{then-disjoint, else-disjoint}

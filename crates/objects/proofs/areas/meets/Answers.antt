@@ -1,7 +1,7 @@
 -- An area that is nowhere meets none. Assumes nothing.
 use Rattle.std.proofs.Common.{Bool, sym, ◌∙◌, rules, tests}
 use Rattle.manager.specs.Region.{overlap}
-use Rattle.objects.proofs.Chains.{any_from_any}
+use Rattle.manager.proofs.Laws.Chains.{any_from_any}
 use Rattle.objects.proofs.Pairs.{none_any, nowhere_meets}
 use Rattle.objects.proofs.areas.meets.Goals as goal
 

@@ -1,6 +1,6 @@
 -- Each object passes the test with those behind it, or the first that does not ends the loop. Assumes nothing.
 use Rattle.std.proofs.Common.{not, ◌∙◌, rules, tests}
-use Rattle.objects.proofs.Chains.{any_from_any}
+use Rattle.manager.proofs.Laws.Chains.{any_from_any}
 use Rattle.objects.proofs.Pairs.{pairs_end, shared, names_shared, clash_here, clash_next}
 use Rattle.objects.proofs.found.differ.Goals as goal
 
