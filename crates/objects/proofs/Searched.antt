@@ -1,8 +1,10 @@
 -- What a caller knows where a search has found something, and where it has not. Assumes nothing.
-use Rattle.std.proofs.Common.{◌≡◌, ℕ, ◌≤◌, ◌<◌, Bool, true, false, cond, ltb, leb, refl, sym, Some, None}
+use Rattle.std.proofs.Common.{◌≡◌, ℕ, ◌≤◌, ◌<◌, Bool, true, false, cond, List, ltb, leb, refl, sym, ap, ◌∙◌, Some, None}
 use Rattle.std.proofs.lemmas.Option.{none-some, same_Some, cond_some}
-use borrow.Author.Tests.{ltb-true, ltb-false, le-leb, lt-leb}
-use Rattle.manager.specs.Record.{region_of, partition_of}
+use mathlib.Core.Logic.{⊎_elim}
+use borrow.Author.Tests.{eqb-true, ltb-true, ltb-false, le-leb, lt-leb}
+use Rattle.manager.specs.Record.{no_region, object_of, region_of, partition_of}
+use Rattle.manager.proofs.Laws.Ids.{Live, object_cases}
 use Rattle.manager.specs.Region.{dead}
 use Rattle.manager.specs.Partition.{dead_partition}
 use Rattle.manager.specs.declared.Manager.{Manager}
@@ -24,6 +26,10 @@ module _ {A : Type 0} where
   was_absent true x e = absurd (none-some x e)
   was_absent false x e = refl
 
+unused : {A : Type 0} (name g : A → ℕ) (z : A) (l : List A) (id : ℕ) → name (object_of name g z l id) ≡ 0 → object_of name g z l id ≡ z
+unused {A = A} name g z l id e =
+    ⊎_elim (λ (v : Live name g z l id). absurd (v.named (ap name (sym v.is) ∙ e))) (λ (f : object_of name g z l id ≡ z). f) (object_cases name g z l id)
+
 -- AN OBJECT, by `find`: none is live under the id; or this is the one, and it is live
 module _ (d : Manager) (id : ℕ) where
   pub region_missing : None ≡ live (λ (r : Region). r.name) (region_of d id) → dead (region_of d id) ≡ true
@@ -31,6 +37,11 @@ module _ (d : Manager) (id : ℕ) where
 
   pub partition_missing : None ≡ live (λ (p : Partition). p.name) (partition_of d id) → dead_partition (partition_of d id) ≡ true
   partition_missing e = was_none (dead_partition (partition_of d id)) (partition_of d id) e
+
+  -- and then what stands for it is a slot that was never used
+  pub region_unused : None ≡ live (λ (r : Region). r.name) (region_of d id) → region_of d id ≡ no_region
+  region_unused e =
+      unused (λ (r : Region). r.name) (λ r. r.generation) no_region d.regions id (eqb-true (region_of d id).name 0 (region_missing e))
 
   module _ (r : Region) (e : Some r ≡ live (λ (r : Region). r.name) (region_of d id)) where
     pub region_found : r ≡ region_of d id
@@ -46,7 +57,7 @@ module _ (d : Manager) (id : ℕ) where
     pub partition_live : dead_partition (partition_of d id) ≡ false
     partition_live = let v = was_some (dead_partition (partition_of d id)) (partition_of d id) p e in v.0
 
-pub ruleset objects_found = (region_missing, region_found, region_live, partition_missing, partition_found, partition_live)
+pub ruleset objects_found = (region_missing, region_unused, region_found, region_live, partition_missing, partition_found, partition_live)
 
 -- A PLACE, by `named` and `unspent`: i is past the last of n; or this is i, and one of them
 module _ (n i : ℕ) where

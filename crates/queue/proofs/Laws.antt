@@ -1,184 +1,109 @@
--- What a turn of the queue's loops does to "what is done, and what is left to do", over plain variables. Assumes nothing.
-use mathlib.Core.Path.{◌≡◌, refl, ap, sym, ◌∙◌}
-use mathlib.Core.List.{List, [], ◌∷◌, ◌++◌, append-nil}
-use mathlib.Core.Bool.{Bool, true, false}
-use Prim.Native.Nat.{ℕ, suc, ◌+◌, ◌-◌, ◌≤◌, ◌<◌}
-use native.Mathlib.Numerals.{add-one}
-use native.Mathlib.Omega.{arith}
-use borrow.Author.Tests.{eq-eqb, ne_eqb, lt-ltb, le-ltb}
-use lib.Dec.{ltb, eqb}
-use lib.ListN.{length, length-set, take, drop, get_or, set, drop_of_length-le}
-use lib.Seq.{drop-cons, take-suc-set, drop-set-lt, take_all, append_snoc, set_split}
+-- What a step of the queue's functions does to a list, over plain variables. Assumes nothing.
+use Rattle.std.proofs.Common.{ℕ, suc, ◌-◌, ◌<◌, ◌≤◌, ◌≡◌, refl, sym, ap, ◌∙◌, arith, Bool, true, false, cond, List, [], ◌∷◌, ◌++◌, length, take, drop, set, ltb, Option, Some, None}
+use Rattle.std.proofs.lemmas.List.{set_split}
+use Rattle.std.proofs.Math.Seq.{take_all, take_at, drop_at, length-take-le}
+use Rattle.std.proofs.Math.ListN.{drop_of_length-le, length-drop, length-set}
+use mathlib.Core.List.{append-nil}
+use borrow.Rule.Slice.PartMut.{put_mid}
 use Rattle.manager.specs.declared.Manager.{Manager}
-use Rattle.manager.specs.declared.Region.{Region}
 use Rattle.manager.specs.declared.Waiter.{Waiter}
 use Rattle.manager.specs.declared.Order.{Order}
-use Rattle.manager.specs.Record.{tasks, no_waiter, slot_of, region_of, with_queue}
-use Rattle.manager.specs.Lists.{any, index_of}
-use Rattle.manager.proofs.Laws.Lists.{Placing, index_start, index_next, index_here, index_end, Seeking, some_start, some_next, some_here, some_end}
-use Rattle.manager.specs.Queue.{by_priority, goes_before, push, insert, pull, remove_at, enqueue, dequeue, waits_for}
-use Rattle.objects.proofs.Laws.{unmapped}
+use Rattle.manager.specs.Record.{tasks, no_waiter, region_of, with_queue}
+use Rattle.manager.specs.Lists.{index_of}
+use Rattle.manager.specs.Queue.{goes_before, push, insert, pull, remove_at, enqueue, dequeue}
+use Rattle.objects.specs.Slots.{below}
+use Rattle.objects.proofs.Searched.{place_missing, place_found, place_within}
 
--- the tests of `goes_before`, one after the other; i and j are the slots of the two
-module _ (o : Order) (w x : Waiter) where
-  pub before_empty : x.task ≡ 0 → true ≡ goes_before o w x
-  unfolding goes_before
-  before_empty e = rw (eq-eqb _ _ e)
+-- a search that is bounded by the length of the list is bounded by that number
+pub found_within : (n m i : ℕ) (r : Option ℕ) → n ≡ m → r ≡ cond (ltb i n) (Some i) None → r ≡ below m i
+found_within n m i r e f = f ∙ ap (λ (k : ℕ). below k i) e
 
-  module _ (n : x.task ≡ 0 → ⊥) (i j : ℕ) (p : i ≡ slot_of w.region) (q : j ≡ slot_of x.region) where
-    pub before_later : i < j → true ≡ goes_before o w x
-    unfolding goes_before
-    before_later h = rw (ne_eqb _ _ n, ← p, ← q, lt-ltb _ _ h)
+-- PUSH AND PULL, by a write and a turn
+push_take : (w x : Waiter) (l : List Waiter) → push w (x ∷ l) ≡ w ∷ take (length l) (x ∷ l)
+unfolding push
+push_take w x [] = refl
+push_take w x (y ∷ l) = ap (λ (s : List Waiter). w ∷ s) (push_take x y l)
 
-    module _ (h : j ≤ i) where
-      pub before_fifo : i ≡ j → (b : Bool) → b ≡ by_priority o → b ≡ false → false ≡ goes_before o w x
-      unfolding goes_before
-      before_fifo e b f k = rw (ne_eqb _ _ n, ← p, ← q, le-ltb _ _ h, eq-eqb _ _ e, sym f ∙ k)
+pub push_none : (w : Waiter) (ws : List Waiter) → length ws ≤ 0 → ws ≡ push w ws
+unfolding push
+push_none w [] h = refl
+push_none w (x ∷ ws) h = absurd (omega (arith, h))
 
-      pub before_priority : i ≡ j → (b : Bool) → b ≡ by_priority o → b ≡ true → ltb w.priority x.priority ≡ goes_before o w x
-      unfolding goes_before
-      before_priority e b f k = rw (ne_eqb _ _ n, ← p, ← q, le-ltb _ _ h, eq-eqb _ _ e, sym f ∙ k)
+turned : (w : Waiter) (t s : List Waiter) (m : ℕ) → s ≡ t ++ w ∷ [] → length t ≡ m → drop m s ++ take m s ≡ w ∷ t
+turned w t s m e k = rw (e, drop_at t (w ∷ []) m k, take_at t (w ∷ []) m k) refl
 
-      pub before_not : (i ≡ j → ⊥) → false ≡ goes_before o w x
-      unfolding goes_before
-      before_not e = rw (ne_eqb _ _ n, ← p, ← q, le-ltb _ _ h, ne_eqb _ _ e)
+pub push_turned : (w : Waiter) (ws b : List Waiter) → 0 < length ws
+    → b ≡ drop (length (set ws (length ws - 1) w) - 1) (set ws (length ws - 1) w) ++ take (length (set ws (length ws - 1) w) - 1) (set ws (length ws - 1) w)
+    → b ≡ push w ws
+push_turned w [] b h f = absurd (omega (arith, h))
+push_turned w (x ∷ l) b h f =
+    let all : List Waiter = x ∷ l in
+    let n : length all - 1 ≡ length l = omega arith in
+    let m : length (set all (length all - 1) w) - 1 ≡ length l = omega (arith, length-set all (length all - 1) w) in
+    let last : set all (length all - 1) w ≡ take (length l) all ++ w ∷ [] =
+    rw n (set_split all (length l) w (omega arith) ∙ ap (λ (r : List Waiter). take (length l) all ++ w ∷ r) (drop_of_length-le all {i = suc (length l)} (omega arith))) in
+    f ∙ turned w (take (length l) all) _ _ last (length-take-le (length l) all (omega arith) ∙ sym m) ∙ sym (push_take w x l)
 
-pub ruleset going = (before_empty, before_later, before_fifo, before_priority, before_not)
+pub pull_turned : (ws b : List Waiter) (z : Waiter) → z ≡ no_waiter → 0 < length ws → b ≡ drop 1 (set ws 0 z) ++ take 1 (set ws 0 z) → b ≡ pull ws
+pull_turned [] b z e h f = absurd (omega (arith, h))
+pull_turned (x ∷ l) b z e h f = f ∙ ap (λ (w : Waiter). l ++ w ∷ []) e
+
+pub pull_none : (ws : List Waiter) → length ws ≤ 0 → ws ≡ pull ws
+pull_none [] h = refl
+pull_none (x ∷ ws) h = absurd (omega (arith, h))
+
+-- THE QUEUE FROM A PLACE ON, put back after a change
+module _ (ws ys : List Waiter) (i : ℕ) (h : i ≤ length ws) where
+  put_end : put_mid i (length ws - i) ws ys ≡ take i ws ++ ys
+  put_end =
+      ap (λ (l : List Waiter). take i ws ++ (ys ++ l)) (drop_of_length-le (drop i ws) {i = length ws - i} (omega (arith, length-drop i ws)))
+      ∙ ap (λ (l : List Waiter). take i ws ++ l) (append-nil ys)
+
+  all_behind : take (length ws - i) (drop i ws) ≡ drop i ws
+  all_behind = take_all (length ws - i) (drop i ws) (omega (arith, length-drop i ws))
 
 -- w goes to the first place whose waiter it goes before
-abbrev put_at : Waiter → List Waiter → ℕ → List Waiter
-put_at w ws i = take i ws ++ push w (drop i ws)
-
-pub insert_at : (o : Order) (w : Waiter) (ws : List Waiter) → insert o w ws ≡ put_at w ws (index_of (goes_before o w) ws)
+insert_at : (o : Order) (w : Waiter) (ws : List Waiter)
+    → insert o w ws ≡ take (index_of (goes_before o w) ws) ws ++ push w (drop (index_of (goes_before o w) ws) ws)
 unfolding insert index_of push
 insert_at o w [] = refl
 insert_at o w (x ∷ ws) = by_test (goes_before o w x) refl (insert_at o w ws)
   where
-    by_test : (b : Bool) → goes_before o w x ≡ b → insert o w ws ≡ put_at w ws (index_of (goes_before o w) ws)
-        → insert o w (x ∷ ws) ≡ put_at w (x ∷ ws) (index_of (goes_before o w) (x ∷ ws))
+    by_test : (b : Bool) → goes_before o w x ≡ b → insert o w ws ≡ take (index_of (goes_before o w) ws) ws ++ push w (drop (index_of (goes_before o w) ws) ws)
+        → insert o w (x ∷ ws) ≡ take (index_of (goes_before o w) (x ∷ ws)) (x ∷ ws) ++ push w (drop (index_of (goes_before o w) (x ∷ ws)) (x ∷ ws))
     by_test true e h = rw e
     by_test false e h = rw (e, h)
 
--- `push_at`: c is what the place i gets
-module _ (c : Waiter) (a : List Waiter) (i : ℕ) where
-  pub push_step : i < length a
-      → take (i + 1) (set a i c) ++ push (get_or a i no_waiter) (drop (i + 1) (set a i c)) ≡ take i a ++ push c (drop i a)
-  unfolding push
-  push_step h = rw (add-one, take-suc-set a i c h, drop-set-lt (suc i) a i c (omega arith), drop-cons a i no_waiter h, append_snoc)
+module _ (d : Manager) (n : length d.waiters ≡ tasks) where
+  module _ (w : Waiter) (o : Order) (e : o ≡ (region_of d w.region).order) where
+    pub enqueued : (at : ℕ) → Some at ≡ below tasks (index_of (goes_before o w) d.waiters) → (ys : List Waiter)
+        → ys ≡ push w (take (length d.waiters - at) (drop at d.waiters)) → with_queue d (put_mid at (length d.waiters - at) d.waiters ys) ≡ enqueue d w
+    unfolding enqueue
+    enqueued at f ys g =
+        let i : ℕ = index_of (goes_before o w) d.waiters in
+        let k : at ≤ length d.waiters = omega (arith, n, place_within tasks i at f) in
+        ap (with_queue d) (put_end d.waiters ys at k ∙ ap (λ (l : List Waiter). take at d.waiters ++ l) (g ∙ ap (push w) (all_behind d.waiters ys at k))
+        ∙ ap (λ (j : ℕ). take j d.waiters ++ push w (drop j d.waiters)) (place_found tasks i at f) ∙ sym (insert_at o w d.waiters)
+        ∙ ap (λ (q : Order). insert q w d.waiters) e)
 
-  pub push_end : length a ≤ i → take i a ++ push c (drop i a) ≡ a
-  unfolding push
-  push_end h = rw (drop_of_length-le a h, append-nil, take_all i a h)
+    pub enqueued_none : None ≡ below tasks (index_of (goes_before o w) d.waiters) → d ≡ enqueue d w
+    unfolding enqueue push
+    enqueued_none f =
+        let i : ℕ = index_of (goes_before o w) d.waiters in
+        let k : length d.waiters ≤ i = omega (arith, n, place_missing tasks i f) in
+        ap (with_queue d) (sym (ap (λ (q : Order). insert q w d.waiters) (sym e) ∙ insert_at o w d.waiters
+        ∙ rw (drop_of_length-le d.waiters {i = i} k) (append-nil (take i d.waiters) ∙ take_all i d.waiters k)))
 
-pub record Pushing (ws : List Waiter) (at : ℕ) (w : Waiter) (a : List Waiter) (c : Waiter) (i : ℕ) : Type 0 where
-  pub size : length a ≡ tasks
-  pub rest : take i a ++ push c (drop i a) ≡ take at ws ++ push w (drop at ws)
+  module _ (i : ℕ) where
+    pub dequeued : i < tasks → (ys : List Waiter) → ys ≡ pull (take (length d.waiters - i) (drop i d.waiters))
+        → with_queue d (put_mid i (length d.waiters - i) d.waiters ys) ≡ dequeue d i
+    unfolding dequeue remove_at
+    dequeued h ys g =
+        let k : i ≤ length d.waiters = omega (arith, n) in
+        ap (with_queue d) (put_end d.waiters ys i k ∙ ap (λ (l : List Waiter). take i d.waiters ++ l) (g ∙ ap pull (all_behind d.waiters ys i k)))
 
-pub push_start : (ws : List Waiter) (at : ℕ) (w : Waiter) → length ws ≡ tasks → Pushing ws at w ws w at
-push_start ws at w h = record { size = h; rest = refl }
-
-module _ (ws : List Waiter) (at : ℕ) (w : Waiter) (a : List Waiter) (c : Waiter) (i : ℕ) (v : Pushing ws at w a c i) where
-  pub push_turn : i < tasks → Pushing ws at w (set a i c) (get_or a i no_waiter) (i + 1)
-  push_turn h = record { size = simp length-set v.size; rest = push_step c a i (omega (arith, v.size)) ∙ v.rest }
-
-  pub pushed : tasks ≤ i → a ≡ take at ws ++ push w (drop at ws)
-  pushed h = sym (push_end c a i (omega (arith, v.size))) ∙ v.rest
-
-pub ruleset pushing = (push_start, push_turn, pushed)
-
--- `remove_at`
-module _ (a : List Waiter) (i : ℕ) where
-  pub pull_step : i + 1 < length a
-      → take (i + 1) (set a i (get_or a (i + 1) no_waiter)) ++ pull (drop (i + 1) (set a i (get_or a (i + 1) no_waiter))) ≡ take i a ++ pull (drop i a)
-  pull_step h =
-      let h' : suc i < length a = omega arith in
-      let h'' : i < length a = omega arith in
-      rw (add-one, take-suc-set a i (get_or a (suc i) no_waiter) h'', drop-set-lt (suc i) a i (get_or a (suc i) no_waiter) (omega arith), drop-cons a i no_waiter h'', drop-cons a (suc i) no_waiter h', append_snoc)
-
-  pub pull_end : length a ≡ i + 1 → set a i no_waiter ≡ take i a ++ pull (drop i a)
-  pull_end h =
-      let h'' : i < length a = omega arith in
-      rw (set_split a i no_waiter h'', drop-cons a i no_waiter h'', drop_of_length-le a {i = suc i} (omega arith))
-
-pub record Pulling (at : ℕ) (ws a : List Waiter) (i : ℕ) : Type 0 where
-  pub within : i ≤ tasks - 1
-  pub size : length a ≡ tasks
-  pub rest : take i a ++ pull (drop i a) ≡ remove_at at ws
-
-module _ (at : ℕ) (ws : List Waiter) where
-  pub pull_start : length ws ≡ tasks → at < tasks → Pulling at ws ws at
-  unfolding remove_at
-  pull_start h k = record { within = omega arith; size = h; rest = refl }
-
-  pub pull_turn : (a : List Waiter) (i : ℕ) → Pulling at ws a i → i < tasks - 1 → Pulling at ws (set a i (get_or a (i + 1) no_waiter)) (i + 1)
-  pull_turn a i v h = record { within = omega arith; size = simp length-set v.size; rest = pull_step a i (omega (arith, v.size)) ∙ v.rest }
-
-  pub pulled : (a : List Waiter) (i : ℕ) → Pulling at ws a i → tasks - 1 ≤ i → (z : Waiter) → z ≡ no_waiter → set a (tasks - 1) z ≡ remove_at at ws
-  pulled a i v h z u = let e : i ≡ tasks - 1 = omega (arith, v.within) in rw u (pull_end a (tasks - 1) v.size ∙ (rw e at v.rest))
-
-  pub pulled_none : length ws ≡ tasks → tasks ≤ at → ws ≡ remove_at at ws
-  unfolding remove_at
-  pulled_none h k =
-      let k' : length ws ≤ at = omega arith in
-      rw (drop_of_length-le ws k', append-nil, take_all at ws k')
-
-pub ruleset pulling = (pull_start, pull_turn, pulled, pulled_none)
-
--- the record with the queue that is left
-pub enqueued : (d : Manager) (w : Waiter) (g : Region) (at : ℕ) (ws : List Waiter) → g ≡ region_of d w.region
-    → at ≡ index_of (goes_before g.order w) d.waiters → ws ≡ take at d.waiters ++ push w (drop at d.waiters) → with_queue d ws ≡ enqueue d w
-unfolding enqueue
-enqueued d w g at ws p q e = ap (with_queue d) (rw (e, q, p) (sym (insert_at (region_of d w.region).order w d.waiters)))
-
-pub dequeued : (d : Manager) (i : ℕ) (ws : List Waiter) → ws ≡ remove_at i d.waiters → with_queue d ws ≡ dequeue d i
-unfolding dequeue
-dequeued d i ws e = rw e
-
-pub ruleset queueing = (unmapped, enqueued, dequeued)
-
--- `first_of`: a place that is unused, or of another region, is passed by
-pub record Finding (id : ℕ) (ws : List Waiter) (w i : ℕ) : Type 0 where
-  pub rest : Placing (waits_for id) ws tasks w i
-
-module _ (id : ℕ) (ws : List Waiter) where
-  pub find_start : length ws ≡ tasks → Finding id ws (index_of (waits_for id) ws) 0
-  find_start h = record { rest = index_start _ ws tasks h }
-
-  module _ (w i : ℕ) (v : Finding id ws w i) where
-    pub find_bound : i ≤ tasks
-    find_bound = v.rest.within
-
-    pub find_unused : i < tasks → (get_or ws i no_waiter).task ≡ 0 → Finding id ws w (i + 1)
-    find_unused h e = record { rest = index_next _ ws tasks w i v.rest h no_waiter (rw (eq-eqb _ _ e)) }
-
-    pub find_other : i < tasks → ((get_or ws i no_waiter).task ≡ 0 → ⊥) → ((get_or ws i no_waiter).region ≡ id → ⊥) → Finding id ws w (i + 1)
-    find_other h n e = record { rest = index_next _ ws tasks w i v.rest h no_waiter (rw (ne_eqb _ _ n, ne_eqb _ _ e)) }
-
-    pub find_here : i < tasks → ((get_or ws i no_waiter).task ≡ 0 → ⊥) → (get_or ws i no_waiter).region ≡ id → i ≡ w
-    find_here h n e = index_here _ ws tasks w i v.rest h no_waiter (rw (ne_eqb _ _ n, eq-eqb _ _ e))
-
-    pub find_none : tasks ≤ i → i ≡ w
-    find_none h = index_end _ ws tasks w i v.rest h
-
--- `waiting`: no place before has the task
-pub record Asking (task : ℕ) (ws : List Waiter) (w : Bool) (i : ℕ) : Type 0 where
-  pub rest : Seeking (λ x. eqb x.task task) ws tasks w i
-
-module _ (task : ℕ) (ws : List Waiter) where
-  pub ask_start : length ws ≡ tasks → Asking task ws (any (λ x. eqb x.task task) ws) 0
-  ask_start h = record { rest = some_start _ ws tasks h }
-
-  module _ (w : Bool) (i : ℕ) (v : Asking task ws w i) where
-    pub ask_bound : i ≤ tasks
-    ask_bound = v.rest.within
-
-    pub ask_other : i < tasks → ((get_or ws i no_waiter).task ≡ task → ⊥) → Asking task ws w (i + 1)
-    ask_other h e = record { rest = some_next _ ws tasks w i v.rest h no_waiter (ne_eqb _ _ e) }
-
-    pub ask_here : i < tasks → (get_or ws i no_waiter).task ≡ task → true ≡ w
-    ask_here h e = some_here _ ws tasks w i v.rest h no_waiter (eq-eqb _ _ e)
-
-    pub ask_none : tasks ≤ i → false ≡ w
-    ask_none h = some_end _ ws tasks w i v.rest h
-
-pub ruleset finding = (unmapped, find_start, find_bound, find_unused, find_other, find_here, find_none, ask_start, ask_bound, ask_other, ask_here, ask_none)
+    pub dequeued_none : tasks ≤ i → d ≡ dequeue d i
+    unfolding dequeue remove_at
+    dequeued_none h =
+        let k : length d.waiters ≤ i = omega (arith, n) in
+        ap (with_queue d) (sym (rw (drop_of_length-le d.waiters {i = i} k) (append-nil (take i d.waiters) ∙ take_all i d.waiters k)))

@@ -1,19 +1,18 @@
 -- The turns of `after_tick`: two arrays are filled, with those that stay and with the notices of those that leave. Assumes nothing.
 use mathlib.Core.Path.{◌≡◌, ap}
 use mathlib.Core.List.{List, []}
-use Prim.Native.Nat.{ℕ, ◌+◌, ◌-◌, ◌≤◌, ◌<◌}
+use Prim.Native.Nat.{ℕ, ◌+◌, ◌≤◌, ◌<◌}
 use native.Mathlib.Omega.{arith}
 use borrow.Author.Tests.{eq-eqb, ne_eqb}
-use lib.ListN.{length, drop, get_or, set, replicate, drop_of_length-le}
+use lib.ListN.{length, drop, get_or, set, drop_of_length-le}
 use Rattle.manager.specs.declared.Manager.{Manager}
 use Rattle.manager.specs.declared.Waiter.{Waiter}
 use Rattle.manager.specs.declared.Notice.{Notice}
 use Rattle.manager.specs.Record.{tasks, no_waiter, no_notice, with_queue}
 use Rattle.manager.proofs.Laws.Lists.{rest_cons}
 use Rattle.manager.specs.Queue.{staying, leaving, aged, expired, after_tick}
-use Rattle.objects.proofs.Laws.{unmapped}
 use Rattle.reply.specs.Notices.{Notices}
-use Rattle.objects.proofs.Fill.{Filling, fill_start, fill_put, fill_count, fill_end}
+use Rattle.objects.proofs.Fill.{Filling, fill_put, fill_count, fill_end}
 
 -- after i places of the queue ws: k stay, in b, and n leave, with the notices ns
 pub record Ticking (ws b : List Waiter) (ns : List Notice) (k n i : ℕ) : Type 0 where
@@ -51,10 +50,6 @@ module _ (ws b : List Waiter) (ns : List Notice) (k n i : ℕ) (t : Ticking ws b
         told = rw (rest_cons ws i no_waiter h', ne_eqb _ _ e) at t.told;
       }
 
-pub tick_start : (ws : List Waiter) (u : Waiter) (ns : List Notice) → length ws ≡ tasks → u ≡ no_waiter → ns ≡ replicate tasks no_notice → Ticking ws (replicate tasks u) ns 0 0 0
-tick_start ws u ns h e f =
-    record { within = omega arith; k_in = omega arith; n_in = omega arith; size = h; kept = rw e (fill_start _ _ _); told = rw f (fill_start _ _ _) }
-
 pub tick_end : (d : Manager) (b : List Waiter) (ns : List Notice) (k n i : ℕ) → Ticking d.waiters b ns k n i → tasks ≤ i
     → Notices (after_tick d) (leaving d.waiters) (record { manager = with_queue d b; notices = ns; count = n })
 unfolding after_tick staying leaving
@@ -65,9 +60,3 @@ tick_end d b ns k n i t h =
       notices = fill_end no_notice tasks ns n _ (rw g at t.told);
       count = fill_count no_notice tasks ns n _ (rw g at t.told);
     }
-
--- one without ticks has none to lose
-pub aged_none : (w : Waiter) → w.ticks ≤ 0 → w ≡ aged w
-aged_none w h = let e : w.ticks - 1 ≡ w.ticks = omega arith in rw e
-
-pub ruleset ticking = (unmapped, tick_start, tick_leave, tick_stay, tick_end, aged_none)

@@ -1,34 +1,14 @@
--- No place before i holds a waiter of the region. Assumes nothing.
-use Rattle.queue.proofs.Laws.{finding}
-use borrow.Author.Rules.{rules}
+-- The position of the first that passes the test. Assumes nothing.
+use Rattle.std.proofs.Common.{rules, tests, ◌≡◌, length}
+use Rattle.manager.specs.Record.{tasks}
+use Rattle.manager.specs.Queue.{waits_for}
+use Rattle.manager.proofs.Laws.Chains.{index_from_position}
+use Rattle.objects.proofs.Laws.{unmapped}
+use Rattle.queue.proofs.Laws.{found_within}
 use Rattle.queue.proofs.first_of.Goals as goal
 
-pub loop-i-init : goal.loop-i-init
-loop-i-init c = search (rules, finding)
-
-pub offset_bounds-d-i : goal.offset_bounds-d-i
-offset_bounds-d-i c = search (rules, finding)
-
-pub bounds-d-i : goal.bounds-d-i
-bounds-d-i c = search (rules, finding)
-
-pub overflow_add-i : goal.overflow_add-i
-overflow_add-i c = search (rules, finding)
-
-pub returns-then-x-id : goal.returns-then-x-id
-returns-then-x-id c = search (rules, finding)
-
-pub loop-i-smaller-else-x-id : goal.loop-i-smaller-else-x-id
-loop-i-smaller-else-x-id c = search (rules, finding)
-
-pub loop-i-preserved-else-x-id : goal.loop-i-preserved-else-x-id
-loop-i-preserved-else-x-id c = search (rules, finding)
-
-pub loop-i-smaller : goal.loop-i-smaller
-loop-i-smaller c = search (rules, finding)
-
-pub loop-i-preserved : goal.loop-i-preserved
-loop-i-preserved c = search (rules, finding)
-
 pub returns : goal.returns
-returns c = search (rules, finding)
+returns c =
+    let size : length c.args.d.now.waiters ≡ tasks = search (rules, unmapped) in
+    found_within _ _ _ _ size
+    (index_from_position (waits_for c.args.id) c.args.d.now.waiters _ _ _ c.position.ensures.ran c.iter.ensures.rest (λ x b q k. search (rules, tests)))

@@ -1,28 +1,10 @@
--- No place before i has the task. Assumes nothing.
-use Rattle.queue.proofs.Laws.{finding}
-use borrow.Author.Rules.{rules}
+-- Whether one passes the test. Assumes nothing.
+use Rattle.std.proofs.Common.{Bool, eqb, rules, tests}
+use Rattle.manager.specs.declared.Waiter.{Waiter}
+use Rattle.manager.proofs.Laws.Chains.{any_from_any}
 use Rattle.queue.proofs.waiting.Goals as goal
 
-pub loop-i-init : goal.loop-i-init
-loop-i-init c = search (rules, finding)
-
-pub offset_bounds-d-i : goal.offset_bounds-d-i
-offset_bounds-d-i c = search (rules, finding)
-
-pub bounds-d-i : goal.bounds-d-i
-bounds-d-i c = search (rules, finding)
-
-pub overflow_add-i : goal.overflow_add-i
-overflow_add-i c = search (rules, finding)
-
-pub returns-then-x-task : goal.returns-then-x-task
-returns-then-x-task c = search (rules, finding)
-
-pub loop-i-smaller : goal.loop-i-smaller
-loop-i-smaller c = search (rules, finding)
-
-pub loop-i-preserved : goal.loop-i-preserved
-loop-i-preserved c = search (rules, finding)
-
 pub returns : goal.returns
-returns c = search (rules, finding)
+returns c =
+    let t : Waiter → Bool = λ w. eqb w.task c.args.task in
+    any_from_any t c.args.d.now.waiters _ _ _ c.any.ensures.ran c.iter.ensures.rest (λ x b q k. search (rules, tests))
