@@ -1,4 +1,2 @@
-pub mod Tests
 pub mod Chain
-pub mod Clauses
 pub mod Queue

@@ -1,15 +1,15 @@
 -- The walk over the wait queue. What is left of the queue behind the waiter `before` is sound (`left`) if each place is, no task there
 -- is one that was met (`seen`) or waits twice, and nobody goes before the one in front. A sound waiter that was not met goes on to
 -- the places behind it (`left_step`); from an unused place on, all must be unused (`left_unused`). Assumes nothing.
-use Prim.Native.Nat.{ℕ, zero, suc, ◌+◌, ◌≤◌, ◌<◌}
+use Prim.Native.Nat.{ℕ, zero, suc, ◌+◌, ◌-◌, ◌≤◌, ◌<◌}
 use mathlib.Core.Path.{◌≡◌, refl, sym, ap, ◌∙◌}
 use mathlib.Core.Bool.{Bool, true, false, cond, not, ◌&&◌, ◌||◌, and-false, and-true, and_assoc}
 use mathlib.Core.List.{List, [], ◌∷◌}
 use native.Mathlib.Omega.{arith}
 use borrow.Author.Tests.{eq-eqb, ne_eqb, eqb-true, eqb-false, leb-true, le-ltb, not-true, not-false}
 use lib.Dec.{eqb, leb}
-use lib.ListN.{length, get_or, set, drop, replicate, length-set, drop_of_length-le, get_or-eq_default}
-use lib.Seq.{get_or-set_same, get_or-set_other}
+use lib.ListN.{length, length-drop, take, get_or, set, drop, replicate, length-set, drop_of_length-le, get_or-eq_default}
+use lib.Seq.{take_all, get_or-set_same, get_or-set_other}
 use Rattle.arith.specs.Layout.{any_number}
 use Rattle.arith.proofs.Laws.Layout.{count_zero}
 use Rattle.manager.specs.Lists.{every, pairwise, adjacent}
@@ -17,10 +17,7 @@ use Rattle.manager.proofs.Laws.Lists.{and_first, and_second, get_d_any, rest_con
 use Rattle.manager.proofs.Laws.Ids.{first_slot_lem, no_slot, object_there, object_none, object_beyond}
 use Rattle.manager.specs.Queue.{by_priority, urgent, goes_before}
 use Rattle.manager.specs.Record.{slots, tasks, slot_of, has_id, no_region, region_of}
-use Rattle.manager.specs.Kind.{Kind}
-use Rattle.manager.specs.Region.{kind, layout_of, dead, any_held, is_alignment, need_of, servable_at, servable}
-use Rattle.manager.specs.declared.Need.{Need}
-use Rattle.arith.specs.declared.Layout.{Layout}
+use Rattle.manager.specs.Region.{kind, dead, any_held, is_alignment, need_of, servable}
 use Rattle.manager.specs.Sound.{unused, empty_waiter, sound_waiter, sound_place, other_task, in_order, sound_queue}
 use Rattle.manager.specs.declared.Manager.{Manager}
 use Rattle.manager.specs.declared.Order.{Order}
@@ -29,11 +26,6 @@ use Rattle.manager.specs.declared.Waiter.{Waiter}
 use Rattle.soundness.specs.Waiters.{queue_of, facts_of, no_facts, front_waiter, sound_in}
 use Rattle.soundness.specs.declared.places.Facts.{Facts}
 use Rattle.objects.proofs.Laws.{unmapped}
-
--- the partitions have no part in it
-pub queue_told : (m : List ℕ) (d : Manager) (v : Bool) → v ≡ sound_queue m (queue_of d.regions d.waiters) → v ≡ sound_queue m d
-unfolding sound_queue sound_place sound_waiter
-queue_told m d v e = e
 
 -- TASKS THAT WERE MET
 abbrev pub not_met : List Bool → Waiter → Bool
@@ -234,19 +226,6 @@ module _ (m : List ℕ) (d : Manager) (w : Waiter) where
 no_facts_lem : (m : List ℕ) → no_facts ≡ facts_of m 0 no_region
 no_facts_lem m = rw (count_zero any_number 0 0 0 refl)
 
--- the facts kept are of the same region, or they are worked out
-pub facts_kept : (m : List ℕ) (kept : Facts) (id : ℕ) (r : Region) → kept.id ≡ id → kept ≡ cond (eqb kept.id id) kept (facts_of m id r)
-facts_kept m kept id r e = rw (eq-eqb kept.id id e)
-
-pub facts_new : (m : List ℕ) (kept : Facts) (id : ℕ) (r : Region) (l : Layout) (b : Bool) → (kept.id ≡ id → ⊥) → l ≡ layout_of r
-    → b ≡ (has_id r.name r.generation id && any_held m r)
-    → record { id = id; region = r; layout = l; held = b } ≡ cond (eqb kept.id id) kept (facts_of m id r)
-facts_new m kept id r l b e el eb = rw (ne_eqb kept.id id e, el, eb)
-
--- what a call gave as the need
-pub serving_told : (K : Kind) (l : Layout) (n w : Need) (b : Bool) → n ≡ w → b ≡ servable_at K l n → b ≡ servable_at K l w
-serving_told K l n w b e x = x ∙ ap (servable_at K l) e
-
 no_region_lem : (rs : List Region) (id : ℕ) → length rs ≡ slots → slots ≤ slot_of id → in_slot rs id ≡ no_region
 no_region_lem rs id h g = get_or-eq_default rs no_region (omega arith)
 
@@ -267,9 +246,10 @@ module _ (m : List ℕ) (rs : List Region) (ws : List Waiter) where
     here : left m (queue_of rs ws) seen before (get_or ws i z ∷ drop (i + 1) ws) ≡ w
     here = rw (← rest_cons ws i z (omega (arith, v.places))) v.rest
 
-    pub walk_unused : (get_or ws i z).task ≡ 0 → (b : Bool) → b ≡ every empty_waiter (drop i ws) → b ≡ w
+    pub walk_unused : (get_or ws i z).task ≡ 0 → (b : Bool) → b ≡ every empty_waiter (take (tasks - i) (drop i ws)) → b ≡ w
     walk_unused e b g =
         g
+        ∙ ap (every empty_waiter) (take_all (tasks - i) (drop i ws) (omega (arith, v.places, length-drop i ws)))
         ∙ ap (every empty_waiter) (rest_cons ws i z (omega (arith, v.places)))
         ∙ sym (left_unused m (queue_of rs ws) seen before (get_or ws i z) (drop (i + 1) ws) e)
         ∙ here

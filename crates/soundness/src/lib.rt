@@ -15,33 +15,18 @@ use manager::Manager;
 fn sound_length(mem: &[u32]) -> bool
     ensures { result ≡ sound_length mem.now }
 {
-    if mem.len() < 1 {
-        return false;
-    }
-    mem.len() <= 16384
+    1 <= mem.len() && mem.len() <= 16384
 }
 
 // Whether the records are sound.
+#[tactic(auto, unfolding(manager::specs::Sound::sound, manager::specs::Sound::sound_region, manager::specs::Sound::sound_partition, manager::specs::Sound::sound_queue, manager::specs::Sound::sound_place, manager::specs::Sound::sound_waiter))]
 pub fn is_sound(mem: &[u32], d: Manager) -> bool
     ensures { result ≡ sound mem.now d }
 {
-    if !sound_length(mem) {
-        return false;
-    }
-    let regions = d.regions;
-    let partitions = d.partitions;
-    let waiters = d.waiters;
-    if !slots::sound_regions(mem, regions) {
-        return false;
-    }
-    if !slots::sound_partitions(mem, partitions) {
-        return false;
-    }
-    if !objects::names_differ(d) {
-        return false;
-    }
-    if !objects::apart(d) {
-        return false;
-    }
-    places::sound_queue(mem, regions, waiters)
+    sound_length(mem)
+        && slots::sound_slots(mem, &d.regions)
+        && slots::sound_slots(mem, &d.partitions)
+        && objects::names_differ(&d)
+        && objects::apart(&d)
+        && places::sound_queue(mem, &d.regions, &d.waiters)
 }

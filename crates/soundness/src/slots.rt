@@ -1,44 +1,47 @@
 // The slots of the record: each is a sound object, or empty and all zeros but for its generation.
-ghost use Rattle.std.specs.Prelude.{◌≡◌, length};
+ghost use Rattle.std.specs.Prelude.{◌≡◌, ℕ, Bool, ◌&&◌, cond, eqb, List};
 ghost use Rattle.manager.specs.Lists.{every};
-ghost use Rattle.manager.specs.Sound.{inside, sound_page, sound_size, sound_generation, is_fifo, empty_region, empty_partition, live_region, live_partition, sound_region, sound_partition};
+ghost use Rattle.manager.specs.Sound.{inside, sound_page, sound_size, sound_generation, empty_region, empty_partition, live_region, live_partition};
+ghost use Rattle.std.proofs.Common.{rules};
+ghost use Rattle.std.proofs.lemmas.Grind.{common_steps};
 
-use manager::{Manager, Order, Partition, Region};
+use manager::{Manager, Partition, Region};
+use objects::Slot;
+
+// A kind of object, by what its live ones have to be.
+pub(crate) trait Checked: Slot + PartialEq {
+    // Whether a live object is sound over the words of the memory.
+    ghost live: { List ℕ → Self → Bool };
+
+    // Whether a slot without a name is zero but for its generation.
+    ghost empty: { Self → Bool };
+
+    fn is_live(&self, mem: &[u32]) -> bool
+        ensures { result ≡ live mem.now self.now };
+
+    // Then it is the emptied slot of that generation.
+    ghost emptied_only: { (x : Self) → Self.name x ≡ 0 → Self.eq x (Self.emptied (Self.generation x)) ≡ empty x };
+}
 
 // Whether an area is inside the memory and does not start at 0.
 fn is_inside(mem: &[u32], start: u32, bytes: u32) -> bool
     ensures { result ≡ inside mem.now start bytes }
 {
-    if start == 0 {
-        return false;
-    }
-    !objects::past_memory(mem.len(), start, bytes)
+    start != 0 && !objects::past_memory(mem.len(), start, bytes)
 }
 
 // Whether a page size is one that create leaves: 8 to 4,096, a multiple of 8.
 fn sound_page(page: u32) -> bool
     ensures { result ≡ sound_page page }
 {
-    if page < 8 {
-        return false;
-    }
-    if 4096 < page {
-        return false;
-    }
-    page % 8 == 0
+    8 <= page && page <= 4096 && page % 8 == 0
 }
 
 // Whether a buffer size is one that create allows: a multiple of 4, at least 8, and at most the length.
 fn sound_size(bytes: u32, size: u32) -> bool
     ensures { result ≡ sound_size bytes size }
 {
-    if bytes < size {
-        return false;
-    }
-    if size % 4 != 0 {
-        return false;
-    }
-    8 <= size
+    size <= bytes && size % 4 == 0 && 8 <= size
 }
 
 // Whether a slot's generation is one that it can have: an empty slot may be spent, a live one is not.
@@ -46,149 +49,64 @@ fn sound_generation(name: u32, generation: u32) -> bool
     ensures { result ≡ sound_generation name generation }
 {
     if name == 0 {
-        return generation <= Manager::GENERATIONS;
-    }
-    generation < Manager::GENERATIONS
-}
-
-// Whether an order is the one of number 0.
-fn is_fifo(o: Order) -> bool
-    ensures { result ≡ is_fifo o }
-{
-    match o {
-        Order::Fifo => true,
-        Order::Priority => false,
-        Order::HalvesFifo => false,
-        Order::HalvesPriority => false,
+        generation <= Manager::GENERATIONS
+    } else {
+        generation < Manager::GENERATIONS
     }
 }
 
-// Whether all but the name and the generation of an empty slot is 0.
-fn empty_region(r: Region) -> bool
-    ensures { result ≡ empty_region r }
-{
-    if r.start != 0 {
-        return false;
+impl Checked for Region {
+    ghost live = { live_region };
+
+    ghost empty = { empty_region };
+
+    ghost emptied_only = { λ x e. Prim.search (rules, common_steps) };
+
+    // Whether a region's area, page size and map are sound.
+    #[tactic(auto, unfolding(manager::specs::Sound::live_region))]
+    fn is_live(&self, mem: &[u32]) -> bool {
+        let l = map::layout_of(*self);
+        is_inside(mem, self.start, self.length)
+            && sound_page(self.page)
+            && 1 <= l.pages
+            && map::is_sound(map::map_words(mem, l), self.order)
     }
-    if r.length != 0 {
-        return false;
-    }
-    if r.page != 0 {
-        return false;
-    }
-    let order = r.order;
-    is_fifo(order)
 }
 
-// Whether a region's area, page size and map are sound.
-fn live_region(mem: &[u32], r: Region) -> bool
-    ensures { result ≡ live_region mem.now r }
-{
-    if !is_inside(mem, r.start, r.length) {
-        return false;
+impl Checked for Partition {
+    ghost live = { live_partition };
+
+    ghost empty = { empty_partition };
+
+    ghost emptied_only = { λ x e. Prim.search (rules, common_steps) };
+
+    // Whether a partition's area, buffer size and chain are sound.
+    #[tactic(auto, unfolding(manager::specs::Sound::live_partition))]
+    fn is_live(&self, mem: &[u32]) -> bool {
+        is_inside(mem, self.start, self.length)
+            && self.start % 4 == 0
+            && sound_size(self.length, self.size)
+            && super::chains::sound_chain(mem, *self)
     }
-    if !sound_page(r.page) {
-        return false;
-    }
-    let l = map::layout_of(r);
-    if l.pages < 1 {
-        return false;
-    }
-    let words = map::map_words(mem, l);
-    let order = r.order;
-    map::is_sound(words, order)
 }
 
-// Whether a region slot has a sound generation, and is empty or a sound region.
-fn sound_region(mem: &[u32], r: Region) -> bool
-    ensures { result ≡ sound_region mem.now r }
+// Whether a slot has a sound generation, and is empty or a sound object.
+fn sound_slot<T: Checked>(mem: &[u32], x: &T) -> bool
+    ensures { result ≡ (sound_generation (T.name x.now) (T.generation x.now) && cond (eqb (T.name x.now) 0) (T.empty x.now) (T.live mem.now x.now)) }
 {
-    if !sound_generation(r.name, r.generation) {
+    if !sound_generation(x.name(), x.generation()) {
         return false;
     }
-    if r.name == 0 {
-        return empty_region(r);
+    if x.name() == 0 {
+        *x == T::emptied(x.generation())
+    } else {
+        x.is_live(mem)
     }
-    live_region(mem, r)
 }
 
-// Whether all but the name and the generation of an empty slot is 0.
-fn empty_partition(p: Partition) -> bool
-    ensures { result ≡ empty_partition p }
+// Whether every slot is sound.
+pub(crate) fn sound_slots<T: Checked>(mem: &[u32], all: &[T]) -> bool
+    ensures { result ≡ every (λ x. sound_generation (T.name x) (T.generation x) && cond (eqb (T.name x) 0) (T.empty x) (T.live mem.now x)) all.now }
 {
-    if p.start != 0 {
-        return false;
-    }
-    if p.length != 0 {
-        return false;
-    }
-    if p.size != 0 {
-        return false;
-    }
-    if p.front != 0 {
-        return false;
-    }
-    if p.rear != 0 {
-        return false;
-    }
-    p.free == 0
-}
-
-// Whether a partition's area, buffer size and chain are sound.
-fn live_partition(mem: &[u32], p: Partition) -> bool
-    ensures { result ≡ live_partition mem.now p }
-{
-    if !is_inside(mem, p.start, p.length) {
-        return false;
-    }
-    if p.start % 4 != 0 {
-        return false;
-    }
-    if !sound_size(p.length, p.size) {
-        return false;
-    }
-    super::chains::sound_chain(mem, p)
-}
-
-// Whether a partition slot has a sound generation, and is empty or a sound partition.
-fn sound_partition(mem: &[u32], p: Partition) -> bool
-    ensures { result ≡ sound_partition mem.now p }
-{
-    if !sound_generation(p.name, p.generation) {
-        return false;
-    }
-    if p.name == 0 {
-        return empty_partition(p);
-    }
-    live_partition(mem, p)
-}
-
-// Whether every region slot is sound.
-pub(crate) fn sound_regions(mem: &[u32], regions: [Region; Manager::SLOTS]) -> bool
-    ensures { result ≡ every (sound_region mem.now) regions }
-{
-    let mut i: usize = 0;
-    while i < Manager::SLOTS {
-        let r = regions[i];
-        i = i + 1;
-        if !sound_region(mem, r) {
-            return false;
-        }
-    }
-    true
-}
-
-// Whether every partition slot is sound.
-pub(crate) fn sound_partitions(mem: &[u32], partitions: [Partition; Manager::SLOTS]) -> bool
-    ensures { result ≡ every (sound_partition mem.now) partitions }
-{
-    let mut i: usize = 0;
-    while i < Manager::SLOTS {
-        let p = partitions[i];
-        i = i + 1;
-        if !sound_partition(mem, p) {
-            return false;
-        }
-    }
-    true
+    all.iter().all(|x| sound_slot(mem, x))
 }

@@ -1,5 +1,3 @@
-use Rattle.manager.specs.Record.{tasks}
-use Prim.Native.Nat.{◌-◌}
 use Rattle.manager.specs.Sound.{sound_queue}
 use Rattle.soundness.specs.Waiters.{queue_of}
 use Rattle.soundness.proofs.Queue.{Walk}
@@ -7,6 +5,3 @@ use Rattle.soundness.proofs.places.sound_queue.Given as goal
 
 abbrev pub invariant-loop-i : goal.invariant-loop-i
 invariant-loop-i l = Walk l.mem l.regions l.ws l.facts l.before l.seen (sound_queue l.mem (queue_of l.regions l.ws)) l.i
-
-abbrev pub decreases-loop-i : goal.decreases-loop-i
-decreases-loop-i l = tasks - l.i
