@@ -1,54 +1,61 @@
 -- How each definition of specs/Lines.antt goes one byte on, said at a position of the whole list, as the loops use it.
 -- Assumes nothing.
-use mathlib.Core.Path.{◌≡◌, refl, sym, ◌∙◌}
+use mathlib.Core.Path.{◌≡◌, refl, sym, ◌∙◌, ap}
 use Prim.Native.Nat.{ℕ, zero, suc, ◌+◌, ◌-◌, ◌*◌, ◌≤◌, ◌<◌}
+use mathlib.Core.Logic.{inl, inr}
 use mathlib.Core.List.{List, [], ◌∷◌}
-use mathlib.Core.Bool.{Bool, true, false, cond}
+use mathlib.Core.Bool.{Bool, true, false, cond, not, ◌&&◌}
 use native.Mathlib.Numerals.{add-one}
 use native.Mathlib.Omega.{arith}
-use lib.ListN.{length, get_or, drop, drop_of_length-le, length-take, length-drop}
-use lib.Seq.{drop-cons}
-use lib.Dec.{eqb}
+use lib.ListN.{length, get_or, take, drop, drop_of_length-le, length-take, length-drop}
+use Rattle.std.proofs.lemmas.List.{drop-take}
+use lib.Seq.{drop-cons, drop-drop, take_all}
+use lib.Dec.{eqb, ltb}
 use borrow.Author.Tests.{eq-eqb, ne_eqb, eqb-true, lt-ltb, le-ltb}
-use Rattle.text.specs.Lines.{number_after, number_of, line_from, line_at, starts, part, field_at}
-use Rattle.text.specs.declared.Num.{Num}
-use Rattle.text.specs.declared.Num.TheVariants.{Is, Not}
-use Rattle.text.specs.declared.Line.{Line}
-use Rattle.text.specs.declared.Line.TheVariants.{Ends, Never}
-use Rattle.text.specs.declared.Entry.TheVariants.{Took, Bad}
+use Rattle.std.specs.Prelude.{Option, Some, None, option_map}
+use Rattle.std.specs.Char.{IsAsciiDigit, IsNotAsciiDigit}
+use Rattle.std.specs.Cmp.Lexicographic.{pointwise}
+use Rattle.std.specs.List.{position, position_or_len, slice_range, starts_with}
+use Rattle.std.proofs.lemmas.Option.{none-some, same_Some}
+use Rattle.text.specs.Lines.{number_after, number_of, line_from, line_at, starts, part, took, field_at}
 
 pub true_false : {A : Type 0} → true ≡ false → A
 true_false z = let y : ◌≡◌ {A = ℕ} 0 1 = cc in absurd (omega arith)
 
 -- ---- a line's end
 
-pub line_none : (k p : ℕ) (bs : List ℕ) → k ≤ 0 → line_from k p bs ≡ Never
+-- the first newline among the first bytes, counted from where they start
+line_go : (t : Bool) (p l : ℕ) (bs : List ℕ) (r : Option ℕ) → r ≡ cond (ltb l (length bs)) (Some (suc p + l)) None → cond t (Some p) r ≡ cond (ltb (cond (not t) (1 + l) 0) (suc (length bs))) (Some (p + cond (not t) (1 + l) 0)) None
+line_go true p l bs r e = grind arith
+line_go false p l bs r e = grind arith
+
+line_is : (k p : ℕ) (bs : List ℕ) → line_from k p bs ≡ cond (ltb (position_or_len (λ b. eqb b 10) (take k bs)) (length (take k bs))) (Some (p + position_or_len (λ b. eqb b 10) (take k bs))) None
 unfolding line_from
-line_none zero p bs h = refl
-line_none (suc k) p bs h = absurd (omega arith)
+line_is zero p bs = refl
+line_is (suc k) p [] = refl
+line_is (suc k) p (b ∷ bs) = line_go (eqb b 10) p (position_or_len (λ c. eqb c 10) (take k bs)) (take k bs) (line_from k (suc p) bs) (line_is k (suc p) bs)
 
-pub line_out : (s : List ℕ) (k p : ℕ) → length s ≤ p → line_from k p (drop p s) ≡ Never
+mapped : (t : Bool) (p l : ℕ) → cond t (Some (p + l)) None ≡ option_map (λ i. p + i) (cond t (Some l) None)
+mapped true p l = refl
+mapped false p l = refl
+
+line_position : (s : List ℕ) (at : ℕ) → line_at s at ≡ option_map (λ i. at + i) (position (λ b. eqb b 10) (take 64 (drop at s)))
+line_position s at = line_is 64 at (drop at s) ∙ mapped _ at _
+
+-- the end of a line, by where the first newline is behind its start
+pub line_out : (s : List ℕ) (at : ℕ) → length s ≤ at → None ≡ line_at s at
 unfolding line_from
-line_out s zero p h = refl
-line_out s (suc k) p h = rw (drop_of_length-le s {i = p} h)
+line_out s at h = rw (drop_of_length-le s {i = at} h)
 
-pub line_hit : (s : List ℕ) (k p : ℕ) → 0 < k → p < length s → get_or s p 0 ≡ 10 → line_from k p (drop p s) ≡ Ends p
-unfolding line_from
-line_hit s zero p z h e = absurd (omega arith)
-line_hit s (suc k) p z h e = rw (drop-cons s p 0 h, eq-eqb _ _ e)
+module _ (s : List ℕ) (at : ℕ) {rest : List ℕ} (r : rest ≡ slice_range s at (length s)) where
+  by_rest : line_at s at ≡ option_map (λ i. at + i) (position (λ b. eqb b 10) (take 64 rest))
+  by_rest = line_position s at ∙ rw (r, take_all (length s - at) (drop at s) (omega (arith, length-drop at s)))
 
-pub line_miss : (s : List ℕ) (k p : ℕ) → 0 < k → p < length s → (get_or s p 0 ≡ 10 → ⊥) → line_from k p (drop p s) ≡ line_from (k - 1) (p + 1) (drop (p + 1) s)
-unfolding line_from
-line_miss s zero p z h e = absurd (omega arith)
-line_miss s (suc k) p z h e =
-    let m : suc k - 1 ≡ k = omega arith in
-    rw (drop-cons s p 0 h, ne_eqb _ _ e, m, add-one)
+  pub line_missing : None ≡ position (λ b. eqb b 10) (take 64 rest) → None ≡ line_at s at
+  line_missing h = sym (by_rest ∙ ap (option_map (λ i. at + i)) (sym h))
 
-never_ends : {A : Type 0} (e : ℕ) → Never ≡ Ends e → A
-never_ends e h = let z : ◌≡◌ {A = ℕ} 0 1 = cc in absurd (omega arith)
-
-ends_same : (p e : ℕ) → Ends p ≡ Ends e → p ≡ e
-ends_same p e h = cc
+  pub line_ends : (n : ℕ) → Some n ≡ position (λ b. eqb b 10) (take 64 rest) → Some (at + n) ≡ line_at s at
+  line_ends n h = sym (by_rest ∙ ap (option_map (λ i. at + i)) (sym h))
 
 -- a line that ends does so at a newline among the bytes
 pub record Found (bs : List ℕ) (p e : ℕ) : Type 0 where
@@ -56,9 +63,9 @@ pub record Found (bs : List ℕ) (p e : ℕ) : Type 0 where
   pub inside : e - p < length bs
   pub here : get_or bs (e - p) 0 ≡ 10
 
-found_go : (b : ℕ) (bs : List ℕ) (k p e : ℕ) (t : Bool) → eqb b 10 ≡ t → cond t (Ends p) (line_from k (suc p) bs) ≡ Ends e → (line_from k (suc p) bs ≡ Ends e → Found bs (suc p) e) → Found (b ∷ bs) p e
+found_go : (b : ℕ) (bs : List ℕ) (k p e : ℕ) (t : Bool) → eqb b 10 ≡ t → cond t (Some p) (line_from k (suc p) bs) ≡ Some e → (line_from k (suc p) bs ≡ Some e → Found bs (suc p) e) → Found (b ∷ bs) p e
 found_go b bs k p e true q h f =
-    let s : p ≡ e = ends_same p e h in
+    let s : p ≡ e = same_Some p e h in
     let z : e - p ≡ 0 = omega arith in
     record { past = omega arith; inside = omega arith; here = rw z (eqb-true b 10 q) }
 found_go b bs k p e false q h f =
@@ -68,37 +75,40 @@ found_go b bs k p e false q h f =
     let z : e - p ≡ suc (e - suc p) = omega arith in
     record { past = omega arith; inside = omega arith; here = rw z r.here }
 
-pub line_found : (bs : List ℕ) (k p e : ℕ) → line_from k p bs ≡ Ends e → Found bs p e
+pub line_found : (bs : List ℕ) (k p e : ℕ) → line_from k p bs ≡ Some e → Found bs p e
 unfolding line_from
-line_found bs zero p e h = never_ends e h
-line_found [] (suc k) p e h = never_ends e h
+line_found bs zero p e h = absurd (none-some e h)
+line_found [] (suc k) p e h = absurd (none-some e h)
 line_found (b ∷ bs) (suc k) p e h = found_go b bs k p e (eqb b 10) refl h (λ g. line_found bs k (suc p) e g)
 
 -- the same at a position
-pub line_within : (s : List ℕ) (at e : ℕ) → line_at s at ≡ Ends e → (at ≤ e) × (e < length s)
+pub line_within : (s : List ℕ) (at e : ℕ) → Some e ≡ line_at s at → (at ≤ e) × (e < length s)
 line_within s at e h =
-    let f = line_found (drop at s) 64 at e h in
+    let f = line_found (drop at s) 64 at e (sym h) in
     let a = f.past in
     let g : e - at < length s - at = rw length-drop at f.inside in
     (a, omega arith)
 
 -- ---- a key
 
-pub starts_all : (ks bs : List ℕ) (k : ℕ) → length ks ≤ k → starts (drop k ks) bs ≡ true
-unfolding starts
-starts_all ks bs k h = rw (drop_of_length-le ks {i = k} h)
+key_go : (t u r : Bool) → t ≡ u → (t && r) ≡ cond u r false
+key_go true true r e = refl
+key_go false false r e = refl
+key_go true false r e = true_false e
+key_go false true r e = true_false (sym e)
 
-pub starts_out : (ks s : List ℕ) (k : ℕ) → k < length ks → length s ≤ k → starts (drop k ks) (drop k s) ≡ false
+pub starts_pointwise : (ks bs : List ℕ) → pointwise eqb (take (length ks) bs) ks ≡ starts ks bs
 unfolding starts
-starts_out ks s k h g = rw (drop_of_length-le s {i = k} g, drop-cons ks k 0 h)
+starts_pointwise [] bs = refl
+starts_pointwise (k ∷ ks) [] = refl
+starts_pointwise (k ∷ ks) (b ∷ bs) = rw (starts_pointwise ks bs) (key_go (eqb b k) (eqb k b) (starts ks bs) (grind arith))
 
-pub starts_miss : (ks s : List ℕ) (k : ℕ) → k < length ks → k < length s → (get_or ks k 0 ≡ get_or s k 0 → ⊥) → starts (drop k ks) (drop k s) ≡ false
+-- the slice's own test
+pub starts_same : (ks bs : List ℕ) → starts_with eqb bs ks ≡ starts ks bs
 unfolding starts
-starts_miss ks s k h g e = rw (drop-cons ks k 0 h, drop-cons s k 0 g, ne_eqb _ _ e)
-
-pub starts_more : (ks s : List ℕ) (k : ℕ) → k < length ks → k < length s → get_or ks k 0 ≡ get_or s k 0 → starts (drop k ks) (drop k s) ≡ starts (drop (k + 1) ks) (drop (k + 1) s)
-unfolding starts
-starts_more ks s k h g e = simp (drop-cons ks k 0 h, drop-cons s k 0 g, eq-eqb _ _ e, add-one)
+starts_same [] bs = refl
+starts_same (k ∷ ks) [] = refl
+starts_same (k ∷ ks) (b ∷ bs) = rw (starts_same ks bs) (key_go (eqb k b) (eqb k b) (starts ks bs) refl)
 
 starts_go : (k b : ℕ) (ks bs : List ℕ) (t : Bool) → cond t (starts ks bs) false ≡ true → (starts ks bs ≡ true → length ks ≤ length bs) → length (k ∷ ks) ≤ length (b ∷ bs)
 starts_go k b ks bs true e f = let h : length ks ≤ length bs = f e in omega arith
@@ -123,20 +133,20 @@ starts_fits ks s at h e = let g : length ks ≤ length s - at = rw length-drop a
 
 -- ---- a number
 
-pub num_end : (s : List ℕ) (a i : ℕ) → length s ≤ i → number_after a (drop i s) ≡ Is a
+pub num_end : (s : List ℕ) (a i : ℕ) → length s ≤ i → number_after a (drop i s) ≡ Some a
 unfolding number_after
 num_end s a i h = rw (drop_of_length-le s {i = i} h)
 
 module _ (s : List ℕ) (a i : ℕ) (h : i < length s) where
-  pub num_low : get_or s i 0 < 48 → number_after a (drop i s) ≡ Not
+  pub num_low : get_or s i 0 < 48 → number_after a (drop i s) ≡ None
   unfolding number_after
   num_low l = rw (drop-cons s i 0 h, lt-ltb _ _ l)
 
-  pub num_high : 57 < get_or s i 0 → number_after a (drop i s) ≡ Not
+  pub num_high : 57 < get_or s i 0 → number_after a (drop i s) ≡ None
   unfolding number_after
   num_high l = rw (drop-cons s i 0 h, le-ltb (get_or s i 0) 48 (omega arith), lt-ltb _ _ l)
 
-  pub num_over : 48 ≤ get_or s i 0 → get_or s i 0 ≤ 57 → 4294967295 < a * 10 + (get_or s i 0 - 48) → number_after a (drop i s) ≡ Not
+  pub num_over : 48 ≤ get_or s i 0 → get_or s i 0 ≤ 57 → 4294967295 < a * 10 + (get_or s i 0 - 48) → number_after a (drop i s) ≡ None
   unfolding number_after
   num_over l m o = rw (drop-cons s i 0 h, le-ltb _ _ l, le-ltb _ _ m, lt-ltb _ _ o)
 
@@ -144,7 +154,7 @@ module _ (s : List ℕ) (a i : ℕ) (h : i < length s) where
   unfolding number_after
   num_more l m o = rw (drop-cons s i 0 h, le-ltb _ _ l, le-ltb _ _ m, le-ltb _ _ o, add-one)
 
-pub number_none : (s : List ℕ) → length s ≡ 0 → number_of s ≡ Not
+pub number_none : (s : List ℕ) → length s ≡ 0 → number_of s ≡ None
 unfolding number_of
 number_none [] h = refl
 number_none (b ∷ bs) h = absurd (omega arith)
@@ -156,7 +166,7 @@ number_one [] h g = absurd (omega arith)
 number_one (b ∷ []) h g = refl
 number_one (b ∷ c ∷ bs) h g = absurd (omega arith)
 
-pub number_zero : (s : List ℕ) → 1 < length s → get_or s 0 0 ≡ 48 → number_of s ≡ Not
+pub number_zero : (s : List ℕ) → 1 < length s → get_or s 0 0 ≡ 48 → number_of s ≡ None
 unfolding number_of
 number_zero [] h e = absurd (omega arith)
 number_zero (b ∷ []) h e = absurd (omega arith)
@@ -182,68 +192,53 @@ pub left_many : (s : List ℕ) → 1 < length s → (get_or s 0 0 ≡ 48 → ⊥
 left_many s h e = record { rest = number_many s h e; passed = omega arith; small = omega arith }
 
 module _ {s : List ℕ} {a i : ℕ} (n : NumberLeft s a i) where
-  pub number_end : length s ≤ i → Is a ≡ number_of s
+  pub number_end : length s ≤ i → Some a ≡ number_of s
   number_end h = sym (n.rest ∙ num_end s a i h)
 
   module _ (h : i < length s) where
-    pub number_low : get_or s i 0 < 48 → Not ≡ number_of s
-    number_low l = sym (n.rest ∙ num_low s a i h l)
+    pub number_bad : IsNotAsciiDigit (get_or s i 0) → None ≡ number_of s
+    number_bad (inl l) = sym (n.rest ∙ num_low s a i h l)
+    number_bad (inr m) = sym (n.rest ∙ num_high s a i h m)
 
-    pub number_high : 57 < get_or s i 0 → Not ≡ number_of s
-    number_high l = sym (n.rest ∙ num_high s a i h l)
+    module _ (d : IsAsciiDigit (get_or s i 0)) where
+      pub number_over : (a * 10 + (get_or s i 0 - 48) < 4294967296 → ⊥) → None ≡ number_of s
+      number_over o = sym (n.rest ∙ num_over s a i h d.0 (omega arith) (omega arith))
 
-    module _ (d : ℕ) (e : d ≡ get_or s i 0 - 48) (l : 48 ≤ get_or s i 0) (m : get_or s i 0 ≤ 57) where
-      pub number_over : 4294967295 < a * 10 + d → Not ≡ number_of s
-      number_over o = sym (n.rest ∙ num_over s a i h l m (omega arith))
-
-      pub number_more : a * 10 + d ≤ 4294967295 → NumberLeft s (a * 10 + d) (i + 1)
-      number_more o = record { rest = n.rest ∙ num_more s a i h l m (omega arith) ∙ rw e; passed = omega arith; small = o }
-
-pub ruleset number_answers = (left_one, left_many, number_end, number_low, number_high, number_over, number_more)
+      pub number_more : (b : ℕ) → b ≡ a * 10 + (get_or s i 0 - 48) → b < 4294967296 → NumberLeft s b (i + 1)
+      number_more b e o = record { rest = n.rest ∙ num_more s a i h d.0 (omega arith) (omega arith) ∙ rw e; passed = omega arith; small = omega arith }
 
 -- ---- a line of a key and a number: each way through `field_at`
 
 module _ (s key : List ℕ) (at most : ℕ) where
-  pub field_never : line_at s at ≡ Never → field_at s at key most ≡ Bad
+  pub field_never : None ≡ line_at s at → None ≡ field_at s at key most
   unfolding field_at
-  field_never l = rw l
+  field_never l = rw (← l)
 
-  module _ (e : ℕ) (l : line_at s at ≡ Ends e) where
-    pub field_key : starts key (part s at e) ≡ false → field_at s at key most ≡ Bad
+  module _ (e : ℕ) (l : Some e ≡ line_at s at) where
+    pub field_key : pointwise eqb (take (length key) (part s at e)) key ≡ false → None ≡ field_at s at key most
     unfolding field_at
-    field_key k = rw (l, k)
+    field_key k = rw (← l, ← starts_pointwise key (part s at e), k)
 
-    module _ (k : starts key (part s at e) ≡ true) where
-      pub field_not : number_of (part s (at + length key) e) ≡ Not → field_at s at key most ≡ Bad
+    module _ (k : pointwise eqb (take (length key) (part s at e)) key ≡ true) {rest : List ℕ} (r : rest ≡ drop (length key) (part s at e)) where
+      started : starts key (part s at e) ≡ true
+      started = sym (starts_pointwise key (part s at e)) ∙ k
+
+      -- what is left of the line behind its key
+      behind : rest ≡ part s (at + length key) e
+      behind =
+          let h = starts_part key s at e (line_within s at e l).0 started in
+          let x : e - at ≡ length key + (e - (at + length key)) = omega arith in
+          r ∙ rw (x, drop-take, drop-drop)
+
+      pub field_not : None ≡ number_of rest → None ≡ field_at s at key most
       unfolding field_at
-      field_not n = rw (l, k, n)
+      field_not n = rw (← l, started, ← behind, ← n)
 
-      pub field_over : (v : ℕ) → number_of (part s (at + length key) e) ≡ Is v → most < v → field_at s at key most ≡ Bad
-      unfolding field_at
-      field_over v n h = rw (l, k, n, lt-ltb most v h)
+      module _ (v : ℕ) (n : Some v ≡ number_of rest) where
+        pub field_over : most < v → None ≡ field_at s at key most
+        unfolding field_at
+        field_over h = rw (← l, started, ← behind, ← n, lt-ltb most v h)
 
-      pub field_took : (v : ℕ) → number_of (part s (at + length key) e) ≡ Is v → v ≤ most → field_at s at key most ≡ Took v (e + 1)
-      unfolding field_at
-      field_took v n h = rw (l, k, n, le-ltb most v h)
-
--- ---- what `field` answers, from what the calls before it found
-
-module _ (s key : List ℕ) (at most : ℕ) (l : Line) (a : l ≡ line_at s at) where
-  pub answer_never : l ≡ Never → Bad ≡ field_at s at key most
-  answer_never e = sym (field_never s key at most (sym a ∙ e))
-
-  module _ (e : ℕ) (b : l ≡ Ends e) (t : Bool) (c : t ≡ starts key (part s at e)) where
-    pub answer_key : t ≡ false → Bad ≡ field_at s at key most
-    answer_key f = sym (field_key s key at most e (sym a ∙ b) (sym c ∙ f))
-
-    module _ (u : t ≡ true) (n : Num) (d : n ≡ number_of (part s (at + length key) e)) where
-      pub answer_not : n ≡ Not → Bad ≡ field_at s at key most
-      answer_not f = sym (field_not s key at most e (sym a ∙ b) (sym c ∙ u) (sym d ∙ f))
-
-      pub answer_over : (v : ℕ) → n ≡ Is v → most < v → Bad ≡ field_at s at key most
-      answer_over v f h = sym (field_over s key at most e (sym a ∙ b) (sym c ∙ u) v (sym d ∙ f) h)
-
-      pub answer_took : (v : ℕ) → n ≡ Is v → v ≤ most → Took v (e + 1) ≡ field_at s at key most
-      answer_took v f h = sym (field_took s key at most e (sym a ∙ b) (sym c ∙ u) v (sym d ∙ f) h)
-
-pub ruleset field_answers = (answer_never, answer_key, answer_not, answer_over, answer_took)
+        pub field_took : v ≤ most → took v (e + 1) ≡ field_at s at key most
+        unfolding field_at
+        field_took h = rw (← l, started, ← behind, ← n, le-ltb most v h)

@@ -11,15 +11,13 @@ use native.Mathlib.Decide.{dec_lt}
 use lib.ListN.{length, get_or, take, drop, length-append, length-drop, take-append-drop}
 use lib.Seq.{drop-cons, drop-drop, take-append_seam, drop-append_seam, get_or-drop}
 use lib.Dec.{ltb, eqb}
-use borrow.Author.Tests.{ltb-false, eq-eqb, ne_eqb, eqb-true, eqb-false}
-use Rattle.text.specs.Lines.{part, number_of, line_from, line_at, starts, field_at, on_line, on_num}
+use borrow.Author.Tests.{le-ltb, ltb-false, eq-eqb, ne_eqb, eqb-true, eqb-false}
+use Rattle.std.proofs.lemmas.Option.{none-some, same_Some}
+use Rattle.text.specs.declared.Entry.{Entry}
+use Rattle.std.specs.Prelude.{Option, Some, None, option_and_then}
+use Rattle.text.specs.Lines.{part, number_of, line_from, line_at, starts, took, field_at}
 use Rattle.text.specs.Decimal.{decimal, line_of}
-use Rattle.text.specs.declared.Num.{Num}
-use Rattle.text.specs.declared.Num.TheVariants.{Is, Not}
-use Rattle.text.specs.declared.Line.{Line}
-use Rattle.text.specs.declared.Line.TheVariants.{Ends, Never}
-use Rattle.text.specs.declared.Entry.TheVariants.{Took, Bad}
-use Rattle.text.proofs.Laws.{true_false, line_found, starts_part, field_took}
+use Rattle.text.proofs.Laws.{true_false, line_found, starts_part}
 use Rattle.text.proofs.Digits.{decimal_small, decimal_big, length_line, length_decimal}
 use Rattle.text.proofs.Numbers.{number_complete, number_sound}
 
@@ -57,7 +55,7 @@ plain_decimal (suc k) n h = go (dec_lt n 10) (λ g. plain_decimal k (n / 10) (om
 
 -- ---- a line's end
 
-line_complete : (xs r : List ℕ) (k p : ℕ) → plain xs ≡ true → length xs < k → line_from k p (xs ++ (10 ∷ r)) ≡ Ends (p + length xs)
+line_complete : (xs r : List ℕ) (k p : ℕ) → plain xs ≡ true → length xs < k → line_from k p (xs ++ (10 ∷ r)) ≡ Some (p + length xs)
 unfolding line_from
 line_complete xs r zero p h g = absurd (omega arith)
 line_complete [] r (suc k) p h g = rw add-zero
@@ -119,23 +117,22 @@ module _ (s key rest : List ℕ) (at v m : ℕ) (h : drop at s ≡ line_of key v
       rw (e, d) (take-append_seam (decimal v) (10 ∷ rest))
 
   -- A WRITTEN LINE IS READ BACK
-  pub field_complete : plain key ≡ true → length key ≤ 52 → v ≤ m → v < 4294967296 → field_at s at key m ≡ Took v (at + length (line_of key v))
+  pub field_complete : plain key ≡ true → length key ≤ 52 → v ≤ m → v < 4294967296 → field_at s at key m ≡ took v (at + length (line_of key v))
+  unfolding field_at
   field_complete pk lk hm hv =
       let d = length_decimal v hv in
       let w = length_line key v in
       let l : length (key ++ decimal v) ≡ length key + length (decimal v) = length-append key (decimal v) in
-      let q : line_at s at ≡ Ends (at + length (key ++ decimal v)) = rw as_line (line_complete (key ++ decimal v) rest 64 at (plain_append key (decimal v) pk (plain_decimal (suc v) v (omega arith))) (omega arith)) in
-      field_took s key at m (at + length (key ++ decimal v)) q (rw as_part (starts_complete key (decimal v))) v (rw as_number (number_complete v hv)) hm
-      ∙ ap (λ (n : ℕ). Took v n) (omega arith)
+      let q : line_at s at ≡ Some (at + length (key ++ decimal v)) = rw as_line (line_complete (key ++ decimal v) rest 64 at (plain_append key (decimal v) pk (plain_decimal (suc v) v (omega arith))) (omega arith)) in
+      let b : starts key (part s at (at + length (key ++ decimal v))) ≡ true = rw as_part (starts_complete key (decimal v)) in
+      let n : number_of (part s (at + length key) (at + length (key ++ decimal v))) ≡ Some v = rw as_number (number_complete v hv) in
+      rw (q, b, n, le-ltb m v hm) (ap (λ (e : ℕ). took v e) (omega arith))
 
-bad_took : {A : Type 0} (v q : ℕ) → Bad ≡ Took v q → A
-bad_took v q e = let z : ◌≡◌ {A = ℕ} 0 1 = cc in absurd (omega arith)
+took_v : (v q w r : ℕ) → took v q ≡ took w r → v ≡ w
+took_v v q w r e = ap (λ (t : Entry). t.value) (same_Some _ _ e)
 
-took_v : (v q w r : ℕ) → Took v q ≡ Took w r → v ≡ w
-took_v v q w r e = cc
-
-took_q : (v q w r : ℕ) → Took v q ≡ Took w r → q ≡ r
-took_q v q w r e = cc
+took_q : (v q w r : ℕ) → took v q ≡ took w r → q ≡ r
+took_q v q w r e = ap (λ (t : Entry). t.next) (same_Some _ _ e)
 
 pub record FieldRead (s key : List ℕ) (at m v q : ℕ) : Type 0 where
   pub text : drop at s ≡ line_of key v ++ drop q s
@@ -143,8 +140,8 @@ pub record FieldRead (s key : List ℕ) (at m v q : ℕ) : Type 0 where
   pub within : q ≤ length s
 
 module _ (s key : List ℕ) (at m v q : ℕ) where
-  last_go : (e w : ℕ) (b : Bool) → line_at s at ≡ Ends e → starts key (part s at e) ≡ true → number_of (part s (at + length key) e) ≡ Is w → ltb m w ≡ b → cond b Bad (Took w (e + 1)) ≡ Took v q → FieldRead s key at m v q
-  last_go e w true le st nu lt h = bad_took v q h
+  last_go : (e w : ℕ) (b : Bool) → line_at s at ≡ Some e → starts key (part s at e) ≡ true → number_of (part s (at + length key) e) ≡ Some w → ltb m w ≡ b → cond b None (took w (e + 1)) ≡ took v q → FieldRead s key at m v q
+  last_go e w true le st nu lt h = absurd (none-some _ h)
   last_go e w false le st nu lt h =
       let f = line_found (drop at s) 64 at e le in
       let f1 = f.past in
@@ -160,19 +157,19 @@ module _ (s key : List ℕ) (at m v q : ℕ) where
       let cut : drop (at + length key) s ≡ decimal w ++ (10 ∷ drop q s) = sym (take-append-drop (e - (at + length key)) (drop (at + length key) s)) ∙ rw (← (number_sound _ w nu).0, dr) in
       record { text = all ∙ rw (cut, ev) (sym (line_open key v (drop q s))); small = rw ev at (ltb-false m w lt); within = omega arith }
 
-  num_go : (e : ℕ) (w : Num) → line_at s at ≡ Ends e → starts key (part s at e) ≡ true → number_of (part s (at + length key) e) ≡ w → on_num w (λ x. cond (ltb m x) Bad (Took x (e + 1))) ≡ Took v q → FieldRead s key at m v q
-  num_go e (Is w) le st nu h = last_go e w (ltb m w) le st nu refl h
-  num_go e Not le st nu h = bad_took v q h
+  num_go : (e : ℕ) (w : Option ℕ) → line_at s at ≡ Some e → starts key (part s at e) ≡ true → number_of (part s (at + length key) e) ≡ w → option_and_then (λ x. cond (ltb m x) None (took x (e + 1))) w ≡ took v q → FieldRead s key at m v q
+  num_go e (Some w) le st nu h = last_go e w (ltb m w) le st nu refl h
+  num_go e None le st nu h = absurd (none-some _ h)
 
-  key_go : (e : ℕ) (t : Bool) → line_at s at ≡ Ends e → starts key (part s at e) ≡ t → cond t (on_num (number_of (part s (at + length key) e)) (λ x. cond (ltb m x) Bad (Took x (e + 1)))) Bad ≡ Took v q → FieldRead s key at m v q
+  key_go : (e : ℕ) (t : Bool) → line_at s at ≡ Some e → starts key (part s at e) ≡ t → cond t (option_and_then (λ x. cond (ltb m x) None (took x (e + 1))) (number_of (part s (at + length key) e))) None ≡ took v q → FieldRead s key at m v q
   key_go e true le st h = num_go e (number_of (part s (at + length key) e)) le st refl h
-  key_go e false le st h = bad_took v q h
+  key_go e false le st h = absurd (none-some _ h)
 
-  line_go : (l : Line) → line_at s at ≡ l → on_line l (λ e. cond (starts key (part s at e)) (on_num (number_of (part s (at + length key) e)) (λ x. cond (ltb m x) Bad (Took x (e + 1)))) Bad) ≡ Took v q → FieldRead s key at m v q
-  line_go (Ends e) le h = key_go e (starts key (part s at e)) le refl h
-  line_go Never le h = bad_took v q h
+  line_go : (l : Option ℕ) → line_at s at ≡ l → option_and_then (λ e. cond (starts key (part s at e)) (option_and_then (λ x. cond (ltb m x) None (took x (e + 1))) (number_of (part s (at + length key) e))) None) l ≡ took v q → FieldRead s key at m v q
+  line_go (Some e) le h = key_go e (starts key (part s at e)) le refl h
+  line_go None le h = absurd (none-some _ h)
 
   -- WHAT IS READ IS A WRITTEN LINE
-  pub field_sound : field_at s at key m ≡ Took v q → FieldRead s key at m v q
+  pub field_sound : field_at s at key m ≡ took v q → FieldRead s key at m v q
   unfolding field_at
   field_sound h = line_go (line_at s at) refl h

@@ -1,60 +1,32 @@
 -- `text::field` meets its contract: at each `return` the calls and tests that led there say which case of `field_at` holds.
 -- Assumes nothing.
-use native.Mathlib.Omega.{arith}
-use borrow.Author.Rules.{rules}
-use mathlib.Core.Path.{◌≡◌, sym}
-use mathlib.Core.Bool.{true}
-use mathlib.Core.List.{List}
-use Prim.Native.Nat.{ℕ, ◌+◌, ◌≤◌, ◌<◌}
-use lib.ListN.{length}
-use Rattle.text.specs.Lines.{line_at, part, starts}
-use Rattle.text.specs.declared.Line.TheVariants.{Ends}
-use Rattle.text.proofs.Laws.{line_within, starts_part, field_answers}
+use Rattle.std.proofs.Common.{rules, arith, ◌∙◌}
+use Rattle.text.proofs.Laws.{line_within, field_never, field_key, field_not, field_over, field_took}
 use Rattle.text.proofs.field.Goals as goal
 
--- the line ends at or after its start, and within the text
-within : (s : List ℕ) (at e : ℕ) → Ends e ≡ line_at s at → (at ≤ e) × (e < length s)
-within s at e h = line_within s at e (sym h)
+pub returns-in_err-e : goal.returns-in_err-e
+returns-in_err-e c = search (rules, field_never)
 
--- the key is within the line
-keyed : (k s : List ℕ) (at e : ℕ) → Ends e ≡ line_at s at → true ≡ starts k (part s at e) → at + length k ≤ e
-keyed k s at e h u = starts_part k s at e (within s at e h).0 (sym u)
+pub slice_bounds-strip_prefix-count : goal.slice_bounds-strip_prefix-count
+slice_bounds-strip_prefix-count c = (line_within _ _ _ c.in_ok-e.ensures).0
 
-pub returns-in_default : goal.returns-in_default
-returns-in_default c = search (rules, field_answers)
+pub slice_bounds-strip_prefix-start : goal.slice_bounds-strip_prefix-start
+slice_bounds-strip_prefix-start c = (line_within _ _ _ c.in_ok-e.ensures).0
 
-pub slice_bounds-starts_with-count : goal.slice_bounds-starts_with-count
-slice_bounds-starts_with-count c = (within _ _ _ c.in-Ends.ensures).0
+pub slice_bounds-strip_prefix-end : goal.slice_bounds-strip_prefix-end
+slice_bounds-strip_prefix-end c = let w = line_within _ _ _ c.in_ok-e.ensures in omega arith
 
-pub slice_bounds-starts_with-start : goal.slice_bounds-starts_with-start
-slice_bounds-starts_with-start c = (within _ _ _ c.in-Ends.ensures).0
+pub returns-in_err-strip_prefix : goal.returns-in_err-strip_prefix
+returns-in_err-strip_prefix c = search (rules, field_key)
 
-pub slice_bounds-starts_with-end : goal.slice_bounds-starts_with-end
-slice_bounds-starts_with-end c = let w = within _ _ _ c.in-Ends.ensures in omega arith
+pub returns-in_err-value : goal.returns-in_err-value
+returns-in_err-value c = let p = c.in_ok-strip_prefix.ensures.cases in c.from_residual-in_err-value.ensures ∙ field_not _ _ _ _ _ c.in_ok-e.ensures p.0 p.1 c.in_err-value.ensures
 
-pub overflow_add-from : goal.overflow_add-from
-overflow_add-from c = let w = within _ _ _ c.in-Ends.ensures in let k = keyed c.args.key.now c.args.src.now _ _ c.in-Ends.ensures c.if-starts_with.ensures in omega arith
-
-pub slice_bounds-number-count : goal.slice_bounds-number-count
-slice_bounds-number-count c = keyed c.args.key.now c.args.src.now _ _ c.in-Ends.ensures c.if-starts_with.ensures
-
-pub slice_bounds-number-start : goal.slice_bounds-number-start
-slice_bounds-number-start c = keyed c.args.key.now c.args.src.now _ _ c.in-Ends.ensures c.if-starts_with.ensures
-
-pub slice_bounds-number-end : goal.slice_bounds-number-end
-slice_bounds-number-end c = let w = within _ _ _ c.in-Ends.ensures in omega arith
-
-pub returns-in_default-number : goal.returns-in_default-number
-returns-in_default-number c = search (rules, field_answers)
-
-pub returns-then-most-v : goal.returns-then-most-v
-returns-then-most-v c = search (rules, field_answers)
+pub returns-then-most-value : goal.returns-then-most-value
+returns-then-most-value c = let p = c.in_ok-strip_prefix.ensures.cases in field_over _ _ _ _ _ c.in_ok-e.ensures p.0 p.1 _ c.in_ok-value.ensures c.if-most-value.true
 
 pub overflow_add-result : goal.overflow_add-result
-overflow_add-result c = let w = within _ _ _ c.in-Ends.ensures in omega arith
+overflow_add-result c = let w = line_within _ _ _ c.in_ok-e.ensures in omega arith
 
-pub returns-else-most-v : goal.returns-else-most-v
-returns-else-most-v c = search (rules, field_answers)
-
-pub returns-else-starts_with : goal.returns-else-starts_with
-returns-else-starts_with c = search (rules, field_answers)
+pub returns : goal.returns
+returns c = let p = c.in_ok-strip_prefix.ensures.cases in field_took _ _ _ _ _ c.in_ok-e.ensures p.0 p.1 _ c.in_ok-value.ensures c.if-most-value.false

@@ -1,21 +1,16 @@
--- `text::line_end` meets its contract. The invariant: what is to be found from the start is what is to be found from `i` on.
--- Assumes nothing.
-use native.Mathlib.Omega.{arith}
-use mathlib.Core.Path.{refl, sym, ◌∙◌}
-use Rattle.text.proofs.Laws.{line_none, line_out, line_hit, line_miss}
+-- `text::line_end` meets its contract: the line ends where the first newline is behind its start. Assumes nothing.
+use Rattle.std.proofs.Common.{arith, rules, ◌∙◌, ◌+◌}
+use Rattle.text.proofs.Laws.{line_out, line_missing, line_ends, line_within}
 use Rattle.text.proofs.line_end.Goals as goal
 
-pub loop-left-init : goal.loop-left-init
-loop-left-init c = (refl, omega arith)
+pub returns-in_err-n : goal.returns-in_err-n
+returns-in_err-n c = c.from_residual-in_err-n.ensures ∙ line_missing _ _ c.in_ok-get.ensures.lookup.0.2 c.in_err-n.ensures
 
-pub returns-then-src-i : goal.returns-then-src-i
-returns-then-src-i c = sym (c.loop-left.invariant.0 ∙ line_out _ _ _ c.if-src-i.true)
-
-pub returns-then-src-i-eq10 : goal.returns-then-src-i-eq10
-returns-then-src-i-eq10 c = sym (c.loop-left.invariant.0 ∙ line_hit _ _ _ (omega arith) (omega arith) c.if-src-i-eq10.true)
-
-pub loop-left-preserved : goal.loop-left-preserved
-loop-left-preserved c = (c.loop-left.invariant.0 ∙ line_miss _ _ _ (omega arith) (omega arith) c.if-src-i-eq10.false, omega arith)
+pub overflow_add-result : goal.overflow_add-result
+overflow_add-result c = let e = line_within c.args.src.now c.args.at (c.args.at + c.in_ok-n.n) (line_ends _ _ c.in_ok-get.ensures.lookup.0.2 _ c.in_ok-n.ensures) in omega arith
 
 pub returns : goal.returns
-returns c = sym (c.loop-left.invariant.0 ∙ line_none _ _ _ (omega arith))
+returns c = line_ends _ _ c.in_ok-get.ensures.lookup.0.2 _ c.in_ok-n.ensures
+
+pub returns-in_err-get : goal.returns-in_err-get
+returns-in_err-get c = search (rules, line_out)

@@ -1,31 +1,39 @@
--- `text::number` meets its contract. The invariant is `NumberLeft`: the number from the start is the number from `i` on, read after `a`.
--- Assumes nothing.
-use native.Mathlib.Omega.{arith}
-use mathlib.Core.Path.{sym}
-use Rattle.text.proofs.Laws.{number_none, number_zero, number_answers}
-use borrow.Author.Rules.{rules}
+-- `text::number` meets its contract. The invariant is `NumberLeft`: the number from the start is the number from the next byte on, read after
+-- `n`. Assumes nothing.
+use Rattle.std.proofs.Common.{arith, rules, sym, ◌∙◌}
+use Rattle.text.proofs.Laws.{left_one, left_many, number_none, number_zero, number_bad, number_over, number_more, number_end}
 use Rattle.text.proofs.number.Goals as goal
 
-pub returns-then-text-eq0 : goal.returns-then-text-eq0
-returns-then-text-eq0 c = sym (number_none _ c.if-text-eq0.true)
+pub returns-then-is_empty : goal.returns-then-is_empty
+returns-then-is_empty c = sym (number_none _ (grind arith))
 
-pub returns-then-text-eq48 : goal.returns-then-text-eq48
-returns-then-text-eq48 c = sym (number_zero _ (omega arith) c.if-text-eq48.true)
+pub returns-in-48 : goal.returns-in-48
+returns-in-48 c = sym (search (rules, number_zero))
 
-pub loop-i-init : goal.loop-i-init
-loop-i-init c = search (rules, number_answers)
+pub loop-b-init : goal.loop-b-init
+loop-b-init c = search (rules, left_one, left_many)
 
-pub returns-then-b-lt48 : goal.returns-then-b-lt48
-returns-then-b-lt48 c = search (rules, number_answers)
+pub returns-then-not-is_ascii_digit : goal.returns-then-not-is_ascii_digit
+returns-then-not-is_ascii_digit c = number_bad c.loop-b.invariant c.loop-b-test.true c.if-not-is_ascii_digit.ensures.cases
 
-pub returns-then-b-gt57 : goal.returns-then-b-gt57
-returns-then-b-gt57 c = search (rules, number_answers)
+pub returns-in_err-checked_mul : goal.returns-in_err-checked_mul
+returns-in_err-checked_mul c =
+    let o = c.in_err-checked_mul.ensures in
+    c.from_residual.ensures ∙ number_over c.loop-b.invariant c.loop-b-test.true c.if-not-is_ascii_digit.ensures.cases (λ l. o (omega arith))
 
-pub returns-then-a-gt4294967295 : goal.returns-then-a-gt4294967295
-returns-then-a-gt4294967295 c = search (rules, number_answers)
+pub returns-in_err-n : goal.returns-in_err-n
+returns-in_err-n c =
+    let o = c.in_err-n.ensures in
+    let e = c.in_ok-checked_mul.ensures.1 in
+    let f = c.from.ensures in
+    c.from_residual-in_err-n.ensures ∙ number_over c.loop-b.invariant c.loop-b-test.true c.if-not-is_ascii_digit.ensures.cases (λ l. o (omega arith))
 
-pub loop-i-preserved : goal.loop-i-preserved
-loop-i-preserved c = search (rules, number_answers)
+pub loop-b-preserved : goal.loop-b-preserved
+loop-b-preserved c =
+    let o = c.in_ok-n.ensures in
+    let e = c.in_ok-checked_mul.ensures.1 in
+    let f = c.from.ensures in
+    number_more c.loop-b.invariant c.loop-b-test.true c.if-not-is_ascii_digit.ensures.cases c.in_ok-n.n (omega arith) (omega arith)
 
 pub returns : goal.returns
-returns c = search (rules, number_answers)
+returns c = number_end c.loop-b.invariant (omega arith)
