@@ -1,6 +1,7 @@
 -- Scripts and what they are read as, computed: a whole script, and lines that are bad. Assumes nothing.
 use mathlib.Core.Path.{◌≡◌, refl}
 use mathlib.Core.List.{List, [], ◌∷◌}
+use Rattle.std.specs.Prelude.{Some}
 use Rattle.text.specs.Bytes.{bytes}
 use Rattle.text.specs.Lines.{number_after, number_of, line_from, starts, field_at}
 use Rattle.text.specs.Decimal.{digits, decimal, line_of}
@@ -10,7 +11,6 @@ use Rattle.manager.specs.declared.Call.{Call}
 use Rattle.manager.specs.declared.Call.TheVariants.{CreateRegion, GetSegment, ReturnSegment, RegionInformation, Tick}
 use Rattle.script.specs.Reading.{find_row, key_at, numbers_from, read_call, read_from, read_all, whole}
 use Rattle.script.specs.Written.{write_fields, write, write_all}
-use mathlib.Core.Option.{some}
 
 -- the whole case
 abbrev whole_case : List Call
@@ -29,11 +29,11 @@ pub aligned : read_all (bytes "call=get\nid=1\nsize=65\nalign=256\nwait=0\ntask=
 unfolding read_all read_from read_call find_row key_at numbers_from field_at line_from starts number_of number_after
 aligned = refl
 
-pub aligned_before : read_all (bytes "call=get\nid=1\nalign=256\nsize=65\nwait=0\ntask=0\npriority=0\nticks=0\n") ≡ record { calls = []; bad = some 14 }
+pub aligned_before : read_all (bytes "call=get\nid=1\nalign=256\nsize=65\nwait=0\ntask=0\npriority=0\nticks=0\n") ≡ record { calls = []; bad = Some 14 }
 unfolding read_all read_from read_call find_row key_at numbers_from field_at line_from starts number_of number_after
 aligned_before = refl
 
-pub not_aligned : read_all (bytes "call=get\nid=1\nsize=65\nwait=0\ntask=0\npriority=0\nticks=0\n") ≡ record { calls = []; bad = some 22 }
+pub not_aligned : read_all (bytes "call=get\nid=1\nsize=65\nwait=0\ntask=0\npriority=0\nticks=0\n") ≡ record { calls = []; bad = Some 22 }
 unfolding read_all read_from read_call find_row key_at numbers_from field_at line_from starts number_of number_after
 not_aligned = refl
 
@@ -47,7 +47,7 @@ pub largest : read_all (bytes "call=info\nid=4294967295\n") ≡ whole (RegionInf
 unfolding read_all read_from read_call find_row key_at numbers_from field_at line_from starts number_of number_after
 largest = refl
 
-pub too_large : read_all (bytes "call=info\nid=4294967296\n") ≡ record { calls = []; bad = some 10 }
+pub too_large : read_all (bytes "call=info\nid=4294967296\n") ≡ record { calls = []; bad = Some 10 }
 unfolding read_all read_from read_call find_row key_at numbers_from field_at line_from starts number_of number_after
 too_large = refl
 
@@ -56,11 +56,11 @@ pub zero_alone : read_all (bytes "call=return\nid=0\naddress=0\n") ≡ whole (Re
 unfolding read_all read_from read_call find_row key_at numbers_from field_at line_from starts number_of number_after
 zero_alone = refl
 
-pub leading_zero : read_all (bytes "call=tick\ncall=info\nid=01\n") ≡ record { calls = Tick ∷ []; bad = some 20 }
+pub leading_zero : read_all (bytes "call=tick\ncall=info\nid=01\n") ≡ record { calls = Tick ∷ []; bad = Some 20 }
 unfolding read_all read_from read_call find_row key_at numbers_from field_at line_from starts number_of number_after
 leading_zero = refl
 
-pub no_digit : read_all (bytes "call=info\nid=\n") ≡ record { calls = []; bad = some 10 }
+pub no_digit : read_all (bytes "call=info\nid=\n") ≡ record { calls = []; bad = Some 10 }
 unfolding read_all read_from read_call find_row key_at numbers_from field_at line_from starts number_of number_after
 no_digit = refl
 
@@ -69,18 +69,18 @@ pub order_three : read_all (bytes "call=create-region\nname=1\nstart=4\nlength=1
 unfolding read_all read_from read_call find_row key_at numbers_from field_at line_from starts number_of number_after
 order_three = refl
 
-pub order_four : read_all (bytes "call=create-region\nname=1\nstart=4\nlength=1020\npage=64\norder=4\n") ≡ record { calls = []; bad = some 54 }
+pub order_four : read_all (bytes "call=create-region\nname=1\nstart=4\nlength=1020\npage=64\norder=4\n") ≡ record { calls = []; bad = Some 54 }
 unfolding read_all read_from read_call find_row key_at numbers_from field_at line_from starts number_of number_after
 order_four = refl
 
-pub other_key : read_all (bytes "call=return\naddress=0\nid=0\n") ≡ record { calls = []; bad = some 12 }
+pub other_key : read_all (bytes "call=return\naddress=0\nid=0\n") ≡ record { calls = []; bad = Some 12 }
 unfolding read_all read_from read_call find_row key_at numbers_from field_at line_from starts number_of number_after
 other_key = refl
 
-pub no_newline : read_all (bytes "call=tick") ≡ record { calls = []; bad = some 0 }
+pub no_newline : read_all (bytes "call=tick") ≡ record { calls = []; bad = Some 0 }
 unfolding read_all read_from read_call find_row key_at numbers_from field_at line_from starts number_of number_after
 no_newline = refl
 
-pub missing : read_all (bytes "call=tick\ncall=info\n") ≡ record { calls = Tick ∷ []; bad = some 20 }
+pub missing : read_all (bytes "call=tick\ncall=info\n") ≡ record { calls = Tick ∷ []; bad = Some 20 }
 unfolding read_all read_from read_call find_row key_at numbers_from field_at line_from starts number_of number_after
 missing = refl

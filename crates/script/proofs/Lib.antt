@@ -1,4 +1,4 @@
-pub mod Tables
+pub mod Computed
 pub mod Laws
 pub mod Rows
 pub mod WrittenCalls

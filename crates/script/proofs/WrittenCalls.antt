@@ -4,31 +4,31 @@ use mathlib.Core.Path.{◌≡◌, refl, sym, ◌∙◌, ap, subst}
 use Prim.Native.Nat.{ℕ, zero, suc, ◌+◌, ◌-◌, ◌≤◌, ◌<◌}
 use mathlib.Core.List.{List, [], ◌∷◌, ◌++◌, append_assoc, append-nil}
 use mathlib.Core.Bool.{Bool, true, false, cond}
-use mathlib.Core.Option.{Option, none, some}
 use native.Mathlib.Nat.{add-zero, add_assoc}
 use native.Mathlib.Omega.{arith}
 use lib.ListN.{length, get_or, drop, length-append, length-drop}
 use lib.Seq.{drop-drop, drop-append_seam, append_snoc}
 use lib.Dec.{leb, ltb, eqb}
 use borrow.Author.Tests.{leb-true, ltb-true, leb-false}
-use Rattle.text.specs.Lines.{starts}
+use Rattle.std.specs.Prelude.{Option, Some, None, Result, Ok}
+use Rattle.std.proofs.lemmas.Option.{same_Some}
+use Rattle.text.specs.Lines.{starts, took}
 use Rattle.text.specs.Decimal.{line_of}
 use Rattle.text.specs.declared.Entry.{Entry}
-use Rattle.text.specs.declared.Entry.TheVariants.{Took, Bad}
 use Rattle.text.proofs.Laws.{true_false, starts_fits}
 use Rattle.text.proofs.Digits.{length_line}
 use Rattle.text.proofs.Numbers.{digits_some}
 use Rattle.text.proofs.WrittenLines.{plain, starts_complete, starts_sound, field_complete, field_sound}
 use Rattle.manager.specs.declared.Call.{Call}
 use Rattle.script.specs.Table.{Key, Row, calls, no_row, row_of, arguments_of}
-use Rattle.script.specs.Reading.{find_row, key_at, Numbers, numbers, wrong, on_entry, numbers_from, on_numbers, on_row, read_call}
+use Rattle.script.specs.Reading.{find_row, key_at, Numbers, numbers, wrong, on_entry, numbers_from, on_numbers, on_row, found, bad_at, no_more, read_call}
+use Rattle.script.specs.declared.ReadCall.{ReadCall}
 use Rattle.script.specs.Written.{write_fields, write, Fit}
-use Rattle.script.specs.declared.ReadCall.TheVariants.{One, BadAt, End}
-use Rattle.script.proofs.Tables.{all_upto, both, all_upto_lem}
-use Rattle.script.proofs.Laws.{none_some, some_same, find_starts, read_row}
+use Rattle.script.proofs.Computed.{all_upto, both, all_upto_lem}
+use Rattle.script.proofs.Laws.{find_starts, placed, read_row}
 use Rattle.script.proofs.Rows.{Made, made, listed}
 
--- ---- the keys: none has a newline or more than 52 bytes, and every largest number is below 2 ^ 32
+-- ---- the keys: None has a newline or more than 52 bytes, and every largest number is below 2 ^ 32
 
 fine_key : Key → Bool
 fine_key k = cond (plain k.text) (cond (leb (length k.text) 52) (ltb k.most 4294967296) false) false
@@ -53,7 +53,7 @@ fine_row : (k : ℕ) → k < length calls → fine_keys (get_or calls k no_row).
 unfolding all_upto fine_keys fine_key plain
 fine_row k h = all_upto_lem (length calls) (λ j. fine_keys (get_or calls j no_row).keys) refl k h
 
--- ---- the lines: none starts another
+-- ---- the lines: None starts another
 
 -- the lists differ at a place that both have
 apart : List ℕ → List ℕ → Bool
@@ -85,7 +85,7 @@ pairwise : List Row → Bool
 pairwise [] = true
 pairwise (r ∷ rs) = cond (apart_all r.line rs) (pairwise rs) false
 
-find_read : (rs : List Row) (j : ℕ) (t : List ℕ) → pairwise rs ≡ true → j < length rs → find_row rs ((get_or rs j no_row).line ++ t) ≡ some (get_or rs j no_row)
+find_read : (rs : List Row) (j : ℕ) (t : List ℕ) → pairwise rs ≡ true → j < length rs → find_row rs ((get_or rs j no_row).line ++ t) ≡ Some (get_or rs j no_row)
 unfolding pairwise find_row
 find_read [] j t h l = absurd (omega arith)
 find_read (r ∷ rs) zero t h l = rw (starts_complete r.line t)
@@ -93,27 +93,9 @@ find_read (r ∷ rs) (suc j) t h l =
     let b = both (apart_all r.line rs) (pairwise rs) h in
     rw (apart_starts r.line (get_or rs j no_row).line t (apart_at r.line rs b.0 j (omega arith))) (find_read rs j t b.1 (omega arith))
 
-find_complete : (j : ℕ) (t : List ℕ) → j < length calls → find_row calls ((get_or calls j no_row).line ++ t) ≡ some (get_or calls j no_row)
+find_complete : (j : ℕ) (t : List ℕ) → j < length calls → find_row calls ((get_or calls j no_row).line ++ t) ≡ Some (get_or calls j no_row)
 unfolding pairwise apart_all apart
 find_complete j t h = find_read calls j t refl h
-
--- the row that is found is one of the table
-record Placed (rs : List Row) (r : Row) : Type 0 where
-  place : ℕ
-  known : place < length rs
-  is : get_or rs place no_row ≡ r
-
-placed_go : (q r : Row) (rs : List Row) (bs : List ℕ) (t : Bool) → cond t (some q) (find_row rs bs) ≡ some r → (find_row rs bs ≡ some r → Placed rs r) → Placed (q ∷ rs) r
-placed_go q r rs bs true h f = record { place = 0; known = omega arith; is = some_same q r h }
-placed_go q r rs bs false h f =
-    let p = f h in
-    let k = p.known in
-    record { place = suc p.place; known = omega arith; is = p.is }
-
-placed : (rs : List Row) (bs : List ℕ) (r : Row) → find_row rs bs ≡ some r → Placed rs r
-unfolding find_row
-placed [] bs r h = none_some r h
-placed (q ∷ rs) bs r h = placed_go q r rs bs (starts q.line bs) h (λ g. placed rs bs r g)
 
 -- ---- the lines of the keys
 
@@ -128,7 +110,7 @@ numbers_complete (k ∷ ks) (v ∷ vs) s acc rest p t f h =
     let i = fine_key_lem k b.0 in
     let m = i.small in
     let g : drop p s ≡ line ++ (write_fields ks vs ++ rest) = h ∙ append_assoc line (write_fields ks vs) rest in
-    let e : key_at s p k ≡ Took v (p + length line) = field_complete s k.text (write_fields ks vs ++ rest) p v k.most g i.unbroken i.short f.0 (omega (arith, f.0)) in
+    let e : key_at s p k ≡ took v (p + length line) = field_complete s k.text (write_fields ks vs ++ rest) p v k.most g i.unbroken i.short f.0 (omega (arith, f.0)) in
     let d : drop (p + length line) s ≡ write_fields ks vs ++ rest = sym (drop-drop (length line) p s) ∙ rw g (drop-append_seam line (write_fields ks vs ++ rest)) in
     rw e (numbers_complete ks vs s (acc ++ (v ∷ [])) rest (p + length line) b.1 f.1 d ∙ rw (append_snoc acc v vs, length-append, add_assoc))
 
@@ -148,13 +130,15 @@ numbers_list vs ws p q e = cc
 numbers_next : (vs ws : List ℕ) (p q : ℕ) → numbers vs p ≡ numbers ws q → p ≡ q
 numbers_next vs ws p q e = cc
 
-more_go : (k : Key) (ks : List Key) (s acc ws : List ℕ) (p q : ℕ) (g : Entry) →
+more_go : (k : Key) (ks : List Key) (s acc ws : List ℕ) (p q : ℕ) (g : Option Entry) →
     key_at s p k ≡ g →
     on_entry g (wrong p) (λ v r. numbers_from s (acc ++ (v ∷ [])) r ks) ≡ numbers ws q →
     ((v r : ℕ) → r ≤ length s → numbers_from s (acc ++ (v ∷ [])) r ks ≡ numbers ws q → NumbersRead s (acc ++ (v ∷ [])) ks ws r q) →
     NumbersRead s acc (k ∷ ks) ws p q
 unfolding write_fields Fit key_at
-more_go k ks s acc ws p q (Took v r) e h f =
+more_go k ks s acc ws p q (Some g) e h f =
+    let v = g.value in
+    let r = g.next in
     let a = field_sound s k.text p k.most v r e in
     let b = f v r a.within h in
     record {
@@ -164,7 +148,7 @@ more_go k ks s acc ws p q (Took v r) e h f =
       text = a.text ∙ rw b.text (sym (append_assoc (line_of k.text v) (write_fields ks b.vs) (drop q s)));
       within = b.within;
     }
-more_go k ks s acc ws p q Bad e h f = wrong_numbers p q ws h
+more_go k ks s acc ws p q None e h f = wrong_numbers p q ws h
 
 numbers_sound : (ks : List Key) (s acc ws : List ℕ) (p q : ℕ) → p ≤ length s → numbers_from s acc p ks ≡ numbers ws q → NumbersRead s acc ks ws p q
 unfolding numbers_from write_fields Fit
@@ -200,8 +184,11 @@ write_least c f =
 
 -- ---- a call
 
+same_Ok : {A E : Type 0} (x y : A) → ◌≡◌ {A = Result A E} (Ok x) (Ok y) → x ≡ y
+same_Ok x y e = cc
+
 -- A WRITTEN CALL IS READ BACK
-pub read_complete : (s rest : List ℕ) (at : ℕ) (c : Call) → Fit (row_of c).keys (arguments_of c) → drop at s ≡ write c ++ rest → read_call s at ≡ One c (row_of c).six_values (at + length (write c))
+pub read_complete : (s rest : List ℕ) (at : ℕ) (c : Call) → Fit (row_of c).keys (arguments_of c) → drop at s ≡ write c ++ rest → read_call s at ≡ found c (row_of c).six_values (at + length (write c))
 unfolding write
 read_complete s rest at c f h =
     let line = (row_of c).line in
@@ -211,15 +198,15 @@ read_complete s rest at c f h =
     let w = write_least c f in
     let n : length (drop at s) ≡ length (line ++ fields) + length rest = ap (λ (x : List ℕ). length x) h ∙ length-append (line ++ fields) rest in
     let i : at < length s = omega (arith, length-drop at s) in
-    let found : find_row calls (drop at s) ≡ some (row_of c) = rw g (subst (λ (r : Row). find_row calls (r.line ++ (fields ++ rest)) ≡ some r) l.is (find_complete l.place (fields ++ rest) l.known)) in
+    let there : find_row calls (drop at s) ≡ Some (row_of c) = rw g (subst (λ (r : Row). find_row calls (r.line ++ (fields ++ rest)) ≡ Some r) l.is (find_complete l.place (fields ++ rest) l.known)) in
     let fine : fine_keys (row_of c).keys ≡ true = subst (λ (r : Row). fine_keys r.keys ≡ true) l.is (fine_row l.place l.known) in
     let d : drop (at + length line) s ≡ fields ++ rest = sym (drop-drop (length line) at s) ∙ rw g (drop-append_seam line (fields ++ rest)) in
     let e : numbers_from s [] (at + length line) (row_of c).keys ≡ numbers (arguments_of c) (at + length line + length fields) = numbers_complete (row_of c).keys (arguments_of c) s [] rest (at + length line) fine f d in
     read_row s at i
-    ∙ ap (λ (o : Option Row). on_row o s at) found
+    ∙ ap (λ (o : Option Row). on_row o s at) there
     ∙ ap (λ (x : Numbers). on_numbers x (row_of c)) e
-    ∙ ap (λ (x : Call). One x (row_of c).six_values (at + length line + length fields)) l.remade
-    ∙ ap (λ (x : ℕ). One c (row_of c).six_values x) (omega (arith, length-append line fields))
+    ∙ ap (λ (x : Call). found x (row_of c).six_values (at + length line + length fields)) l.remade
+    ∙ ap (λ (x : ℕ). found c (row_of c).six_values x) (omega (arith, length-append line fields))
 
 pub record CallRead (s : List ℕ) (at : ℕ) (c : Call) (six : Bool) (q : ℕ) : Type 0 where
   pub values : six ≡ (row_of c).six_values
@@ -228,10 +215,10 @@ pub record CallRead (s : List ℕ) (at : ℕ) (c : Call) (six : Bool) (q : ℕ) 
   pub before : at < length s
   pub within : q ≤ length s
 
-end_one : {A : Type 0} (c : Call) (six : Bool) (q : ℕ) → End ≡ One c six q → A
+end_one : {A : Type 0} (c : Call) (six : Bool) (q : ℕ) → no_more ≡ found c six q → A
 end_one c six q e = let z : ◌≡◌ {A = ℕ} 0 1 = cc in absurd (omega arith)
 
-bad_one : {A : Type 0} (p : ℕ) (c : Call) (six : Bool) (q : ℕ) → BadAt p ≡ One c six q → A
+bad_one : {A : Type 0} (p : ℕ) (c : Call) (six : Bool) (q : ℕ) → bad_at p ≡ found c six q → A
 bad_one p c six q e = let z : ◌≡◌ {A = ℕ} 0 1 = cc in absurd (omega arith)
 
 record SameOne (b c : Call) (u t : Bool) (p q : ℕ) : Type 0 where
@@ -239,11 +226,13 @@ record SameOne (b c : Call) (u t : Bool) (p q : ℕ) : Type 0 where
   six : u ≡ t
   next : p ≡ q
 
-same_one : (b c : Call) (u t : Bool) (p q : ℕ) → One b u p ≡ One c t q → SameOne b c u t p q
-same_one b c u t p q e = record { call = cc; six = cc; next = cc }
+same_one : (b c : Call) (u t : Bool) (p q : ℕ) → found b u p ≡ found c t q → SameOne b c u t p q
+same_one b c u t p q e =
+    let r = same_Some _ _ (same_Ok _ _ e) in
+    record { call = ap (λ (x : ReadCall). x.call) r; six = ap (λ (x : ReadCall). x.six_values) r; next = ap (λ (x : ReadCall). x.next) r }
 
 module _ (s : List ℕ) (at : ℕ) (c : Call) (six : Bool) (q : ℕ) (i : at < length s) where
-  numbers_go : (r : Row) (n : Numbers) → find_row calls (drop at s) ≡ some r → numbers_from s [] (at + length r.line) r.keys ≡ n → on_numbers n r ≡ One c six q → CallRead s at c six q
+  numbers_go : (r : Row) (n : Numbers) → find_row calls (drop at s) ≡ Some r → numbers_from s [] (at + length r.line) r.keys ≡ n → on_numbers n r ≡ found c six q → CallRead s at c six q
   unfolding write
   numbers_go r (numbers ws p) o e h =
       let st = find_starts calls (drop at s) r o in
@@ -270,16 +259,16 @@ module _ (s : List ℕ) (at : ℕ) (c : Call) (six : Bool) (q : ℕ) (i : at < l
       }
   numbers_go r (wrong p) o e h = bad_one p c six q h
 
-  row_go : (o : Option Row) → find_row calls (drop at s) ≡ o → on_row o s at ≡ One c six q → CallRead s at c six q
-  row_go (some r) e h = numbers_go r (numbers_from s [] (at + length r.line) r.keys) e refl h
-  row_go none e h = bad_one at c six q h
+  row_go : (o : Option Row) → find_row calls (drop at s) ≡ o → on_row o s at ≡ found c six q → CallRead s at c six q
+  row_go (Some r) e h = numbers_go r (numbers_from s [] (at + length r.line) r.keys) e refl h
+  row_go None e h = bad_one at c six q h
 
-sound_go : (s : List ℕ) (at : ℕ) (c : Call) (six : Bool) (q : ℕ) (t : Bool) → leb (length s) at ≡ t → cond t End (on_row (find_row calls (drop at s)) s at) ≡ One c six q → CallRead s at c six q
+sound_go : (s : List ℕ) (at : ℕ) (c : Call) (six : Bool) (q : ℕ) (t : Bool) → leb (length s) at ≡ t → cond t no_more (on_row (find_row calls (drop at s)) s at) ≡ found c six q → CallRead s at c six q
 sound_go s at c six q true e h = end_one c six q h
 sound_go s at c six q false e h = row_go s at c six q (leb-false (length s) at e) (find_row calls (drop at s)) refl h
 
 -- WHAT IS READ IS A WRITTEN CALL
-pub read_sound : (s : List ℕ) (at : ℕ) (c : Call) (six : Bool) (q : ℕ) → read_call s at ≡ One c six q → CallRead s at c six q
+pub read_sound : (s : List ℕ) (at : ℕ) (c : Call) (six : Bool) (q : ℕ) → read_call s at ≡ found c six q → CallRead s at c six q
 unfolding read_call
 read_sound s at c six q h = sound_go s at c six q (leb (length s) at) refl h
 
@@ -289,7 +278,7 @@ pub record Advances (s : List ℕ) (at q : ℕ) (n : ℕ) : Type 0 where
   pub far : at + 10 ≤ q
   pub within : q ≤ length s
 
-pub read_next : (s : List ℕ) (at : ℕ) (c : Call) (six : Bool) (q : ℕ) → read_call s at ≡ One c six q → Advances s at q (length (write c))
+pub read_next : (s : List ℕ) (at : ℕ) (c : Call) (six : Bool) (q : ℕ) → read_call s at ≡ found c six q → Advances s at q (length (write c))
 read_next s at c six q h =
     let r = read_sound s at c six q h in
     let b = r.before in

@@ -1,3 +1,4 @@
 pub mod Table
+pub mod Shown
 pub mod Reading
 pub mod Written

@@ -3,103 +3,64 @@
 
 mod table;
 
-ghost use Rattle.std.specs.Prelude.{◌≡◌, [], ◌≤◌, ◌<◌, length, get_or, drop};
-ghost use Rattle.std.proofs.Math.ListN.{get_elem?};
-ghost use Rattle.text.specs.Lines.{starts};
-ghost use Rattle.script.specs.Table.{keys, calls, no_key, no_row};
-ghost use Rattle.script.specs.Reading.{key_at, find_row, numbers_from, fields_of, read_call};
+ghost use Rattle.std.specs.Prelude.{◌≡◌, [], ◌≤◌, length, map, option_map, option_copied, eqb};
+ghost use Rattle.std.specs.List.{find, starts_with};
+ghost use Rattle.script.specs.Table.{calls};
+ghost use Rattle.script.specs.Shown.{shown, key_shown};
+ghost use Rattle.script.specs.Reading.{find_row, numbers_from, fields_of, read_call};
 
 use manager::Call;
-use text::{Entry, field, starts_with};
+use table::{Key, Row, rows};
+use text::field;
 
-// What reading at a place finds: a call, whether its answer has six values, and where the next line starts; where the first bad or missing
-// line starts; nothing left.
+// A call that was read: whether its answer has six values, and where the next line starts.
 #[derive(Clone, Copy)]
-pub enum ReadCall {
-    One(Call, bool, usize),
-    BadAt(usize),
-    End,
+pub struct ReadCall {
+    pub call: Call,
+    pub six_values: bool,
+    pub next: usize,
 }
 
-// What the lines of a call's keys are: all there, and where the next line starts; or where the first bad one starts.
-#[derive(Clone, Copy)]
-enum Fields {
-    All(usize),
-    Wrong(usize),
+// Where the first bad or missing line starts.
+#[derive(Clone, Copy, Debug, PartialEq, Eq)]
+pub struct BadLine {
+    pub at: usize,
 }
 
-// The line of key number k.
-fn key_line(src: &[u8], at: usize, k: usize) -> Entry
-    requires { k < length keys }
-    ensures { result ≡ key_at src.now at (get_or keys k no_key) }
+// The first of the rows whose line the bytes start with.
+fn find_row<'a>(rows: &'a [Row], bytes: &[u8]) -> Option<&'a Row>
+    ensures { option_copied result ≡ find (λ r. starts_with eqb bytes.now r.line.now) rows.now }
 {
-    let a = table::KEY_FROM[k];
-    let e = table::KEY_FROM[k + 1];
-    field(src, at, &table::KEY_TEXT[a..e], table::MOST[k])
+    rows.iter().find(|row| bytes.starts_with(row.line))
 }
 
-// Whether the line that names call number k is at `at`.
-fn is_named(src: &[u8], at: usize, k: usize) -> bool
-    requires at_in_bounds { at ≤ length src.now }
-    requires k_in_bounds { k < length calls }
-    ensures { result ≡ starts (get_or calls k no_row).line (drop at src.now) }
+// The numbers of the lines of the keys, from `at` on, put at the start of out; and where the next line starts.
+fn read_fields(src: &[u8], at: usize, keys: &[Key], out: &mut [u32; 8]) -> Result<usize, BadLine>
+    requires { length keys.now ≤ 8 }
+    ensures { fields_of result out.new (length keys.now) ≡ numbers_from src.now [] at (map key_shown keys.now) }
 {
-    let a = table::LINE_FROM[k];
-    let e = table::LINE_FROM[k + 1];
-    starts_with(&src[at..], &table::LINE_TEXT[a..e])
-}
-
-// The number of the call whose line is at `at`, or how many calls there are.
-fn call_at(src: &[u8], at: usize) -> usize
-    requires { at ≤ length src.now }
-    ensures { find_row calls (drop at src.now) ≡ get_elem? calls result }
-{
-    let mut k: usize = 0;
-    while k < table::CALLS {
-        if is_named(src, at, k) {
-            return k;
-        }
-        k += 1;
+    let mut next = at;
+    for (i, key) in keys.iter().enumerate() {
+        let entry = field(src, next, key.text, key.most).ok_or(BadLine { at: next })?;
+        out[i] = entry.value;
+        next = entry.next;
     }
-    k
+    Ok(next)
 }
 
-// The numbers of the lines from `at` on, by the keys of call number k, put at the start of out.
-fn read_fields(src: &[u8], at: usize, k: usize, out: &mut [u32]) -> Fields
-    requires k_in_bounds { k < length calls }
-    requires in_bounds { 8 ≤ length out.old }
-    ensures { fields_of result out.new (length (get_or calls k no_row).keys) ≡ numbers_from src.now [] at (get_or calls k no_row).keys }
-{
-    let from = table::SEQUENCE_FROM[k];
-    let count = table::SEQUENCE_FROM[k + 1] - from;
-    let mut p = at;
-    let mut i: usize = 0;
-    while i < count {
-        let Entry::Took { value: v, next: q } = key_line(src, p, table::SEQUENCE[from + i]) else {
-            return Fields::Wrong(p);
-        };
-        out[i] = v;
-        p = q;
-        i += 1;
-    }
-    Fields::All(p)
-}
-
-// The call at `at`.
-pub fn read_call(src: &[u8], at: usize) -> ReadCall
+// The call at `at`, or none at the end.
+pub fn read_call(src: &[u8], at: usize) -> Result<Option<ReadCall>, BadLine>
     ensures { result ≡ read_call src.now at }
 {
     if src.len() <= at {
-        return ReadCall::End;
+        return Ok(None);
     }
-    let k = call_at(src, at);
-    if table::CALLS <= k {
-        return ReadCall::BadAt(at);
-    }
-    let from = at + (table::LINE_FROM[k + 1] - table::LINE_FROM[k]);
+    let row = find_row(rows(), &src[at..]).ok_or(BadLine { at })?;
     let mut v = [0u32; 8];
-    match read_fields(src, from, k, &mut v) {
-        Fields::All(next) => ReadCall::One(table::call_of(k, &v), table::SIX_VALUES[k], next),
-        Fields::Wrong(p) => ReadCall::BadAt(p),
-    }
+    let next = read_fields(src, at + row.line.len(), row.keys, &mut v)?;
+    Ok(Some(ReadCall {
+        call: row.directive.call(&v),
+        six_values: row.six_values,
+        next,
+    }))
 }

@@ -1,58 +1,263 @@
-// The tables of scripts, rule 15.2. Each text is held with those of the others, one after another: text k is from place k of the
-// places to place k + 1. The numbers of a call's keys are held the same way. A new call is written here alone: its line, its keys, whether
-// its answer has six values, and how it is made.
-ghost use Rattle.std.specs.Prelude.{◌≡◌, ◌≤◌, ◌<◌, length, get_or};
-ghost use Rattle.script.specs.Table.{calls, no_row, order_of, wait_of};
+// The tables of scripts, rule 15.2. A new call is written here alone: its line, its keys, whether its answer has six values, and how it is
+// made.
+ghost use Rattle.std.specs.Prelude.{◌≡◌, map};
+ghost use Rattle.script.specs.Shown.{row_by, shown};
+ghost use Rattle.script.specs.Table.{calls, order_of, wait_of, create_region_row, get_segment_row};
 
 use manager::{Call, Order, Wait};
 
-// The keys, and the largest number of each.
-pub(crate) const KEY_TEXT: [u8; 76] =
-    *b"name=start=length=page=order=id=size=align=wait=task=priority=ticks=address=";
+// A key, and its largest number.
+pub(crate) struct Key {
+    pub(crate) text: &'static [u8],
+    pub(crate) most: u32,
+}
 
-pub(crate) const KEY_FROM: [usize; 14] = [0, 5, 11, 18, 23, 29, 32, 37, 43, 48, 53, 62, 68, 76];
+const NAME: Key = Key {
+    text: b"name=",
+    most: u32::MAX,
+};
 
-pub(crate) const MOST: [u32; 13] = [
-    4294967295, 4294967295, 4294967295, 4294967295, 3, 4294967295, 4294967295, 4294967295, 1,
-    4294967295, 4294967295, 4294967295, 4294967295,
+const START: Key = Key {
+    text: b"start=",
+    most: u32::MAX,
+};
+
+const LENGTH: Key = Key {
+    text: b"length=",
+    most: u32::MAX,
+};
+
+const PAGE: Key = Key {
+    text: b"page=",
+    most: u32::MAX,
+};
+
+const ORDER: Key = Key {
+    text: b"order=",
+    most: 3,
+};
+
+const ID: Key = Key {
+    text: b"id=",
+    most: u32::MAX,
+};
+
+const SIZE: Key = Key {
+    text: b"size=",
+    most: u32::MAX,
+};
+
+const ALIGN: Key = Key {
+    text: b"align=",
+    most: u32::MAX,
+};
+
+const WAIT: Key = Key {
+    text: b"wait=",
+    most: 1,
+};
+
+const TASK: Key = Key {
+    text: b"task=",
+    most: u32::MAX,
+};
+
+const PRIORITY: Key = Key {
+    text: b"priority=",
+    most: u32::MAX,
+};
+
+const TICKS: Key = Key {
+    text: b"ticks=",
+    most: u32::MAX,
+};
+
+const ADDRESS: Key = Key {
+    text: b"address=",
+    most: u32::MAX,
+};
+
+// A call: the line that names it, its keys, whether its answer has six values, and how it is made.
+pub(crate) struct Row {
+    pub(crate) line: &'static [u8],
+    pub(crate) keys: &'static [Key],
+    pub(crate) six_values: bool,
+    pub(crate) directive: Directive,
+}
+
+const ROWS: [Row; 14] = [
+    Row {
+        line: b"call=create-region\n",
+        keys: &[NAME, START, LENGTH, PAGE, ORDER],
+        six_values: false,
+        directive: Directive::CreateRegion,
+    },
+    Row {
+        line: b"call=create-partition\n",
+        keys: &[NAME, START, LENGTH, SIZE],
+        six_values: false,
+        directive: Directive::CreatePartition,
+    },
+    Row {
+        line: b"call=ident-region\n",
+        keys: &[NAME],
+        six_values: false,
+        directive: Directive::IdentRegion,
+    },
+    Row {
+        line: b"call=ident-partition\n",
+        keys: &[NAME],
+        six_values: false,
+        directive: Directive::IdentPartition,
+    },
+    Row {
+        line: b"call=delete-region\n",
+        keys: &[ID],
+        six_values: false,
+        directive: Directive::DeleteRegion,
+    },
+    Row {
+        line: b"call=delete-partition\n",
+        keys: &[ID],
+        six_values: false,
+        directive: Directive::DeletePartition,
+    },
+    Row {
+        line: b"call=info\n",
+        keys: &[ID],
+        six_values: true,
+        directive: Directive::RegionInformation,
+    },
+    Row {
+        line: b"call=get-buffer\n",
+        keys: &[ID],
+        six_values: false,
+        directive: Directive::GetBuffer,
+    },
+    Row {
+        line: b"call=get\n",
+        keys: &[ID, SIZE, ALIGN, WAIT, TASK, PRIORITY, TICKS],
+        six_values: false,
+        directive: Directive::GetSegment,
+    },
+    Row {
+        line: b"call=return\n",
+        keys: &[ID, ADDRESS],
+        six_values: false,
+        directive: Directive::ReturnSegment,
+    },
+    Row {
+        line: b"call=size\n",
+        keys: &[ID, ADDRESS],
+        six_values: false,
+        directive: Directive::SegmentSize,
+    },
+    Row {
+        line: b"call=return-buffer\n",
+        keys: &[ID, ADDRESS],
+        six_values: false,
+        directive: Directive::ReturnBuffer,
+    },
+    Row {
+        line: b"call=resize\n",
+        keys: &[ID, ADDRESS, SIZE],
+        six_values: false,
+        directive: Directive::ResizeSegment,
+    },
+    Row {
+        line: b"call=tick\n",
+        keys: &[],
+        six_values: false,
+        directive: Directive::Tick,
+    },
 ];
 
-// The lines that name the calls, whether the answer of each has six values, and the keys of each.
-pub(crate) const CALLS: usize = 14;
+// The calls of rule 15.2.
+pub(crate) fn rows() -> &'static [Row]
+    ensures { map shown result.now ≡ calls }
+{
+    &ROWS
+}
 
-pub(crate) const LINE_TEXT: [u8; 219] = *b"\
-    call=create-region\n\
-    call=create-partition\n\
-    call=ident-region\n\
-    call=ident-partition\n\
-    call=delete-region\n\
-    call=delete-partition\n\
-    call=info\n\
-    call=get-buffer\n\
-    call=get\n\
-    call=return\n\
-    call=size\n\
-    call=return-buffer\n\
-    call=resize\n\
-    call=tick\n\
-    ";
+#[derive(Clone, Copy)]
+pub(crate) enum Directive {
+    CreateRegion,
+    CreatePartition,
+    IdentRegion,
+    IdentPartition,
+    DeleteRegion,
+    DeletePartition,
+    RegionInformation,
+    GetBuffer,
+    GetSegment,
+    ReturnSegment,
+    SegmentSize,
+    ReturnBuffer,
+    ResizeSegment,
+    Tick,
+}
 
-pub(crate) const LINE_FROM: [usize; 15] = [
-    0, 19, 41, 59, 80, 99, 121, 131, 147, 156, 168, 178, 197, 209, 219,
-];
+impl Directive {
+    // Its call with the numbers v of its keys.
+    pub(crate) fn call(self, v: &[u32; 8]) -> Call
+        ensures { result ≡ (row_by self).call v.now }
+    {
+        let id = v[0];
+        let name = v[0];
+        let address = v[1];
+        match self {
+            Directive::CreateRegion => create_region(v),
+            Directive::CreatePartition => Call::CreatePartition {
+                name,
+                start: v[1],
+                length: v[2],
+                size: v[3],
+            },
+            Directive::IdentRegion => Call::IdentRegion { name },
+            Directive::IdentPartition => Call::IdentPartition { name },
+            Directive::DeleteRegion => Call::DeleteRegion { id },
+            Directive::DeletePartition => Call::DeletePartition { id },
+            Directive::RegionInformation => Call::RegionInformation { id },
+            Directive::GetBuffer => Call::GetBuffer { id },
+            Directive::GetSegment => get_segment(v),
+            Directive::ReturnSegment => Call::ReturnSegment { id, address },
+            Directive::SegmentSize => Call::SegmentSize { id, address },
+            Directive::ReturnBuffer => Call::ReturnBuffer { id, address },
+            Directive::ResizeSegment => Call::ResizeSegment {
+                id,
+                address,
+                size: v[2],
+            },
+            Directive::Tick => Call::Tick,
+        }
+    }
+}
 
-pub(crate) const SIX_VALUES: [bool; CALLS] = [
-    false, false, false, false, false, false, true, false, false, false, false, false, false, false,
-];
+fn create_region(v: &[u32; 8]) -> Call
+    ensures { result ≡ create_region_row.call v.now }
+{
+    Call::CreateRegion {
+        name: v[0],
+        start: v[1],
+        length: v[2],
+        page: v[3],
+        order: order_of(v[4]),
+    }
+}
 
-pub(crate) const SEQUENCE: [usize; 31] = [
-    0, 1, 2, 3, 4, 0, 1, 2, 6, 0, 0, 5, 5, 5, 5, 5, 6, 7, 8, 9, 10, 11, 5, 12, 5, 12, 5, 12, 5, 12,
-    6,
-];
-
-pub(crate) const SEQUENCE_FROM: [usize; 15] = [
-    0, 5, 9, 10, 11, 12, 13, 14, 15, 22, 24, 26, 28, 31, 31,
-];
+fn get_segment(v: &[u32; 8]) -> Call
+    ensures { result ≡ get_segment_row.call v.now }
+{
+    Call::GetSegment {
+        id: v[0],
+        size: v[1],
+        alignment: v[2],
+        wait: wait_of(v[3]),
+        task: v[4],
+        priority: v[5],
+        ticks: v[6],
+    }
+}
 
 fn order_of(n: u32) -> Order
     ensures { result ≡ order_of n }
@@ -71,70 +276,5 @@ fn wait_of(n: u32) -> Wait
     match n {
         0 => Wait::No,
         _ => Wait::Yes,
-    }
-}
-
-// The calls with numbers from 7 on: those that get, return and resize memory, and the clock tick.
-fn memory_call(k: usize, v: &[u32; 8]) -> Call
-    requires le_k { 7 ≤ k }
-    requires k_in_bounds { k < length calls }
-    ensures { result ≡ (get_or calls k no_row).call v.now }
-{
-    let id = v[0];
-    let address = v[1];
-    match k {
-        7 => Call::GetBuffer { id },
-        8 => Call::GetSegment {
-            id,
-            size: v[1],
-            alignment: v[2],
-            wait: wait_of(v[3]),
-            task: v[4],
-            priority: v[5],
-            ticks: v[6],
-        },
-        9 => Call::ReturnSegment { id, address },
-        10 => Call::SegmentSize { id, address },
-        11 => Call::ReturnBuffer { id, address },
-        12 => Call::ResizeSegment {
-            id,
-            address,
-            size: v[2],
-        },
-        _ => Call::Tick,
-    }
-}
-
-// Call number k with the numbers v.
-pub(crate) fn call_of(k: usize, v: &[u32; 8]) -> Call
-    requires { k < length calls }
-    ensures { result ≡ (get_or calls k no_row).call v.now }
-{
-    if 7 <= k {
-        return memory_call(k, v);
-    }
-    let id = v[0];
-    let name = v[0];
-    let start = v[1];
-    let length = v[2];
-    match k {
-        0 => Call::CreateRegion {
-            name,
-            start,
-            length,
-            page: v[3],
-            order: order_of(v[4]),
-        },
-        1 => Call::CreatePartition {
-            name,
-            start,
-            length,
-            size: v[3],
-        },
-        2 => Call::IdentRegion { name },
-        3 => Call::IdentPartition { name },
-        4 => Call::DeleteRegion { id },
-        5 => Call::DeletePartition { id },
-        _ => Call::RegionInformation { id },
     }
 }

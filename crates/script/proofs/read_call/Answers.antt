@@ -1,24 +1,38 @@
 -- `script::read_call` meets its contract: each `return` is a way through `read_call`. Assumes nothing.
-use native.Mathlib.Omega.{arith}
-use borrow.Author.Rules.{rules}
-use Rattle.script.proofs.Tables.{line_held}
-use Rattle.script.proofs.Laws.{call_answers, fields_within}
+use Rattle.std.proofs.Common.{arith, rules, sym, ◌∙◌, ◌≡◌, ap, refl, option_copied}
+use Rattle.std.proofs.lemmas.Result.{err_from_is_err_and}
+use Rattle.script.proofs.Laws.{read_end, answers_none, row_fits, row_few, answers_wrong, answers_call}
 use Rattle.script.proofs.read_call.Goals as goal
 
 pub returns-then-src-at : goal.returns-then-src-at
-returns-then-src-at c = search (rules, call_answers)
+returns-then-src-at c = sym (read_end _ _ c.if-src-at.true)
 
-pub returns-then-k-ge-CALLS : goal.returns-then-k-ge-CALLS
-returns-then-k-ge-CALLS c = search (rules, call_answers)
+pub returns-in_err-row : goal.returns-in_err-row
+returns-in_err-row c =
+    let p = err_from_is_err_and c.from_residual.result c.from_residual.ensures.1 in
+    let z = c.in_err-row.ensures in
+    let b : c.in_err-row.field-0.0.at ≡ c.args.at = grind arith in
+    rw (p.1, p.2, b) (answers_none _ _ c.if-src-at.false _ c.rows.ensures _ refl (sym (ap option_copied z.ok_part) ∙ c.find_row.ensures))
 
-pub overflow_sub-from : goal.overflow_sub-from
-overflow_sub-from c = (line_held _ c.if-k-ge-CALLS.false).order
+pub overflow_add-at : goal.overflow_add-at
+overflow_add-at c =
+    let z = c.in_ok-row.ensures in
+    let f = row_fits _ _ c.if-src-at.false _ c.rows.ensures _ refl c.in_ok-row.row.now (sym (ap option_copied z.ok_part) ∙ c.find_row.ensures) in
+    omega arith
 
-pub overflow_add-from-2 : goal.overflow_add-from-2
-overflow_add-from-2 c = let w = fields_within _ _ _ c.if-src-at.false c.call_at-k.ensures c.if-k-ge-CALLS.false in omega arith
+pub read_fields-requires : goal.read_fields-requires
+read_fields-requires c =
+    let z = c.in_ok-row.ensures in
+    row_few _ _ c.if-src-at.false _ c.rows.ensures _ refl c.in_ok-row.row.now (sym (ap option_copied z.ok_part) ∙ c.find_row.ensures)
 
-pub returns-in-All : goal.returns-in-All
-returns-in-All c = search (rules, call_answers)
+pub returns-in_err-next : goal.returns-in_err-next
+returns-in_err-next c =
+    let p = err_from_is_err_and c.from_residual-in_err-next.result c.from_residual-in_err-next.ensures.1 in
+    let z = c.in_ok-row.ensures in
+    rw (p.1, p.2)
+    (answers_wrong _ _ c.if-src-at.false _ c.rows.ensures _ refl c.in_ok-row.row.now (sym (ap option_copied z.ok_part) ∙ c.find_row.ensures) _ _ c.read_fields.ensures _ c.in_err-next.was)
 
-pub returns-in-Wrong : goal.returns-in-Wrong
-returns-in-Wrong c = search (rules, call_answers)
+pub returns : goal.returns
+returns c =
+    let z = c.in_ok-row.ensures in
+    answers_call _ _ c.if-src-at.false _ c.rows.ensures _ refl c.in_ok-row.row.now (sym (ap option_copied z.ok_part) ∙ c.find_row.ensures) _ _ c.read_fields.ensures _ _ c.in_ok-next.was (search rules) c.call.ensures

@@ -1,49 +1,26 @@
--- `script::read_fields` meets its contract. The invariant is `FieldsLeft`: what the lines from the start give is what those from `p` on give,
--- after the numbers in `out`. Assumes nothing.
-use native.Mathlib.Omega.{arith}
-use borrow.Author.Rules.{rules}
-use Rattle.script.proofs.Tables.{counted}
-use Rattle.script.proofs.Laws.{sequence_within, out_within, field_reading}
+-- `script::read_fields` meets its contract. The invariant: what the lines from the start give is what those from `next` on give, after the
+-- numbers in `out`. Assumes nothing.
+use Rattle.std.proofs.Common.{arith, ◌≡◌, sym, ◌∙◌, length, add-one, take-suc-set}
+use Rattle.std.proofs.lemmas.Result.{err_from_is_err_and}
+use Rattle.script.specs.Reading.{key_at}
+use Rattle.script.proofs.Laws.{fields_wrong, fields_more, fields_all}
 use Rattle.script.proofs.read_fields.Goals as goal
 
-pub overflow_sub-count : goal.overflow_sub-count
-overflow_sub-count c = (counted _ c.requires.k_in_bounds).order
-
-pub loop-i-init : goal.loop-i-init
-loop-i-init c = search (rules, field_reading)
-
-pub overflow_add-from : goal.overflow_add-from
-overflow_add-from c = let n = sequence_within c.loop-i.invariant.0 (omega arith) in omega arith
-
-pub offset_bounds-from : goal.offset_bounds-from
-offset_bounds-from c = let n = sequence_within c.loop-i.invariant.0 (omega arith) in omega arith
-
-pub bounds-from : goal.bounds-from
-bounds-from c = let n = sequence_within c.loop-i.invariant.0 (omega arith) in omega arith
-
-pub key_line-requires : goal.key_line-requires
-key_line-requires c = search (rules, field_reading)
-
-pub shape_of-out-in_default : goal.shape_of-out-in_default
-shape_of-out-in_default c = c.loop-i.invariant.1
-
-pub returns-in_default : goal.returns-in_default
-returns-in_default c = search (rules, field_reading)
-
-pub offset_bounds-out-i : goal.offset_bounds-out-i
-offset_bounds-out-i c = let n = out_within c.loop-i.invariant.0 (omega arith) in omega arith
-
-pub bounds-out-i : goal.bounds-out-i
-bounds-out-i c = let n = out_within c.loop-i.invariant.0 (omega arith) in omega arith
-
-pub overflow_add-i : goal.overflow_add-i
-overflow_add-i c = let n = out_within c.loop-i.invariant.0 (omega arith) in omega arith
+pub returns-in_err-entry : goal.returns-in_err-entry
+unfolding key_at
+returns-in_err-entry c =
+    let p = err_from_is_err_and c.from_residual.result c.from_residual.ensures.1 in
+    let z = c.in_err-entry.ensures in
+    let b : c.in_err-entry.field-0.0.at ≡ c.loop-i.next = grind arith in
+    let f = c.field.ensures in
+    rw (p.1, p.2, b) (fields_wrong _ _ _ _ c.args.keys.now c.loop-i.invariant c.loop-i-test.true _ (sym z.ok_part ∙ f))
 
 pub loop-i-preserved : goal.loop-i-preserved
-loop-i-preserved c = search (rules, field_reading)
-
-pub shape_of-out : goal.shape_of-out
-shape_of-out c = c.loop-i.invariant.1
+unfolding key_at
+loop-i-preserved c =
+    let z = c.in_ok-entry.ensures in
+    let f = c.field.ensures in
+    fields_more _ _ _ _ c.args.keys.now c.loop-i.invariant c.loop-i-test.true _ c.in_ok-entry.entry (sym z.ok_part ∙ f) ∙ rw (add-one c.loop-i.i, take-suc-set c.loop-i.out c.loop-i.i c.in_ok-entry.entry.value (omega arith))
 
 pub returns : goal.returns
-returns c = search (rules, field_reading)
+returns c = let e : c.loop-i.i ≡ length c.args.keys.now = omega arith in rw (← e) (fields_all _ _ _ _ c.args.keys.now c.loop-i.invariant c.loop-i-test.false)
