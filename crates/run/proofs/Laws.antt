@@ -1,52 +1,22 @@
--- Laws of the output, of line numbers and of a run. Assumes nothing.
-use mathlib.Core.Path.{◌≡◌, sym, ◌∙◌, ap}
-use Prim.Native.Nat.{ℕ, suc, ◌+◌, ◌≤◌, ◌<◌}
-use mathlib.Core.List.{List, [], ◌∷◌, ◌++◌}
+-- A line's number is found by counting. Assumes nothing.
+use mathlib.Core.Path.{◌≡◌, refl, sym}
+use Prim.Native.Nat.{ℕ, suc, ◌+◌}
+use mathlib.Core.List.{List, ◌∷◌}
 use mathlib.Core.Bool.{Bool, true, false, cond}
-use native.Mathlib.Nat.{add-zero}
-use native.Mathlib.Numerals.{add-one}
 use native.Mathlib.Omega.{arith}
-use lib.ListN.{length, get_or, take, drop, drop_of_length-le}
-use lib.Seq.{take-suc, take_all, drop-cons}
 use lib.Dec.{eqb}
-use borrow.Author.Tests.{eq-eqb, ne_eqb}
-use Rattle.manager.specs.Record.{no_notice}
-use Rattle.manager.specs.declared.Notice.{Notice}
-use Rattle.run.specs.Output.{notice_text, notices_text, newlines}
+use Rattle.std.specs.List.{count_by}
+use Rattle.std.proofs.lemmas.List.Recursion.{is_count_by}
+use Rattle.run.specs.Output.{newlines}
 
--- ---- the notices
-
-pub notices_end : (ns : List Notice) (i : ℕ) → length ns ≤ i → notices_text (drop i ns) ≡ []
-unfolding notices_text
-notices_end ns i h = rw (drop_of_length-le ns {i = i} h)
-
-pub notices_unused : (ns : List Notice) (i : ℕ) → i < length ns → (get_or ns i no_notice).task ≡ 0 → notices_text (drop i ns) ≡ notices_text (drop (i + 1) ns)
-unfolding notices_text
-notices_unused ns i h e = rw (drop-cons ns i no_notice h, eq-eqb (get_or ns i no_notice).task 0 e, add-one)
-
-pub notices_used : (ns : List Notice) (i : ℕ) → i < length ns → ((get_or ns i no_notice).task ≡ 0 → ⊥) → notices_text (drop i ns) ≡ notice_text (get_or ns i no_notice) ++ notices_text (drop (i + 1) ns)
-unfolding notices_text
-notices_used ns i h e = rw (drop-cons ns i no_notice h, ne_eqb (get_or ns i no_notice).task 0 e, add-one)
-
--- ---- newlines
-
-pub newlines_snoc : (bs : List ℕ) (b : ℕ) → newlines (bs ++ (b ∷ [])) ≡ newlines bs + newlines (b ∷ [])
+next : (b : ℕ) (bs : List ℕ) → newlines (b ∷ bs) ≡ cond (eqb b 10) (1 + newlines bs) (newlines bs)
 unfolding newlines
-newlines_snoc [] b = omega arith
-newlines_snoc (x ∷ xs) b = go (eqb x 10) (newlines_snoc xs b)
+next b bs = go (eqb b 10)
   where
-    go : (t : Bool) → newlines (xs ++ (b ∷ [])) ≡ newlines xs + newlines (b ∷ []) → cond t (suc (newlines (xs ++ (b ∷ [])))) (newlines (xs ++ (b ∷ []))) ≡ cond t (suc (newlines xs)) (newlines xs) + newlines (b ∷ [])
-    go true e = omega arith
-    go false e = e
+    go : (t : Bool) → cond t (suc (newlines bs)) (newlines bs) ≡ cond t (1 + newlines bs) (newlines bs)
+    go true = omega arith
+    go false = refl
 
-pub newline_hit : (s : List ℕ) (i : ℕ) → i < length s → get_or s i 0 ≡ 10 → newlines (take (i + 1) s) ≡ newlines (take i s) + 1
+pub newlines_count : (bs : List ℕ) → count_by (λ b. eqb b 10) bs ≡ newlines bs
 unfolding newlines
-newline_hit s i h e = rw (add-one, take-suc s i 0 h, newlines_snoc, eq-eqb _ _ e)
-
-pub newline_miss : (s : List ℕ) (i : ℕ) → i < length s → (get_or s i 0 ≡ 10 → ⊥) → newlines (take (i + 1) s) ≡ newlines (take i s)
-unfolding newlines
-newline_miss s i h e = rw (add-one, take-suc s i 0 h, newlines_snoc, ne_eqb _ _ e, add-zero)
-
--- past the end there are no more
-pub newlines_out : (s : List ℕ) (i p : ℕ) → length s ≤ i → i ≤ p → newlines (take i s) ≡ newlines (take p s)
-newlines_out s i p h g = ap newlines (take_all i s h ∙ sym (take_all p s (omega arith)))
+newlines_count bs = sym (is_count_by newlines (λ b. eqb b 10) refl next bs)

@@ -1,6 +1,4 @@
-pub mod Stores
+pub mod Writing
 pub mod Laws
-pub mod Notices
-pub mod Texts
 pub mod Running
 pub mod EndToEnd

@@ -1,197 +1,147 @@
--- The run in its loop. `Running` says what holds whenever the next call is to be read: what is left to put is what the rest of the script gives,
--- from the memory and the record as they are now. A call takes 10 bytes of the script or more and puts at most `most_answer`, so what is put is at
--- most `most_per_byte` bytes for each byte read. Assumes nothing.
-use mathlib.Core.Path.{◌≡◌, refl, sym, ◌∙◌, ap, subst}
-use Prim.Native.Nat.{ℕ, suc, ◌+◌, ◌*◌, ◌-◌, ◌≤◌, ◌<◌}
-use mathlib.Core.List.{List, [], ◌++◌, append_assoc}
-use mathlib.Core.Bool.{Bool}
+-- The run in its loop. `Running` says what holds whenever the next call is to be read: what is written and what the rest of the script gives,
+-- from the memory and the record as they are now, are the answers to the whole script. A call takes 10 bytes of the script or more and is
+-- answered with at most `most_answer`, so what is written is at most `most_per_byte` bytes for each byte read. Assumes nothing.
+use mathlib.Core.Path.{◌≡◌, refl, sym, ◌∙◌, ap}
+use Prim.Native.Nat.{ℕ, suc, ◌*◌, ◌-◌, ◌≤◌, ◌<◌}
+use mathlib.Core.List.{List, [], ◌++◌, append_assoc, append-nil}
 use native.Mathlib.Omega.{arith}
 use lib.ListN.{length}
 use borrow.Author.Tests.{lt-ltb, le-ltb}
+use Rattle.std.specs.Prelude.{Option, Some, None}
 use Rattle.manager.specs.Record.{fresh}
 use Rattle.manager.specs.Result.{answer_of, Performs}
 use Rattle.manager.specs.declared.Manager.{Manager}
 use Rattle.manager.specs.declared.Answer.{Answer}
-use Rattle.manager.specs.declared.Call.{Call}
 use Rattle.manager.specs.Perform.{perform}
-use Rattle.script.specs.Reading.{Script, whole, stops, follows, read_call, read_from, read_all}
-use Rattle.script.specs.Table.{row_of}
+use Rattle.script.specs.Reading.{Script, whole, stops, follows, found, bad_at, no_more, read_call, read_from, read_all}
 use Rattle.script.specs.declared.ReadCall.{ReadCall}
-use Rattle.script.specs.declared.ReadCall.TheVariants.{One, BadAt, End}
-use Rattle.script.proofs.Laws.{read_end}
 use Rattle.script.proofs.WrittenCalls.{read_sound, read_next}
 use Rattle.script.proofs.WrittenScript.{from_end, from_bad, then_one}
+use Rattle.run.specs.declared.output.Writer.{Writer}
 use Rattle.run.specs.Output.{line, answer_text, line_number, most_bad, most_answer, Puts}
-use Rattle.run.specs.Run.{answers, bad_text, run_script, run_all, memory_after, memory_all, most_script, most_per_byte, most_output}
-use Rattle.run.proofs.Stores.{Left, left_all, left_put, left_none, left_last, puts_most}
+use Rattle.run.specs.Run.{answers, run_script, run_all, memory_after, memory_all, most_script, most_per_byte, most_answers, most_output}
+use Rattle.run.specs.Writer.{Room, Wrote}
+use Rattle.run.proofs.Writing.{wrote_append, wrote_most, wrote_nothing, room_left}
 
 -- what is read from `at` on
 abbrev pub rest_of : List ℕ → ℕ → Script
 rest_of s at = read_from (suc (length s)) s at
 
-pub record Running (src mem₀ out₀ mem out : List ℕ) (d : Manager) (at n : ℕ) : Type 0 where
-  pub output : Left out₀ 0 (run_script src mem₀ fresh (read_all src)) out n (run_script src mem d (rest_of src at))
+pub record Running (src mem₀ : List ℕ) (w₀ : Writer) (mem : List ℕ) (w : Writer) (d : Manager) (at : ℕ) : Type 0 where
+  pub text : List ℕ
+  pub wrote : Wrote (most_per_byte * at) text w₀ w
+  pub output : answers mem₀ fresh (read_all src).calls ≡ text ++ answers mem d (rest_of src at).calls
   pub memory : memory_after mem₀ fresh (read_all src).calls ≡ memory_after mem d (rest_of src at).calls
+  pub bad : (read_all src).bad ≡ (rest_of src at).bad
   pub within : at ≤ length src
-  pub short : n ≤ most_per_byte * at
 
-pub running_start : (src mem out : List ℕ) (d : Manager) → d ≡ fresh → Running src mem out mem out d 0 0
+pub running_start : (src mem : List ℕ) (w : Writer) (d : Manager) → d ≡ fresh → Running src mem w mem w d 0
 unfolding read_all
-running_start src mem out d e =
-    record {
-      output = rw e (left_all out (run_script src mem fresh (rest_of src 0)) 0);
-      memory = rw e;
-      within = omega arith;
-      short = omega arith;
-    }
+running_start src mem w d e =
+    record { text = []; wrote = wrote_nothing _ w; output = rw e; memory = rw e; bad = refl; within = omega arith }
 
--- what `run_calls` ensures
-abbrev pub Ran : List ℕ → List ℕ → List ℕ → List ℕ → List ℕ → ℕ → Type 0
-Ran src mem₀ out₀ mem out n =
-    Puts most_output out₀ 0 (run_script src mem₀ fresh (read_all src)) out n × (mem ≡ memory_after mem₀ fresh (read_all src).calls)
+-- what `run_calls` ensures, where it stops at a bad line or at the end
+pub record Ran (src mem₀ : List ℕ) (w₀ : Writer) (mem : List ℕ) (w : Writer) (bad : Option ℕ) : Type 0 where
+  pub wrote : Wrote most_answers (answers mem₀ fresh (read_all src).calls) w₀ w
+  pub stops : bad ≡ (read_all src).bad
+  pub memory : mem ≡ memory_after mem₀ fresh (read_all src).calls
 
--- ---- one call
+module _ {src mem₀ mem : List ℕ} {w₀ w : Writer} {d : Manager} {at : ℕ} (r : Running src mem₀ w₀ mem w d at) (l : length src ≤ most_script) where
+  -- the answer of a call that was read is written, and the run goes on from the memory and the record that the call left
+  module _ (c : ReadCall) (e : read_call src at ≡ found c.call c.six_values c.next) where
+    next_calls : rest_of src at ≡ follows c.call (rest_of src c.next)
+    next_calls = then_one src at c.call c.six_values c.next e
 
-run_one : (s m : List ℕ) (d : Manager) (c : Call) (t : Script) → run_script s m d (follows c t) ≡ answer_text (row_of c).six_values (answer_of (perform m d c)) ++ run_script s (perform m d c).memory (perform m d c).manager t
-unfolding run_script answers
-run_one s m d c t = append_assoc (answer_text (row_of c).six_values (answer_of (perform m d c))) (answers (perform m d c).memory (perform m d c).manager t.calls) (bad_text s t.bad)
+    next_answers : answers mem d (rest_of src at).calls ≡ answer_text c.six_values (answer_of (perform mem d c.call)) ++ answers (perform mem d c.call).memory (perform mem d c.call).manager (rest_of src c.next).calls
+    unfolding answers
+    next_answers = rw (next_calls, ← (read_sound src at c.call c.six_values c.next e).values)
 
-memory_one : (m : List ℕ) (d : Manager) (c : Call) (t : Script) → memory_after m d (follows c t).calls ≡ memory_after (perform m d c).memory (perform m d c).manager t.calls
-unfolding memory_after
-memory_one m d c t = refl
+    next_memory : memory_after mem d (rest_of src at).calls ≡ memory_after (perform mem d c.call).memory (perform mem d c.call).manager (rest_of src c.next).calls
+    unfolding memory_after
+    next_memory = rw next_calls
 
-module _ {src mem₀ out₀ mem out : List ℕ} {d : Manager} {at n : ℕ} (r : Running src mem₀ out₀ mem out d at n) where
-  -- the answer of a call that was read is put, and the run goes on from the memory and the record that the call left
-  module _ (x : ReadCall) (c : Call) (six : Bool) (q : ℕ) (f : x ≡ read_call src at) (e : x ≡ One c six q) where
-    one_read : read_call src at ≡ One c six q
-    one_read = sym f ∙ e
-
-    one_next : run_script src mem d (rest_of src at) ≡ answer_text six (answer_of (perform mem d c)) ++ run_script src (perform mem d c).memory (perform mem d c).manager (rest_of src q)
-    one_next =
-        ap (λ (y : Script). run_script src mem d y) (then_one src at c six q one_read)
-        ∙ run_one src mem d c (rest_of src q)
-        ∙ rw (← (read_sound src at c six q one_read).values)
-
-    pub running_one : {mem' : List ℕ} {a : Answer} {out' : List ℕ} {k : ℕ} →
-        Performs (perform mem d c) mem' a →
-        Puts most_answer out n (answer_text six a) out' k →
-        Running src mem₀ out₀ mem' out' a.manager q k
-    running_one {mem'} {a} {out'} {k} g p =
-        let w = read_next src at c six q one_read in
-        let far = w.far in
-        let rs = r.short in
-        let pw = p.within in
-        let em : (perform mem d c).memory ≡ mem' = sym g.memory in
-        let ea : answer_of (perform mem d c) ≡ a = sym g.answer in
-        let ed : (perform mem d c).manager ≡ a.manager = ap (λ (y : Answer). y.manager) ea in
-        let rest : List ℕ → Manager → List ℕ = λ y z. run_script src y z (rest_of src q) in
-        let goes : run_script src mem d (rest_of src at) ≡ answer_text six a ++ rest mem' a.manager =
-        one_next
-        ∙ ap (λ (y : Answer). answer_text six y ++ rest (perform mem d c).memory (perform mem d c).manager) ea
-        ∙ ap (λ (y : List ℕ). answer_text six a ++ rest y (perform mem d c).manager) em
-        ∙ ap (λ (y : Manager). answer_text six a ++ rest mem' y) ed in
+    pub running_one : {mem' : List ℕ} {a : Answer} {w' : Writer} →
+        Performs (perform mem d c.call) mem' a →
+        Wrote most_answer (answer_text c.six_values a) w w' →
+        Running src mem₀ w₀ mem' w' a.manager c.next
+    running_one {mem'} {a} {w'} g p =
+        let f = read_next src at c.call c.six_values c.next e in
+        let far = f.far in
+        let em : (perform mem d c.call).memory ≡ mem' = sym g.memory in
+        let ea : answer_of (perform mem d c.call) ≡ a = sym g.answer in
+        let ed : (perform mem d c.call).manager ≡ a.manager = ap (λ (y : Answer). y.manager) ea in
         record {
-          output = left_put (subst (λ (y : List ℕ). Left out₀ 0 (run_script src mem₀ fresh (read_all src)) out n y) goes r.output) p;
-          memory = r.memory
-              ∙ ap (λ (y : Script). memory_after mem d y.calls) (then_one src at c six q one_read)
-              ∙ memory_one mem d c (rest_of src q)
-              ∙ ap (λ (y : List ℕ). memory_after y (perform mem d c).manager (rest_of src q).calls) em
-              ∙ ap (λ (y : Manager). memory_after mem' y (rest_of src q).calls) ed;
-          within = w.within;
-          short = omega arith;
+          text = r.text ++ answer_text c.six_values a;
+          wrote = wrote_most (omega arith) (wrote_append r.wrote p);
+          output = r.output ∙ rw (next_answers, ea, em, ed) (sym (append_assoc r.text (answer_text c.six_values a) (answers mem' a.manager (rest_of src c.next).calls)));
+          memory = r.memory ∙ next_memory ∙ rw (em, ed);
+          bad = r.bad ∙ ap (λ (y : Script). y.bad) next_calls;
+          within = f.within;
         }
 
     -- room for its answer, and a step forward
-    pub room_one : length src ≤ most_script → n + most_answer ≤ most_output
+    pub room_one : Room most_answers w₀ → Room most_answer w
     room_one h =
-        let s = r.short in
-        let a = read_next src at c six q one_read in
-        let f = a.far in
-        let w = a.within in
-        omega arith
+        let f = read_next src at c.call c.six_values c.next e in
+        let far = f.far in
+        let y = f.within in
+        room_left most_answer r.wrote (omega arith) h
 
-    pub forward : length src - q < length src - at
+    pub forward : length src - c.next < length src - at
     forward =
-        let a = read_next src at c six q one_read in
-        let f = a.far in
-        let w = a.within in
+        let f = read_next src at c.call c.six_values c.next e in
+        let far = f.far in
+        let y = f.within in
         omega arith
 
   -- ---- the end
 
-  run_whole : rest_of src at ≡ whole [] → run_script src mem d (rest_of src at) ≡ []
-  unfolding run_script answers
-  run_whole e = rw e
+  module _ (t : Script) (n : t.calls ≡ []) (e : rest_of src at ≡ t) where
+    ends : Ran src mem₀ w₀ mem w t.bad
+    unfolding answers memory_after
+    ends =
+        let h = r.within in
+        record {
+          wrote = wrote_most {m = most_per_byte * at} {n = most_answers} (omega arith) (rw (r.output, e, n, append-nil) r.wrote);
+          stops = sym (r.bad ∙ ap (λ (y : Script). y.bad) e);
+          memory = sym (r.memory ∙ rw (e, n));
+        }
 
-  memory_whole : rest_of src at ≡ whole [] → memory_after mem d (rest_of src at).calls ≡ mem
-  unfolding memory_after
-  memory_whole e = rw e
+  pub running_end : read_call src at ≡ no_more → Ran src mem₀ w₀ mem w None
+  running_end h = ends (whole []) refl (from_end (suc (length src)) src at (omega arith) h)
 
-  ended : length src ≤ most_script → read_call src at ≡ End → Ran src mem₀ out₀ mem out n
-  ended l h =
-      let e = from_end (suc (length src)) src at (omega arith) h in
-      let s = r.short in
-      let w = r.within in
-      let o = subst (λ (y : List ℕ). Left out₀ 0 (run_script src mem₀ fresh (read_all src)) out n y) (run_whole e) r.output in
-      (left_none o (omega arith), sym (r.memory ∙ memory_whole e))
+  pub running_bad : (p : ℕ) → read_call src at ≡ bad_at p → Ran src mem₀ w₀ mem w (Some p)
+  running_bad p h = ends (stops p) refl (from_bad (suc (length src)) src at p (omega arith) h)
 
-  pub running_end : (x : ReadCall) → length src ≤ most_script → x ≡ read_call src at → x ≡ End → Ran src mem₀ out₀ mem out n
-  running_end x l f e = ended l (sym f ∙ e)
+-- ---- the whole program, in a buffer of which nothing was written: a script that is too long gives only `bad=0`
 
-  pub running_out : length src ≤ most_script → length src ≤ at → Ran src mem₀ out₀ mem out n
-  running_out l h = ended l (read_end src at h)
+module _ (src mem : List ℕ) {out : List ℕ} {w₀ w : Writer} (o : w₀.out.now ≡ out) (z : w₀.len ≡ 0) where
+  whole_puts : {m : ℕ} {text : List ℕ} → m ≤ most_output → Wrote m text w₀ w → run_all src mem ≡ text → Puts most_output out 0 (run_all src mem) w.out.now w.len
+  whole_puts h p e = rw e (rw (o, z) at (wrote_most h p).puts)
 
-  run_stops : (p : ℕ) → rest_of src at ≡ stops p → run_script src mem d (rest_of src at) ≡ line "bad=" (line_number src p)
-  unfolding run_script answers
-  run_stops p e = rw e
-
-  memory_stops : (p : ℕ) → rest_of src at ≡ stops p → memory_after mem d (rest_of src at).calls ≡ mem
-  unfolding memory_after
-  memory_stops p e = rw e
-
-  pub running_bad : (x : ReadCall) (p k : ℕ) {out' : List ℕ} {e : ℕ} →
-      length src ≤ most_script →
-      x ≡ read_call src at →
-      x ≡ BadAt p →
-      k ≡ line_number src p →
-      Puts most_bad out n (line "bad=" k) out' e →
-      Ran src mem₀ out₀ mem out' e
-  running_bad x p k {out'} {e} l f b g q =
-      let s = from_bad (suc (length src)) src at p (omega arith) (sym f ∙ b) in
-      let t = r.short in
-      let w = r.within in
-      let y : run_script src mem d (rest_of src at) ≡ line "bad=" k = run_stops p s ∙ ap (λ (j : ℕ). line "bad=" j) (sym g) in
-      let o = subst (λ (j : List ℕ). Left out₀ 0 (run_script src mem₀ fresh (read_all src)) out n j) y r.output in
-      (left_last o q (omega arith), sym (r.memory ∙ memory_stops p s))
-
-  -- room for the line that says which line is bad
-  pub room : length src ≤ most_script → n + most_bad ≤ most_output
-  room h =
-      let s = r.short in
-      let w = r.within in
-      omega arith
-
--- ---- the whole program: a script that is too long gives only `bad=0`
-
-module _ (src mem : List ℕ) {out₀ out : List ℕ} {n : ℕ} where
-  pub too_long : most_script < length src → Puts most_bad out₀ 0 (line "bad=" 0) out n → Puts most_output out₀ 0 (run_all src mem) out n
+  pub puts_long : most_script < length src → Wrote most_bad (line "bad=" 0) w₀ w → Puts most_output out 0 (run_all src mem) w.out.now w.len
   unfolding run_all
-  too_long h p = rw (lt-ltb most_script (length src) h) (puts_most (omega arith) p)
+  puts_long h p = whole_puts (omega arith) p (rw (lt-ltb most_script (length src) h))
+
+  module _ (h : length src ≤ most_script) where
+    pub puts_bad : {v : Writer} (p k : ℕ) →
+        Wrote most_answers (answers mem fresh (read_all src).calls) w₀ v →
+        Some p ≡ (read_all src).bad →
+        k ≡ line_number src p →
+        Wrote most_bad (line "bad=" k) v w →
+        Puts most_output out 0 (run_all src mem) w.out.now w.len
+    unfolding run_all run_script
+    puts_bad p k a s n b = whole_puts (omega arith) (wrote_append a b) (rw (le-ltb most_script (length src) h, ← s, ← n))
+
+    pub puts_end : Wrote most_answers (answers mem fresh (read_all src).calls) w₀ w → None ≡ (read_all src).bad → Puts most_output out 0 (run_all src mem) w.out.now w.len
+    unfolding run_all run_script
+    puts_end a s = whole_puts (omega arith) a (rw (le-ltb most_script (length src) h, ← s) (append-nil (answers mem fresh (read_all src).calls)))
 
 module _ (src mem : List ℕ) where
-  pub too_long_memory : most_script < length src → mem ≡ memory_all src mem
+  pub memory_long : most_script < length src → mem ≡ memory_all src mem
   unfolding memory_all
-  too_long_memory h = rw (lt-ltb most_script (length src) h)
+  memory_long h = rw (lt-ltb most_script (length src) h)
 
-  module _ {mem' out₀ out : List ℕ} {n : ℕ} (h : length src ≤ most_script) (r : Ran src mem out₀ mem' out n) where
-    pub all_run : Puts most_output out₀ 0 (run_all src mem) out n
-    unfolding run_all
-    all_run = rw (le-ltb most_script (length src) h) r.0
-
-    pub all_memory : mem' ≡ memory_all src mem
-    unfolding memory_all
-    all_memory = rw (le-ltb most_script (length src) h) r.1
-
--- what is put ends within the buffer
-pub ends_within : {most most' : ℕ} {out₀ text out : List ℕ} {n : ℕ} → Puts most out₀ 0 text out n → most ≤ most' → length out ≡ most' → n ≤ length out
-ends_within p h e = let w = p.within in omega arith
+  pub memory_run : {mem' : List ℕ} → length src ≤ most_script → mem' ≡ memory_after mem fresh (read_all src).calls → mem' ≡ memory_all src mem
+  unfolding memory_all
+  memory_run h e = rw (le-ltb most_script (length src) h) e

@@ -1,128 +1,138 @@
 // Writes text into a buffer: bytes, a number in decimal, a line of a key and a number, the answer to a call.
-ghost use Rattle.std.specs.Prelude.{◌+◌, ◌≤◌, length};
+ghost use Rattle.std.specs.Prelude.{[], ◌∷◌, ◌≡◌, length};
 ghost use Rattle.text.specs.Decimal.{decimal, line_of};
-ghost use Rattle.run.specs.Output.{line, Puts, information_text, values_text, notice_text, notices_text, answer_text};
+ghost use Rattle.run.specs.Output.{line, information_text, values_text, notice_text, notices_text, answer_text};
 ghost use Rattle.run.specs.Output.{most_line, most_bad, most_value, most_values, most_notice, most_notices, most_answer};
+ghost use Rattle.run.specs.Writer.{Room, Wrote};
 
 use manager::{Answer, Information, Manager, Notice};
 
-// Puts text into out at `at`, and answers where it ends, as each function here does.
-fn put(out: &mut [u8], at: usize, text: &[u8]) -> usize
-    requires { at + length text.now ≤ length out.old }
-    ensures { Puts (length text.now) out.old at text.now out.new result }
-{
-    let mut i = 0;
-    while i < text.len() {
-        out[at + i] = text[i];
-        i += 1;
+// A buffer, and how many bytes of it are written.
+#[derive(Drop)]
+pub(crate) struct Writer<'a> {
+    pub(crate) out: &'a mut [u8],
+    pub(crate) len: usize,
+}
+
+impl<'a> Writer<'a> {
+    // Nothing of the buffer is written.
+    pub(crate) fn new(out: &'a mut [u8]) -> Writer<'a>
+        ensures same { result.out.ghost_name ≡ out.entry.ghost_name }
+        ensures buffer { result.out.now ≡ out.old }
+        ensures empty { result.len ≡ 0 }
+    {
+        Writer { out, len: 0 }
     }
-    at + i
-}
 
-// Puts n in decimal.
-fn put_number(out: &mut [u8], at: usize, n: u32) -> usize
-    requires { at + length (decimal n) ≤ length out.old }
-    ensures { Puts (length (decimal n)) out.old at (decimal n) out.new result }
-{
-    if n < 10 {
-        out[at] = 48 + n as u8;
-        at + 1
-    } else {
-        let p = put_number(out, at, n / 10);
-        out[p] = 48 + (n % 10) as u8;
-        p + 1
+    // Writes the bytes behind what is written, as each method here does.
+    fn text(&mut self, text: &[u8])
+        requires { Room (length text.now) self.old }
+        ensures { Wrote (length text.now) text.now self.old self.new }
+    {
+        let end = self.len + text.len();
+        self.out[self.len..end].copy_from_slice(text);
+        self.len = end;
     }
-}
 
-// Puts a line: key, n and a newline.
-pub(crate) fn put_line(out: &mut [u8], at: usize, key: &[u8], n: u32) -> usize
-    requires { at + most_line (length key.now) ≤ length out.old }
-    ensures { Puts (most_line (length key.now)) out.old at (line_of key.now n) out.new result }
-{
-    let p = put(out, at, key);
-    let q = put_number(out, p, n);
-    out[q] = 10;
-    q + 1
-}
+    fn byte(&mut self, b: u8)
+        requires { Room 1 self.old }
+        ensures { Wrote 1 (b ∷ []) self.old self.new }
+    {
+        self.out[self.len] = b;
+        self.len += 1;
+    }
 
-// Puts the line that says which line is bad.
-pub(crate) fn put_bad(out: &mut [u8], at: usize, n: u32) -> usize
-    requires { at + most_bad ≤ length out.old }
-    ensures { Puts most_bad out.old at (line "bad=" n) out.new result }
-{
-    put_line(out, at, b"bad=", n)
-}
+    // Writes n in decimal.
+    fn number(&mut self, n: u32)
+        requires { Room (length (decimal n)) self.old }
+        ensures { Wrote (length (decimal n)) (decimal n) self.old self.new }
+    {
+        if 10 <= n {
+            self.number(n / 10);
+        }
+        self.byte(b'0' + (n % 10) as u8);
+    }
 
-// Puts one of an answer's values.
-fn put_value(out: &mut [u8], at: usize, n: u32) -> usize
-    requires { at + most_value ≤ length out.old }
-    ensures { Puts most_value out.old at (line "value=" n) out.new result }
-{
-    put_line(out, at, b"value=", n)
-}
+    // Writes a line: key, n and a newline.
+    fn line(&mut self, key: &[u8], n: u32)
+        requires { Room (most_line (length key.now)) self.old }
+        ensures { Wrote (most_line (length key.now)) (line_of key.now n) self.old self.new }
+    {
+        self.text(key);
+        self.number(n);
+        self.byte(b'\n');
+    }
 
-// Puts the six values of the information call.
-fn put_information(out: &mut [u8], at: usize, i: Information) -> usize
-    requires { at + most_values ≤ length out.old }
-    ensures { Puts most_values out.old at (information_text i) out.new result }
-{
-    let a = put_value(out, at, i.free_count);
-    let b = put_value(out, a, i.free_largest);
-    let c = put_value(out, b, i.free_total);
-    let d = put_value(out, c, i.held_count);
-    let e = put_value(out, d, i.held_largest);
-    put_value(out, e, i.held_total)
-}
+    // Writes the line that says which line is bad.
+    pub(crate) fn bad(&mut self, n: u32)
+        requires { Room most_bad self.old }
+        ensures { Wrote most_bad (line "bad=" n) self.old self.new }
+    {
+        self.line(b"bad=", n);
+    }
 
-// Puts the three lines of a notice.
-fn put_notice(out: &mut [u8], at: usize, n: Notice) -> usize
-    requires { at + most_notice ≤ length out.old }
-    ensures { Puts most_notice out.old at (notice_text n) out.new result }
-{
-    let status = n.status;
-    let p = put_line(out, at, b"task=", n.task);
-    let q = put_line(out, p, b"with=", u32::from(status));
-    put_value(out, q, n.address)
-}
+    // Writes one of an answer's values.
+    fn value(&mut self, n: u32)
+        requires { Room most_value self.old }
+        ensures { Wrote most_value (line "value=" n) self.old self.new }
+    {
+        self.line(b"value=", n);
+    }
 
-// Puts the notices that are used.
-fn put_notices(out: &mut [u8], at: usize, notices: [Notice; Manager::TASKS]) -> usize
-    requires { at + most_notices ≤ length out.old }
-    ensures { Puts most_notices out.old at (notices_text notices) out.new result }
-{
-    let mut p = at;
-    let mut i: usize = 0;
-    while i < Manager::TASKS {
-        let n = notices[i];
-        i += 1;
-        if n.task != 0 {
-            p = put_notice(out, p, n);
+    // Writes the six values of the information call.
+    fn information(&mut self, i: &Information)
+        requires { Room most_values self.old }
+        ensures { Wrote most_values (information_text i.now) self.old self.new }
+    {
+        self.value(i.free_count);
+        self.value(i.free_largest);
+        self.value(i.free_total);
+        self.value(i.held_count);
+        self.value(i.held_largest);
+        self.value(i.held_total);
+    }
+
+    // Writes an answer's value, or its six values where the call asks for information.
+    fn values(&mut self, six: bool, a: &Answer)
+        requires { Room most_values self.old }
+        ensures { Wrote most_values (values_text six a.now) self.old self.new }
+    {
+        if six {
+            self.information(&a.information);
+        } else {
+            self.value(a.value);
         }
     }
-    p
-}
 
-// Puts an answer's value, or its six values where the call asks for information.
-fn put_values(out: &mut [u8], at: usize, six: bool, a: Answer) -> usize
-    requires { at + most_values ≤ length out.old }
-    ensures { Puts most_values out.old at (values_text six a) out.new result }
-{
-    if six {
-        let i = a.information;
-        put_information(out, at, i)
-    } else {
-        put_value(out, at, a.value)
+    // Writes the three lines of a notice.
+    fn notice(&mut self, n: &Notice)
+        requires { Room most_notice self.old }
+        ensures { Wrote most_notice (notice_text n.now) self.old self.new }
+    {
+        self.line(b"task=", n.task);
+        self.line(b"with=", u32::from(n.status));
+        self.value(n.address);
     }
-}
 
-// Puts the answer to a call.
-pub(crate) fn put_answer(out: &mut [u8], at: usize, six: bool, a: Answer) -> usize
-    requires { at + most_answer ≤ length out.old }
-    ensures { Puts most_answer out.old at (answer_text six a) out.new result }
-{
-    let status = a.status;
-    let notices = a.notices;
-    let p = put_line(out, at, b"status=", u32::from(status));
-    let q = put_values(out, p, six, a);
-    put_notices(out, q, notices)
+    // Writes the notices that are used.
+    fn notices(&mut self, notices: &[Notice; Manager::TASKS])
+        requires { Room most_notices self.old }
+        ensures { Wrote most_notices (notices_text notices.now) self.old self.new }
+    {
+        for n in notices {
+            if n.task != 0 {
+                self.notice(n);
+            }
+        }
+    }
+
+    // Writes the answer to a call.
+    pub(crate) fn answer(&mut self, six: bool, a: &Answer)
+        requires { Room most_answer self.old }
+        ensures { Wrote most_answer (answer_text six a.now) self.old self.new }
+    {
+        self.line(b"status=", u32::from(a.status));
+        self.values(six, a);
+        self.notices(&a.notices);
+    }
 }

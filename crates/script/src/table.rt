@@ -2,7 +2,7 @@
 // made.
 ghost use Rattle.std.specs.Prelude.{◌≡◌, map};
 ghost use Rattle.script.specs.Shown.{row_by, shown};
-ghost use Rattle.script.specs.Table.{calls, order_of, wait_of, create_region_row, get_segment_row};
+ghost use Rattle.script.specs.Table.{calls, create_region_row, get_segment_row};
 
 use manager::{Call, Order, Wait};
 
@@ -241,7 +241,7 @@ fn create_region(v: &[u32; 8]) -> Call
         start: v[1],
         length: v[2],
         page: v[3],
-        order: order_of(v[4]),
+        order: Order::try_from(v[4]).unwrap_or(Order::HalvesPriority),
     }
 }
 
@@ -252,29 +252,9 @@ fn get_segment(v: &[u32; 8]) -> Call
         id: v[0],
         size: v[1],
         alignment: v[2],
-        wait: wait_of(v[3]),
+        wait: Wait::try_from(v[3]).unwrap_or(Wait::Yes),
         task: v[4],
         priority: v[5],
         ticks: v[6],
-    }
-}
-
-fn order_of(n: u32) -> Order
-    ensures { result ≡ order_of n }
-{
-    match n {
-        0 => Order::Fifo,
-        1 => Order::Priority,
-        2 => Order::HalvesFifo,
-        _ => Order::HalvesPriority,
-    }
-}
-
-fn wait_of(n: u32) -> Wait
-    ensures { result ≡ wait_of n }
-{
-    match n {
-        0 => Wait::No,
-        _ => Wait::Yes,
     }
 }

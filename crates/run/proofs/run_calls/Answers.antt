@@ -1,71 +1,39 @@
 -- `run::run_calls` meets its contract. The invariant is `Running`; the measure is what is left of the script. Assumes nothing.
-use native.Mathlib.Omega.{arith}
-use mathlib.Core.Path.{refl, ◌∙◌}
-use Rattle.run.proofs.Running.{running_start, running_one, running_end, running_out, running_bad, room, room_one, forward}
+use Rattle.std.proofs.Common.{refl, sym, ◌∙◌, ap, Ok}
+use Rattle.std.proofs.lemmas.Result.{err_from_is_err_and}
+use Rattle.run.proofs.Running.{running_start, running_one, running_end, running_bad, room_one, forward}
 use Rattle.run.proofs.run_calls.Goals as goal
 
-pub loop-at-init : goal.loop-at-init
-loop-at-init c = (running_start _ _ _ _ c.new-d.ensures, refl, refl)
+pub loop-read-init : goal.loop-read-init
+loop-read-init c = (running_start _ _ _ _ c.new-d.ensures, refl)
 
-pub shape_of-mem-in-End : goal.shape_of-mem-in-End
-shape_of-mem-in-End c = c.loop-at.invariant.1
+pub returns-in_err-read-clause-wrote : goal.returns-in_err-read-clause-wrote
+returns-in_err-read-clause-wrote c = (running_bad c.loop-read.invariant.0 c.requires.script_fits c.in_err-read.field-0.0.at (sym c.in_err-read.ensures)).wrote
 
-pub shape_of-out-in-End : goal.shape_of-out-in-End
-shape_of-out-in-End c = c.loop-at.invariant.2
+pub returns-in_err-read-clause-stops : goal.returns-in_err-read-clause-stops
+returns-in_err-read-clause-stops c =
+    let p = err_from_is_err_and c.from_residual.result c.from_residual.ensures.1 in
+    rw (p.1, p.2) (running_bad c.loop-read.invariant.0 c.requires.script_fits c.in_err-read.field-0.0.at (sym c.in_err-read.ensures)).stops
 
-pub returns-in-End : goal.returns-in-End
-returns-in-End c =
-    let e = running_end c.loop-at.invariant.0 _ c.requires.script_fits c.read_call.ensures c.in-End.is in
-    record { puts = e.0; memory = e.1 }
+pub returns-in_err-read-clause-memory : goal.returns-in_err-read-clause-memory
+returns-in_err-read-clause-memory c = (running_bad c.loop-read.invariant.0 c.requires.script_fits c.in_err-read.field-0.0.at (sym c.in_err-read.ensures)).memory
 
-pub put_bad-requires : goal.put_bad-requires
-put_bad-requires c = omega (arith, room c.loop-at.invariant.0 c.requires.script_fits)
+pub answer-requires : goal.answer-requires
+answer-requires c = room_one c.loop-read.invariant.0 c.requires.script_fits c.in-Some.read (sym c.in_ok-read.ensures ∙ ap Ok c.in-Some.is) c.requires.output_fits
 
-pub shape_of-mem-in-BadAt : goal.shape_of-mem-in-BadAt
-shape_of-mem-in-BadAt c = c.loop-at.invariant.1
+pub loop-read-smaller : goal.loop-read-smaller
+loop-read-smaller c = forward c.loop-read.invariant.0 c.requires.script_fits c.in-Some.read (sym c.in_ok-read.ensures ∙ ap Ok c.in-Some.is)
 
-pub shape_of-out-in-BadAt : goal.shape_of-out-in-BadAt
-shape_of-out-in-BadAt c = c.put_bad.auto.out ∙ c.loop-at.invariant.2
+pub loop-read-preserved : goal.loop-read-preserved
+loop-read-preserved c =
+    let r = running_one c.loop-read.invariant.0 c.requires.script_fits c.in-Some.read (sym c.in_ok-read.ensures ∙ ap Ok c.in-Some.is) c.perform-a.ensures c.answer.ensures in
+    (r, c.perform-a.auto.mem ∙ c.loop-read.invariant.1)
 
-pub returns-in-BadAt : goal.returns-in-BadAt
-returns-in-BadAt c =
-    let r = c.loop-at.invariant.0 in
-    let b = c.in-BadAt.is in
-    let f = c.read_call.ensures in
-    let e = running_bad r _ _ _ c.requires.script_fits f b c.line_number.ensures c.put_bad.ensures in
-    record { puts = e.0; memory = e.1 }
+pub returns-clause-wrote : goal.returns-clause-wrote
+returns-clause-wrote c = (running_end c.loop-read.invariant.0 c.requires.script_fits (sym c.in_ok-read.ensures ∙ ap Ok c.in_default.is)).wrote
 
-pub put_answer-n-requires : goal.put_answer-n-requires
-put_answer-n-requires c =
-    let r = c.loop-at.invariant.0 in
-    let f = c.read_call.ensures in
-    omega (arith, room_one r _ _ _ _ f c.in-One.is c.requires.script_fits)
+pub returns-clause-stops : goal.returns-clause-stops
+returns-clause-stops c = (running_end c.loop-read.invariant.0 c.requires.script_fits (sym c.in_ok-read.ensures ∙ ap Ok c.in_default.is)).stops
 
-pub loop-at-smaller : goal.loop-at-smaller
-loop-at-smaller c =
-    let r = c.loop-at.invariant.0 in
-    let f = c.read_call.ensures in
-    forward r _ _ _ _ f c.in-One.is
-
-pub loop-at-preserved : goal.loop-at-preserved
-loop-at-preserved c =
-    let r = c.loop-at.invariant.0 in
-    let f = c.read_call.ensures in
-    let b = c.in-One.is in
-    let g = c.perform-a.ensures in
-    let p = c.put_answer-n.ensures in (
-      running_one r _ _ _ _ f b g p,
-      c.perform-a.auto.mem ∙ c.loop-at.invariant.1,
-      c.put_answer-n.auto.out ∙ c.loop-at.invariant.2,
-    )
-
-pub shape_of-mem : goal.shape_of-mem
-shape_of-mem c = c.loop-at.invariant.1
-
-pub shape_of-out : goal.shape_of-out
-shape_of-out c = c.loop-at.invariant.2
-
-pub returns : goal.returns
-returns c =
-    let e = running_out c.loop-at.invariant.0 c.requires.script_fits c.loop-at-test.false in
-    record { puts = e.0; memory = e.1 }
+pub returns-clause-memory : goal.returns-clause-memory
+returns-clause-memory c = (running_end c.loop-read.invariant.0 c.requires.script_fits (sym c.in_ok-read.ensures ∙ ap Ok c.in_default.is)).memory
