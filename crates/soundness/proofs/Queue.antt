@@ -8,13 +8,11 @@ use mathlib.Core.List.{List, [], ◌∷◌}
 use native.Mathlib.Omega.{arith}
 use borrow.Author.Tests.{eq-eqb, ne_eqb, eqb-true, eqb-false, leb-true, le-ltb, not-true, not-false}
 use lib.Dec.{eqb, leb}
-use lib.ListN.{length, length-drop, take, get_or, set, drop, replicate, length-set, drop_of_length-le, get_or-eq_default}
+use lib.ListN.{length, length-drop, take, get_or, set, drop, replicate, length-set, drop_of_length-le}
 use lib.Seq.{take_all, get_or-set_same, get_or-set_other}
-use Rattle.arith.specs.Layout.{any_number}
-use Rattle.arith.proofs.Laws.Layout.{count_zero}
 use Rattle.manager.specs.Lists.{every, pairwise, adjacent}
 use Rattle.manager.proofs.Laws.Lists.{and_first, and_second, get_d_any, rest_cons}
-use Rattle.manager.proofs.Laws.Ids.{first_slot_lem, no_slot, object_there, object_none, object_beyond}
+use Rattle.manager.proofs.Laws.Ids.{first_slot_lem, object_there, object_none, object_beyond}
 use Rattle.manager.specs.Queue.{by_priority, urgent, goes_before}
 use Rattle.manager.specs.Record.{slots, tasks, slot_of, has_id, no_region, region_of}
 use Rattle.manager.specs.Region.{kind, dead, any_held, is_alignment, need_of, servable}
@@ -23,7 +21,10 @@ use Rattle.manager.specs.declared.Manager.{Manager}
 use Rattle.manager.specs.declared.Order.{Order}
 use Rattle.manager.specs.declared.Region.{Region}
 use Rattle.manager.specs.declared.Waiter.{Waiter}
-use Rattle.soundness.specs.Waiters.{queue_of, facts_of, no_facts, front_waiter, sound_in}
+use Rattle.soundness.specs.Waiters.{queue_of, facts_of, kept_or, front_waiter, sound_in}
+use Rattle.std.specs.declared.option.Option.{Option}
+use Rattle.std.specs.declared.option.Option.TheVariants.{None, Some}
+use Rattle.std.proofs.lemmas.Option.{none-some, same_Some}
 use Rattle.soundness.specs.declared.places.Facts.{Facts}
 use Rattle.objects.proofs.Laws.{unmapped}
 
@@ -183,11 +184,11 @@ abbrev in_slot : List Region → ℕ → Region
 in_slot rs id = get_or rs (slot_of id) no_region
 
 -- HOW FAR THE WALK HAS COME: to place i, behind `before`, with the facts of one region kept
-pub record Walk (m : List ℕ) (rs : List Region) (ws : List Waiter) (f : Facts) (before : Waiter) (seen : List Bool) (w : Bool) (i : ℕ) : Type 0 where
+pub record Walk (m : List ℕ) (rs : List Region) (ws : List Waiter) (f : Option Facts) (before : Waiter) (seen : List Bool) (w : Bool) (i : ℕ) : Type 0 where
   pub places : length ws ≡ tasks
   pub slots_in : length rs ≡ slots
   pub seats : length seen ≡ (tasks + 1)
-  pub kept : f ≡ facts_of m f.id (in_slot rs f.id)
+  pub kept : (k : Facts) → f ≡ Some k → k ≡ facts_of m k.id (in_slot rs k.id)
   pub rest : left m (queue_of rs ws) seen before (drop i ws) ≡ w
 
 -- a waiter is sound by the facts of what is in its region's slot, which are those of its region or of none
@@ -223,26 +224,20 @@ module _ (m : List ℕ) (d : Manager) (w : Waiter) where
       (object_there (λ r. r.name) (λ r. r.generation) no_region d.regions w.region
       (and_first its (any_held m found) (and_first (its && any_held m found) _ (and_second (leb w.task tasks) _ e))))
 
-no_facts_lem : (m : List ℕ) → no_facts ≡ facts_of m 0 no_region
-no_facts_lem m = rw (count_zero any_number 0 0 0 refl)
-
-no_region_lem : (rs : List Region) (id : ℕ) → length rs ≡ slots → slots ≤ slot_of id → in_slot rs id ≡ no_region
-no_region_lem rs id h g = get_or-eq_default rs no_region (omega arith)
-
 module _ (m : List ℕ) (rs : List Region) (ws : List Waiter) where
-  pub walk_start : (f : Facts) (before : Waiter) → length ws ≡ tasks → length rs ≡ slots → f ≡ no_facts → before ≡ front_waiter
-      → Walk m rs ws f before (replicate (tasks + 1) false) (sound_queue m (queue_of rs ws)) 0
-  walk_start f before h g ef eb =
-      rw (ef, eb)
+  pub walk_start : (before : Waiter) → length ws ≡ tasks → length rs ≡ slots → before ≡ front_waiter
+      → Walk m rs ws None before (replicate (tasks + 1) false) (sound_queue m (queue_of rs ws)) 0
+  walk_start before h g eb =
+      rw eb
       (record {
         places = h;
         slots_in = g;
         seats = refl;
-        kept = rw (no_region_lem rs 0 g no_slot) (no_facts_lem m);
+        kept = λ k e. absurd (none-some k e);
         rest = left_start m (queue_of rs ws);
       })
 
-  module _ (f : Facts) (before : Waiter) (seen : List Bool) (w : Bool) (i : ℕ) (v : Walk m rs ws f before seen w i) (h : i < tasks) (z : Waiter) where
+  module _ (f : Option Facts) (before : Waiter) (seen : List Bool) (w : Bool) (i : ℕ) (v : Walk m rs ws f before seen w i) (h : i < tasks) (z : Waiter) where
     here : left m (queue_of rs ws) seen before (get_or ws i z ∷ drop (i + 1) ws) ≡ w
     here = rw (← rest_cons ws i z (omega (arith, v.places))) v.rest
 
@@ -271,18 +266,23 @@ module _ (m : List ℕ) (rs : List Region) (ws : List Waiter) where
 
       -- with the facts of its region, kept or worked out
       module _ (slot : ℕ) (es : slot ≡ slot_of (get_or ws i z).region) (hs : slot < slots) (y : Region) (n : Facts)
-          (en : n ≡ cond (eqb f.id (get_or ws i z).region) f (facts_of m (get_or ws i z).region (get_or rs slot y))) where
+          (en : n ≡ kept_or f (get_or ws i z).region (facts_of m (get_or ws i z).region (get_or rs slot y))) where
         looked_up : get_or rs slot y ≡ in_slot rs (get_or ws i z).region
         looked_up = get_d_any rs slot y no_region (omega (arith, v.slots_in)) ∙ rw es
 
-        renewed_by : (b : Bool) → eqb f.id (get_or ws i z).region ≡ b
-            → cond b f (facts_of m (get_or ws i z).region (get_or rs slot y))
+        kept_by : (k : Facts) → k ≡ facts_of m k.id (in_slot rs k.id) → (b : Bool) → eqb k.id (get_or ws i z).region ≡ b
+            → cond b k (facts_of m (get_or ws i z).region (get_or rs slot y)) ≡ facts_of m (get_or ws i z).region (in_slot rs (get_or ws i z).region)
+        kept_by k q true e = rw (← eqb-true k.id (get_or ws i z).region e) q
+        kept_by k q false e = rw looked_up
+
+        renewed_by : (o : Option Facts) → ((k : Facts) → o ≡ Some k → k ≡ facts_of m k.id (in_slot rs k.id))
+            → kept_or o (get_or ws i z).region (facts_of m (get_or ws i z).region (get_or rs slot y))
             ≡ facts_of m (get_or ws i z).region (in_slot rs (get_or ws i z).region)
-        renewed_by true e = rw (← eqb-true f.id (get_or ws i z).region e) v.kept
-        renewed_by false e = rw looked_up
+        renewed_by None q = rw looked_up
+        renewed_by (Some k) q = kept_by k (q k refl) (eqb k.id (get_or ws i z).region) refl
 
         renewed : n ≡ facts_of m (get_or ws i z).region (in_slot rs (get_or ws i z).region)
-        renewed = en ∙ renewed_by (eqb f.id (get_or ws i z).region) refl
+        renewed = en ∙ renewed_by f v.kept
 
         module _ (b : Bool) (eb : b ≡ sound_in n (get_or ws i z)) where
           told : b ≡ sound_in (facts_of m (get_or ws i z).region (in_slot rs (get_or ws i z).region)) (get_or ws i z)
@@ -316,13 +316,13 @@ module _ (m : List ℕ) (rs : List Region) (ws : List Waiter) where
               walk_wrong e =
                   sym (left_wrong m (queue_of rs ws) seen before (get_or ws i z) (drop (i + 1) ws) (order_told ∙ ap not e)) ∙ here
 
-              pub walk_next : t ≡ false → Walk m rs ws n (get_or ws i z) (set seen (get_or ws i z).task true) w (i + 1)
+              pub walk_next : t ≡ false → Walk m rs ws (Some n) (get_or ws i z) (set seen (get_or ws i z).task true) w (i + 1)
               walk_next e =
                   record {
                     places = v.places;
                     slots_in = v.slots_in;
                     seats = simp length-set v.seats;
-                    kept = renewed ∙ rw (ap (λ (k : Facts). k.id) renewed);
+                    kept = λ k e. let q : k ≡ n = sym (same_Some n k e) in rw q (renewed ∙ rw (ap (λ (k : Facts). k.id) renewed));
                     rest =
                         sym
                         (left_step m (queue_of rs ws) seen before (get_or ws i z) (drop (i + 1) ws) (waiter_told true (not-false b g))
@@ -330,7 +330,7 @@ module _ (m : List ℕ) (rs : List Region) (ws : List Waiter) where
                         ∙ here;
                   }
 
-  pub walk_end : (f : Facts) (before : Waiter) (seen : List Bool) (w : Bool) (i : ℕ) → Walk m rs ws f before seen w i → tasks ≤ i → true ≡ w
+  pub walk_end : (f : Option Facts) (before : Waiter) (seen : List Bool) (w : Bool) (i : ℕ) → Walk m rs ws f before seen w i → tasks ≤ i → true ≡ w
   walk_end f before seen w i v h =
       sym (left_none m (queue_of rs ws) seen before) ∙ rw (drop_of_length-le ws {i = i} (omega (arith, v.places))) at v.rest
 

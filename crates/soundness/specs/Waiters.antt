@@ -1,7 +1,9 @@
 -- What a sound waiter is, by the facts of the region that it waits in: `sound_waiter` in two parts, a function of the code each. Assumes
 -- nothing.
-use Rattle.std.specs.Prelude.{ℕ, Bool, false, ◌&&◌, List, [], leb}
-use Rattle.manager.specs.Record.{tasks, no_region, has_id}
+use Rattle.std.specs.Prelude.{ℕ, Bool, cond, ◌&&◌, List, [], eqb, leb}
+use Rattle.std.specs.declared.option.Option.{Option}
+use Rattle.std.specs.declared.option.Option.TheVariants.{None, Some}
+use Rattle.manager.specs.Record.{tasks, has_id}
 use Rattle.manager.specs.Region.{kind, layout_of, any_held, is_alignment, need_of, servable_at}
 use Rattle.manager.specs.declared.Manager.{Manager}
 use Rattle.manager.specs.declared.Region.{Region}
@@ -16,8 +18,10 @@ queue_of rs ws = record { regions = rs; partitions = []; waiters = ws }
 abbrev pub facts_of : List ℕ → ℕ → Region → Facts
 facts_of m id r = record { id = id; region = r; layout = layout_of r; held = has_id r.name r.generation id && any_held m r }
 
-abbrev pub no_facts : Facts
-no_facts = record { id = 0; region = no_region; layout = record { map = 0; pages = 0; first = 0 }; held = false }
+-- those kept, where they are of the same id, else new ones
+abbrev pub kept_or : Option Facts → ℕ → Facts → Facts
+kept_or None id new = new
+kept_or (Some f) id new = cond (eqb f.id id) f new
 
 -- no waiter goes before this one: no slot is before that of id 1, and no priority below 0
 abbrev pub front_waiter : Waiter

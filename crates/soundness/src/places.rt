@@ -1,11 +1,11 @@
 // The wait queue: each place holds a sound waiter or is unused and all zeros, no task waits twice, and the waiters stand in the order in
 // which they are served. One walk makes all three checks, and only over the used places: behind an unused place all are unused.
-ghost use Rattle.std.specs.Prelude.{◌≡◌, cond, ◌&&◌, eqb};
+ghost use Rattle.std.specs.Prelude.{◌≡◌, ◌&&◌};
 ghost use Rattle.manager.specs.Lists.{every};
 ghost use Rattle.manager.specs.Record.{has_id};
 ghost use Rattle.manager.specs.Region.{layout_of, any_held};
 ghost use Rattle.manager.specs.Sound.{empty_waiter, sound_queue};
-ghost use Rattle.soundness.specs.Waiters.{facts_of, no_facts, front_waiter, sound_alignment, sound_request, sound_in, queue_of};
+ghost use Rattle.soundness.specs.Waiters.{facts_of, kept_or, front_waiter, sound_alignment, sound_request, sound_in, queue_of};
 
 use arith::Layout;
 use manager::{Manager, Region, Waiter};
@@ -25,22 +25,6 @@ struct Facts {
 }
 
 impl Facts {
-    // The facts of no region, which id 0 names.
-    fn none() -> Facts
-        ensures { result ≡ no_facts }
-    {
-        Facts {
-            id: 0,
-            region: Region::emptied(0),
-            layout: Layout {
-                map: 0,
-                pages: 0,
-                first: 0,
-            },
-            held: false,
-        }
-    }
-
     // The facts of an id, by what is in its slot.
     fn of(mem: &[u32], id: u32, region: Region) -> Facts
         ensures { result ≡ facts_of mem.now id region }
@@ -54,14 +38,13 @@ impl Facts {
         }
     }
 
-    // The facts of an id; these where they are of the same one.
-    fn kept_or_of(self, mem: &[u32], id: u32, region: Region) -> Facts
-        ensures { result ≡ cond (eqb self.id id) self (facts_of mem.now id region) }
+    // The facts of an id: those kept where they are of the same one, else by what is in its slot.
+    fn kept_or_of(kept: Option<Facts>, mem: &[u32], id: u32, region: Region) -> Facts
+        ensures { result ≡ kept_or kept id (facts_of mem.now id region) }
     {
-        if self.id == id {
-            self
-        } else {
-            Facts::of(mem, id, region)
+        match kept {
+            Some(f) if f.id == id => f,
+            _ => Facts::of(mem, id, region),
         }
     }
 
@@ -116,7 +99,7 @@ pub(crate) fn sound_queue(
 ) -> bool
     ensures { result ≡ sound_queue mem.now (queue_of regions.now ws.now) }
 {
-    let mut facts = Facts::none();
+    let mut kept: Option<Facts> = None;
     let mut before = in_front();
     let mut seen = [false; Manager::TASKS + 1];
     for (i, w) in ws.iter().enumerate() {
@@ -127,7 +110,7 @@ pub(crate) fn sound_queue(
         if Manager::SLOTS <= slot {
             return false;
         }
-        facts = facts.kept_or_of(mem, w.region, regions[slot]);
+        let facts = Facts::kept_or_of(kept, mem, w.region, regions[slot]);
         if !facts.allows(*w) {
             return false;
         }
@@ -140,6 +123,7 @@ pub(crate) fn sound_queue(
             return false;
         }
         before = *w;
+        kept = Some(facts);
     }
     true
 }
