@@ -5,3 +5,5 @@ pub mod Check
 pub mod Block
 pub mod Part
 pub mod Word
+pub mod Turn
+pub mod Walked

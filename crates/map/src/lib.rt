@@ -1,7 +1,9 @@
-// Where a region's map lies in the memory, and what its words say. Every function is total: any words are read, sound or not.
+// Where a region's map lies in the memory, and what its words say. Every function is total: any words are read, sound or not. Only a walk
+// from segment to segment (`Segments`) needs them tiled.
 #![tactic(auto)]
 
 mod halves;
+mod walk;
 
 ghost use Rattle.std.specs.Prelude.{◌≡◌, ◌-◌, ◌/◌};
 ghost use Rattle.manager.specs.Lists.{any};
@@ -12,6 +14,7 @@ ghost use Rattle.map.specs.Word.{held_word, held_word_at, one_free};
 
 use arith::Layout;
 use manager::{Need, Order, Region};
+pub use walk::{Segment, Segments};
 
 // Whether a region of an order is one by halves; else it is of pages.
 pub fn by_halves(o: Order) -> bool

@@ -1,17 +1,20 @@
 -- Counting the segments of a map on a walk: what is counted so far with what is left gives the whole, and no number is above the
 -- map's length. Assumes nothing.
-use Prim.Native.Nat.{ℕ, suc, ◌+◌, ◌*◌, ◌/◌, ◌%◌, ◌≤◌, ◌<◌, max}
+use Prim.Native.Nat.{ℕ, suc, ◌+◌, ◌*◌, ◌≤◌, max}
 use mathlib.Core.Path.{◌≡◌, sym, ap, ◌∙◌}
-use mathlib.Core.Bool.{true}
-use mathlib.Core.List.{List, [], ◌∷◌}
+use mathlib.Core.Bool.{true, false}
+use mathlib.Core.List.{List, [], ◌∷◌, map}
 use native.Mathlib.Nat.{add-zero, zero-add, zero-max, max-zero, max-le, mul-le-mul, lt_of_le_of_lt}
 use native.Mathlib.Omega.{arith}
-use lib.ListN.{length, get_or, drop}
+use lib.ListN.{length}
 use mir.Syntax.{w32}
 use mir.Val.{Fits}
 use borrow.Author.Rules.{Fits-under}
 use Rattle.manager.specs.Map.{Segment, free, held, decode, tiled, free_sizes, held_sizes, largest_of, sum_of, total}
-use Rattle.manager.proofs.Laws.Map.{Sized, sized_decoded, total_decoded, Here, walk_start, walk_end, says_free, says_held, next_here}
+use Rattle.manager.proofs.Laws.Map.{Sized, sized_decoded, total_decoded}
+use Rattle.map.specs.Walk.{placed}
+use Rattle.map.specs.declared.walk.Segment.{Segment as Placed}
+use Rattle.map.proofs.Walked.{EndBy, placed_end, end_by_more, told, told_placed}
 use Rattle.manager.specs.Record.{no_information}
 use Rattle.manager.specs.Regions.{information_of}
 use Rattle.manager.specs.declared.Information.{Information}
@@ -115,63 +118,63 @@ within (held n ∷ s) w =
       held_most = max-le {a = n} (omega arith) (omega arith);
     }
 
-pub words_within : (ws : List ℕ) → tiled ws ≡ true → Within (decode ws) (length ws)
+words_within : (ws : List ℕ) → tiled ws ≡ true → Within (decode ws) (length ws)
 words_within ws ok = rw total_decoded at (within (decode ws) (sized_decoded ws ok))
 
--- the walk has come to page i, with t counted
-pub record Counting (ws : List ℕ) (i : ℕ) (t : Information) : Type 0 where
-  pub here : Here ws i
-  pub left : plus t (counted (decode (drop i ws))) ≡ counted (decode ws)
+within_more : (s : List Segment) (n m : ℕ) → n ≤ m → Within s n → Within s m
+within_more s n m l w = record { pages = omega arith; frees = w.frees; helds = w.helds; free_most = w.free_most; held_most = w.held_most }
 
-module _ (ws : List ℕ) (ok : tiled ws ≡ true) (short : length ws ≤ 16384) where
-  pub count_start : Counting ws 0 no_information
-  count_start = record { here = walk_start ws ok; left = plus_none (counted (decode ws)) }
+-- the walk has the segments xs left, with t counted
+pub record Counting (ws : List ℕ) (xs : List Placed) (t : Information) : Type 0 where
+  pub ends : EndBy 16384 xs
+  pub within : Within (decode ws) 16384
+  pub left : plus t (counted (map told xs)) ≡ counted (decode ws)
 
-  whole : Within (decode ws) (length ws)
-  whole = words_within ws ok
+pub count_start : (ws : List ℕ) (xs : List Placed) → tiled ws ≡ true → length ws ≤ 16384 → xs ≡ placed 0 (decode ws) → Counting ws xs no_information
+count_start ws xs ok short e =
+    rw e
+    (record {
+      ends = end_by_more (length ws) 16384 (placed 0 (decode ws)) short (placed_end ws ok);
+      within = within_more (decode ws) (length ws) 16384 short (words_within ws ok);
+      left = plus_none (counted (map told (placed 0 (decode ws)))) ∙ ap counted (told_placed 0 (decode ws));
+    })
 
-  module _ (i : ℕ) (t : Information) (c : Counting ws i t) where
-    pub free_count_small : t.free_count ≤ 16384
-    free_count_small = omega (arith, ap (λ (u : Information). u.free_count) c.left, whole)
+module _ (ws : List ℕ) (xs : List Placed) (t : Information) (c : Counting ws xs t) where
+  pub free_count_small : t.free_count ≤ 16384
+  free_count_small = omega (arith, ap (λ (u : Information). u.free_count) c.left)
 
-    pub free_total_small : t.free_total ≤ 16384
-    free_total_small = omega (arith, ap (λ (u : Information). u.free_total) c.left, whole)
+  pub free_total_small : t.free_total ≤ 16384
+  free_total_small = omega (arith, ap (λ (u : Information). u.free_total) c.left)
 
-    pub held_count_small : t.held_count ≤ 16384
-    held_count_small = omega (arith, ap (λ (u : Information). u.held_count) c.left, whole)
+  pub held_count_small : t.held_count ≤ 16384
+  held_count_small = omega (arith, ap (λ (u : Information). u.held_count) c.left)
 
-    pub held_total_small : t.held_total ≤ 16384
-    held_total_small = omega (arith, ap (λ (u : Information). u.held_total) c.left, whole)
+  pub held_total_small : t.held_total ≤ 16384
+  held_total_small = omega (arith, ap (λ (u : Information). u.held_total) c.left)
 
-    pub count_end : length ws ≤ i → t ≡ counted (decode ws)
-    unfolding free_sizes held_sizes largest_of sum_of
-    count_end l =
-        let e : decode (drop i ws) ≡ [] = walk_end ws i c.here l in
-        sym (plus_end t) ∙ sym (ap (λ (s : List Segment). plus t (counted s)) e) ∙ c.left
+  pub count_end : xs ≡ [] → t ≡ counted (decode ws)
+  count_end e = sym (plus_end t) ∙ sym (ap (λ (s : List Placed). plus t (counted (map told s))) e) ∙ c.left
 
-    pub small_end : length ws ≤ i → Small t
-    small_end l =
-        rw (count_end l)
-        (record { free_largest = omega (arith, whole); free_total = omega (arith, whole); held_largest = omega (arith, whole); held_total = omega (arith, whole) })
+  pub small_end : xs ≡ [] → Small t
+  small_end e = rw (count_end e) (record { free_largest = omega arith; free_total = omega arith; held_largest = omega arith; held_total = omega arith })
 
-    module _ (l : i < length ws) (u : Information) where
-      pub count_free : get_or ws i 0 % 2 ≡ 0 → u ≡ with_free t (get_or ws i 0 / 2) → Counting ws (i + get_or ws i 0 / 2) u
-      count_free e q =
-          rw q
-          (record {
-            here = next_here ws i c.here l;
-            left = sym (ap (λ (s : List Segment). plus t (counted s)) (says_free ws i c.here l e) ∙ plus_free t (get_or ws i 0 / 2) (decode (drop (i + get_or ws i 0 / 2) ws))) ∙ c.left;
-          })
+  module _ (x : Placed) (ys : List Placed) (e : xs ≡ x ∷ ys) where
+    pub pages_small : x.pages ≤ 16384
+    pages_small = let h : EndBy 16384 (x ∷ ys) = rw e at c.ends in omega (arith, h.0)
 
-      pub count_held : (get_or ws i 0 % 2 ≡ 0 → ⊥) → u ≡ with_held t (get_or ws i 0 / 2) → Counting ws (i + get_or ws i 0 / 2) u
-      count_held e q =
-          rw q
-          (record {
-            here = next_here ws i c.here l;
-            left = sym (ap (λ (s : List Segment). plus t (counted s)) (says_held ws i c.here l e) ∙ plus_held t (get_or ws i 0 / 2) (decode (drop (i + get_or ws i 0 / 2) ws))) ∙ c.left;
-          })
+    same : plus t (counted (map told (x ∷ ys))) ≡ counted (decode ws)
+    same = rw e at c.left
 
-pub ruleset counting = (count_start, free_count_small, free_total_small, held_count_small, held_total_small, count_end, small_end, count_free, count_held)
+    module _ (u : Information) where
+      pub count_free : x.held ≡ false → u ≡ with_free t x.pages → Counting ws ys u
+      count_free h q =
+          rw q (record { ends = (rw e at c.ends).1; within = c.within; left = sym (plus_free t x.pages (map told ys)) ∙ rw h at same })
+
+      pub count_held : x.held ≡ true → u ≡ with_held t x.pages → Counting ws ys u
+      count_held h q =
+          rw q (record { ends = (rw e at c.ends).1; within = c.within; left = sym (plus_held t x.pages (map told ys)) ∙ rw h at same })
+
+pub ruleset counting = (count_start, free_count_small, free_total_small, held_count_small, held_total_small, count_end, small_end, pages_small, count_free, count_held)
 
 -- pages in bytes
 pub bytes_fit : (n page : ℕ) → n ≤ 16384 → page ≤ 4096 → Fits w32 (n * page)

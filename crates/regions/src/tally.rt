@@ -5,6 +5,7 @@ ghost use Rattle.manager.specs.Regions.{information_of};
 ghost use Rattle.regions.specs.Count.{counted, with_free, with_held, Small};
 
 use manager::Information;
+use map::Segments;
 
 fn larger(a: u32, b: u32) -> u32
     ensures { result ≡ max a b }
@@ -57,16 +58,12 @@ fn count(map: &[u32]) -> Information
         held_largest: 0,
         held_total: 0,
     };
-    let mut i = 0;
-    while i < map.len() {
-        let w = map[i];
-        let pages = w / 2;
-        i = i + pages as usize;
-        if w % 2 == 0 {
-            t = add_free(t, pages);
+    for s in Segments::of(map) {
+        t = if s.held {
+            add_held(t, s.pages)
         } else {
-            t = add_held(t, pages);
-        }
+            add_free(t, s.pages)
+        };
     }
     t
 }

@@ -1,6 +1,6 @@
 -- The stores by the kind of a region, where code has asked which it is: what its own functions need and leave is what the kind's do. Assumes
 -- nothing.
-use Rattle.std.specs.Prelude.{Option, None, Some}
+use Rattle.std.specs.Prelude.{Option, Some}
 use Prim.Native.Nat.{ℕ, ◌+◌, ◌≤◌}
 use mathlib.Core.Path.{◌≡◌, sym, ap, ◌∙◌}
 use mathlib.Core.Bool.{Bool, true, false}
@@ -40,26 +40,19 @@ module _ (o : Order) (b : Bool) (e : b ≡ by_halves o) (ws : List ℕ) (ok : so
     halves_sound = rw (kind_halves o b e h) at ok
 
     -- what is taken by the places of words is taken by the numbers of pages
-    module _ (n : Need) (first : ℕ) (q : Option ℕ) (out : List ℕ)
-        (x : (q ≡ place_block n.pages 0 (decode ws)) × (out ≡ draw (allocate halves n 0 (decode ws)))) where
-      takes : (shifted first q ≡ (kind_of o).place n first (decode ws)) × (out ≡ draw (allocate (kind_of o) n first (decode ws)))
-      takes =
-          rw (kind_halves o b e h) (
-            ap (shifted first) x.0 ∙ sym (rw (add-zero first) at (place_shift first n.pages 0 (decode ws))),
-            x.1 ∙ ap draw (sym (rw (add-zero first) at (take_shift first n 0 (decode ws)))),
-          )
+    pub halves_takes : (n : Need) (first : ℕ) (q : Option ℕ) (out : List ℕ)
+        → (q ≡ place_block n.pages 0 (decode ws)) × (out ≡ draw (allocate halves n 0 (decode ws)))
+        → (shifted first q ≡ (kind_of o).place n first (decode ws)) × (out ≡ draw (allocate (kind_of o) n first (decode ws)))
+    halves_takes n first q out x =
+        rw (kind_halves o b e h) (
+          ap (shifted first) x.0 ∙ sym (rw (add-zero first) at (place_shift first n.pages 0 (decode ws))),
+          x.1 ∙ ap draw (sym (rw (add-zero first) at (take_shift first n 0 (decode ws)))),
+        )
 
-      pub halves_none : q ≡ None → (None ≡ (kind_of o).place n first (decode ws)) × (out ≡ draw (allocate (kind_of o) n first (decode ws)))
-      halves_none z = rw z at takes
-
-      pub halves_at : (i : ℕ) → q ≡ Some i → (Some (first + i) ≡ (kind_of o).place n first (decode ws)) × (out ≡ draw (allocate (kind_of o) n first (decode ws)))
-      halves_at i z = rw z at takes
-
-      -- the number of the page fits
-      pub page_fits : first ≤ 65536 → length ws ≤ 16384 → 1 ≤ n.pages → (i : ℕ) → q ≡ Some i → Fits w64 (first + i)
-      page_fits low few some i z =
-          Fits-under w64 (first + i) 81921
-          (omega (arith, ((keeps HalvesFifo).place_in n 0 (decode ws) i some (sym x.0 ∙ z)).1, tiles)) tt
+    -- the number of the page fits
+    pub page_fits : (n : Need) (first i : ℕ) → Some i ≡ place_block n.pages 0 (decode ws) → first ≤ 65536 → length ws ≤ 16384 → 1 ≤ n.pages → Fits w64 (first + i)
+    page_fits n first i x low few some =
+        Fits-under w64 (first + i) 81921 (omega (arith, ((keeps HalvesFifo).place_in n 0 (decode ws) i some (sym x)).1, tiles)) tt
 
     pub halves_releases : (p : ℕ) (out : List ℕ) → out ≡ draw (release_block (level (length ws)) p 0 (decode ws)) → out ≡ draw ((kind_of o).change p 0 0 (decode ws))
     halves_releases p out x = rw (kind_halves o b e h, tiles) x

@@ -12,14 +12,14 @@ use lib.ListN.{length, get_or, set, length-append, length-set}
 use borrow.Author.Tests.{leb-true, eq-eqb, ne_eqb}
 use Rattle.arith.specs.Round.{align_up}
 use Rattle.arith.proofs.Laws.Round.{align_ge}
-use Rattle.manager.specs.Map.{Segment, free, held, size_of, words_of, draw, decode, sound_map, total}
-use Rattle.manager.proofs.Laws.Map.{sound_tiled, redraw, draw_append, draw_cons, length_draw, length_words, total_cons}
+use Rattle.manager.specs.Map.{Segment, free, held, size_of, words_of, draw, decode, tiled, sound_map, total}
+use Rattle.manager.proofs.Laws.Map.{Sized, sized_decoded, sound_tiled, redraw, draw_append, draw_cons, length_draw, length_words, total_cons}
 use Rattle.manager.proofs.Laws.Apart.{Well, well_decoded, well_at, well_after}
 use Rattle.manager.specs.Kind.{on_place, allocate}
 use Rattle.manager.specs.Paged.{apart, free+, room_from, paged, place_from}
 use Rattle.manager.proofs.Laws.Paged.{room_in, first_fit, fit_is, take_none, free_none, free_front, well_free}
 use Rattle.manager.specs.declared.Need.{Need}
-use Rattle.segments.specs.MapWords.{cutting, taking, segment_from}
+use Rattle.segments.specs.MapWords.{cutting, taking, segment_from, HasRoom}
 use Rattle.segments.proofs.Words.{word_at, words_in_lem, cutting_words}
 
 -- free pages before a map that does not start with a free segment
@@ -139,16 +139,33 @@ cut_long i pages k mark ws out x = ap length x ∙ go (ltb k pages)
     go true = simp length-set refl
     go false = simp length-set refl
 
+sized_behind : (a b : List Segment) → Sized (a ++ b) → Sized b
+sized_behind [] b z = z
+sized_behind (g ∷ a) b z = sized_behind a b z.1
+
+-- the segment that the search finds has room
+pub has_room : (w : Need) (first i : ℕ) (ws : List ℕ) → tiled ws ≡ true → Some i ≡ segment_from w first 0 (decode ws) → HasRoom w first ws i
+has_room w first i ws ok e =
+    let h = found w first 0 (decode ws) i (sym e) in
+    let x : ws ≡ draw h.pre ++ (words_of h.pages 0 ++ draw h.post) =
+    sym (redraw ws ok) ∙ ap draw h.is ∙ draw_append h.pre (free h.pages ∷ h.post) ∙ ap (λ (u : List ℕ). draw h.pre ++ u) (draw_cons (free h.pages) h.post) in
+    let l : length (draw h.pre) ≡ i = omega (arith, length_draw h.pre, h.page) in
+    let o : 1 ≤ h.pages = (sized_behind h.pre (free h.pages ∷ h.post) (rw h.is at (sized_decoded ws ok))).0 in
+    let c : get_or ws i 0 / 2 ≡ h.pages = omega (arith, word_at (draw h.pre) (draw h.post) ws h.pages 0 i x l o) in
+    record {
+      within = omega (arith, words_in_lem (draw h.pre) (draw h.post) ws h.pages 0 i x l);
+      room = λ k. omega (arith, room_in w.every (first + i) h.pages w.pages k h.room, align_ge w.every (first + i));
+      place = e;
+    }
+
 -- WHERE THE SEARCH FINDS THE SEGMENT AT PAGE i: the page that is taken, what stands there, and the words after it is taken
 pub record Took (w : Need) (first i : ℕ) (ws : List ℕ) : Type 0 where
   pub place : Some (first + i + gap_at w first i) ≡ place_from w first (decode ws)
-  pub room : gap_at w first i + w.pages ≤ get_or ws i 0 / 2
-  pub within : i + get_or ws i 0 / 2 ≤ length ws
   pub held : taking i (gap_at w first i) w.pages ws ≡ draw (allocate paged w first (decode ws))
 
-pub took : (w : Need) (first i : ℕ) (ws : List ℕ) → sound_map apart ws ≡ true → 1 ≤ w.pages → segment_from w first 0 (decode ws) ≡ Some i → Took w first i ws
+pub took : (w : Need) (first i : ℕ) (ws : List ℕ) → sound_map apart ws ≡ true → 1 ≤ w.pages → Some i ≡ segment_from w first 0 (decode ws) → Took w first i ws
 took w first i ws ok o e =
-    let h = found w first 0 (decode ws) i e in
+    let h = found w first 0 (decode ws) i (sym e) in
     let k = w.pages in
     let gap = gap_at w first i in
     let up = align_ge w.every (first + i) in
@@ -173,9 +190,7 @@ took w first i ws ok o e =
     ∙ ap (λ (u : List ℕ). words_of gap 0 ++ u)
     (draw_cons (held k) (free+ (n - gap - k) h.post) ∙ ap (λ (u : List ℕ). words_of k 1 ++ u) (draw_free (n - gap - k) h.post v))) in
     record {
-      place = sym (rw (f, e, a) at (placed w first 0 (decode ws)));
-      room = omega arith;
-      within = omega (arith, words_in_lem p t ws n 0 i x l);
+      place = sym (rw (f, ← e, a) at (placed w first 0 (decode ws)));
       held = taking_words p t ws n i gap k x l o r c ∙ sym y;
     }
 
@@ -188,8 +203,8 @@ module _ (w : Need) (first i : ℕ) (ws : List ℕ) (t : Took w first i ws) (gap
   words_are out x = x ∙ rw e t.held
 
 -- where nothing is found, nothing changes
-pub untaken : (ws : List ℕ) (w : Need) (first : ℕ) → sound_map apart ws ≡ true → segment_from w first 0 (decode ws) ≡ None
+pub untaken : (ws : List ℕ) (w : Need) (first : ℕ) → sound_map apart ws ≡ true → None ≡ segment_from w first 0 (decode ws)
     → (None ≡ place_from w first (decode ws)) × (ws ≡ draw (allocate paged w first (decode ws)))
 untaken ws w first ok e =
-    let z : place_from w first (decode ws) ≡ None = rw (add-zero first, e) at (placed w first 0 (decode ws)) in
+    let z : place_from w first (decode ws) ≡ None = rw (add-zero first, ← e) at (placed w first 0 (decode ws)) in
     (sym z, sym (ap draw (take_none w first (decode ws) z) ∙ redraw ws (sound_tiled apart ws ok)))

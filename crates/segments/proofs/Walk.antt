@@ -1,74 +1,58 @@
--- Walks of a tiled map from segment to segment: what is left of a search from here on gives the whole. Assumes nothing.
-use Rattle.std.specs.Prelude.{None, Some}
-use Prim.Native.Nat.{ℕ, ◌+◌, ◌/◌, ◌%◌, ◌≤◌, ◌<◌}
-use mathlib.Core.Path.{◌≡◌, refl, sym, ap, ◌∙◌}
-use mathlib.Core.Bool.{true}
-use mathlib.Core.List.{List}
-use lib.ListN.{length, get_or, drop}
-use borrow.Author.Tests.{le-leb, lt-leb, eq-eqb, ne_eqb}
-use Rattle.manager.specs.Map.{decode, tiled}
-use Rattle.manager.proofs.Laws.Map.{size_of_lem, Here, walk_start, walk_step, walk_end, says_free, says_held, next_here}
+-- The two walks over a map of a region of pages: what each finds among the segments in their places. By induction over them. Assumes nothing.
+use Rattle.std.proofs.Common.{◌≡◌, ℕ, ◌+◌, Bool, true, false, cond, not, ◌&&◌, nat_eq, List, [], ◌∷◌, length, Option, None, Some, refl, ap, take, one-add}
+use Rattle.std.specs.List.{prefix_len, last_or}
+use Rattle.std.specs.Option.{option_map_or}
+use lib.Dec.{leb}
+use Rattle.manager.specs.Map.{free, held, decode, tiled, size_of}
+use Rattle.manager.specs.Map.{Segment as Described}
 use Rattle.manager.specs.Paged.{room_from}
-use Rattle.segments.specs.MapWords.{segment_from, before_from}
 use Rattle.manager.specs.declared.Need.{Need}
+use Rattle.map.specs.Walk.{placed, placed_at}
+use Rattle.map.specs.declared.walk.Segment.{Segment}
+use Rattle.map.proofs.Walked.{EndBy, placed_end}
+use Rattle.segments.specs.MapWords.{segment_from, before_from}
 
--- the search has come to page i
-pub record Placing (ws : List ℕ) (first : ℕ) (n : Need) (i : ℕ) : Type 0 where
-  pub here : Here ws i
-  pub left : segment_from n first i (decode (drop i ws)) ≡ segment_from n first 0 (decode ws)
+-- ---- the lowest free segment that has the pages of a need
 
-pub place_start : (ws : List ℕ) (first : ℕ) (n : Need) → tiled ws ≡ true → Placing ws first n 0
-place_start ws first n ok = record { here = walk_start ws ok; left = refl }
+abbrev placing_in : Need → ℕ → List Segment → Option ℕ
+placing_in n first [] = None
+placing_in n first (x ∷ xs) = cond (not x.held && leb n.pages (room_from n.every (first + x.at) x.pages)) (Some x.at) (placing_in n first xs)
 
-module _ (ws : List ℕ) (first : ℕ) (n : Need) (i : ℕ) (p : Placing ws first n i) where
-  pub place_end : length ws ≤ i → None ≡ segment_from n first 0 (decode ws)
-  unfolding segment_from
-  place_end l = sym (ap (segment_from n first i) (walk_end ws i p.here l)) ∙ p.left
+placing_lem : (n : Need) (first at : ℕ) (s : List Described) → placing_in n first (placed at s) ≡ segment_from n first at s
+unfolding placed segment_from
+placing_lem n first at [] = refl
+placing_lem n first at (held m ∷ s) = placing_lem n first (at + m) s
+placing_lem n first at (free m ∷ s) =
+    ap (λ (o : Option ℕ). cond (leb n.pages (room_from n.every (first + at) m)) (Some at) o) (placing_lem n first (at + m) s)
 
-  module _ (l : i < length ws) where
-    pub place_held : (get_or ws i 0 % 2 ≡ 0 → ⊥) → Placing ws first n (i + get_or ws i 0 / 2)
-    unfolding segment_from
-    place_held ne = record { here = next_here ws i p.here l; left = sym (ap (segment_from n first i) (says_held ws i p.here l ne)) ∙ p.left }
+-- the search has the segments xs left
+pub record Placing (ws : List ℕ) (first : ℕ) (n : Need) (xs : List Segment) : Type 0 where
+  pub ends : EndBy (length ws) xs
+  pub same : placing_in n first xs ≡ segment_from n first 0 (decode ws)
 
-    module _ (e : get_or ws i 0 % 2 ≡ 0) (r : ℕ) (er : r ≡ room_from n.every (first + i) (get_or ws i 0 / 2)) where
-      pub place_small : r < n.pages → Placing ws first n (i + get_or ws i 0 / 2)
-      unfolding segment_from
-      place_small lt =
-          record {
-            here = next_here ws i p.here l;
-            left = sym (ap (segment_from n first i) (says_free ws i p.here l e) ∙ rw (← er, lt-leb n.pages r lt)) ∙ p.left;
-          }
+pub place_start : (ws : List ℕ) (first : ℕ) (n : Need) (xs : List Segment) → tiled ws ≡ true → xs ≡ placed 0 (decode ws) → Placing ws first n xs
+place_start ws first n xs ok e = rw e (record { ends = placed_end ws ok; same = placing_lem n first 0 (decode ws) })
 
-      pub place_here : n.pages ≤ r → Some i ≡ segment_from n first 0 (decode ws)
-      unfolding segment_from
-      place_here le = sym (ap (segment_from n first i) (says_free ws i p.here l e) ∙ rw (← er, le-leb n.pages r le)) ∙ p.left
+-- ---- the segment before the one at page p
 
-pub ruleset placing = (place_start, place_end, place_held, place_small, place_here)
+abbrev page_of : ℕ → Option Segment → ℕ
+page_of q o = option_map_or (λ (x : Segment). x.at) o q
 
--- the walk to the segment before page p has come to page i, from page q
-pub record Seeking (ws : List ℕ) (p q i : ℕ) : Type 0 where
-  pub here : Here ws i
-  pub left : before_from p q i (decode (drop i ws)) ≡ before_from p p 0 (decode ws)
+abbrev before : ℕ → List Segment → List Segment
+before p xs = take (prefix_len (λ (x : Segment). not (nat_eq x.at p)) xs) xs
 
-pub seek_start : (ws : List ℕ) (p : ℕ) → tiled ws ≡ true → Seeking ws p p 0
-seek_start ws p ok = record { here = walk_start ws ok; left = refl }
+-- the walk goes on, or ends here
+before_step : (p : ℕ) (t : Bool) (k : ℕ) (x : Segment) (xs : List Segment) (o : Option Segment) (r : ℕ)
+    → page_of p (last_or (Some x) (take k xs)) ≡ r
+    → page_of p (last_or o (take (cond (not t) (1 + k) 0) (x ∷ xs))) ≡ cond t (page_of p o) r
+before_step p true k x xs o r e = refl
+before_step p false k x xs o r e = rw one-add e
 
-module _ (ws : List ℕ) (p q i : ℕ) (s : Seeking ws p q i) where
-  pub seek_end : length ws ≤ i → q ≡ before_from p p 0 (decode ws)
-  unfolding before_from
-  seek_end l = sym (ap (before_from p q i) (walk_end ws i s.here l)) ∙ s.left
+last_before : (p at : ℕ) (s : List Described) (o : Option Segment) → page_of p (last_or o (before p (placed at s))) ≡ before_from p (page_of p o) at s
+unfolding placed before_from
+last_before p at [] o = refl
+last_before p at (g ∷ s) o =
+    before_step p (nat_eq at p) _ _ (placed (at + size_of g) s) o _ (last_before p (at + size_of g) s (Some (placed_at at g)))
 
-  module _ (l : i < length ws) where
-    pub seek_here : i ≡ p → q ≡ before_from p p 0 (decode ws)
-    unfolding before_from
-    seek_here e = sym (ap (before_from p q i) (walk_step ws i s.here l).says ∙ rw (eq-eqb i p e)) ∙ s.left
-
-    pub seek_next : (i ≡ p → ⊥) → Seeking ws p i (i + get_or ws i 0 / 2)
-    unfolding before_from
-    seek_next ne =
-        record {
-          here = next_here ws i s.here l;
-          left = sym (ap (before_from p q i) (walk_step ws i s.here l).says ∙ rw (ne_eqb i p ne, size_of_lem (get_or ws i 0))) ∙ s.left;
-        }
-
-pub ruleset seeking = (seek_start, seek_end, seek_here, seek_next)
+pub previous_page : (p : ℕ) (s : List Described) (xs : List Segment) → xs ≡ before p (placed 0 s) → page_of p (last_or None xs) ≡ before_from p p 0 s
+previous_page p s xs e = rw e (last_before p 0 s None)

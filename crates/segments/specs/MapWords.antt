@@ -1,8 +1,11 @@
 -- What the private functions on a region's map do. Assumes nothing.
-use Rattle.std.specs.Prelude.{ℕ, ◌+◌, ◌-◌, ◌*◌, ◌/◌, ◌≡◌, cond, List, [], ◌∷◌, get_or, set, eqb, leb, ltb, Option, None, Some}
+use Rattle.std.specs.Prelude.{ℕ, ◌+◌, ◌-◌, ◌*◌, ◌/◌, ◌≡◌, ◌≤◌, cond, List, [], ◌∷◌, length, get_or, set, eqb, leb, ltb, Option, None, Some}
+use Rattle.arith.specs.Round.{align_up}
 use Rattle.manager.specs.Map.{Segment, free, held, decode, draw, size_of}
 use Rattle.manager.specs.Paged.{room_from, reach_from, change_from}
+use Rattle.manager.specs.Halves.{FreeAt, smallest, place_block}
 use Rattle.manager.specs.declared.Need.{Need}
+use Rattle.map.specs.declared.walk.Segment.{Segment as Placed}
 
 -- the words where of a segment of so many pages at page i the first k are one, so marked, and the others a free one
 unfoldable pub cutting : ℕ → ℕ → ℕ → ℕ → List ℕ → List ℕ
@@ -22,6 +25,12 @@ segment_from w first at (held n ∷ s) = segment_from w first (at + n) s
 segment_from w first at (free n ∷ s) =
     cond (leb w.pages (room_from w.every (first + at) n)) (Some at) (segment_from w first (at + n) s)
 
+-- the segment at page i is that one, and it has the pages of the need from the first one on the alignment on
+pub record HasRoom (n : Need) (first : ℕ) (ws : List ℕ) (i : ℕ) : Type 0 where
+  pub within : i + get_or ws i 0 / 2 ≤ length ws
+  pub room : 1 ≤ n.pages → align_up n.every (first + i) - (first + i) + n.pages ≤ get_or ws i 0 / 2
+  pub place : Some i ≡ segment_from n first 0 (decode ws)
+
 -- the page of the segment before the one at page p, where the map starts at page `at` behind a segment at page q
 unfoldable pub before_from : ℕ → ℕ → ℕ → List Segment → ℕ
 before_from p q at [] = q
@@ -31,3 +40,11 @@ before_from p q at (g ∷ s) = cond (eqb at p) q (before_from p at (at + size_of
 pub record Extends (p : ℕ) (ws : List ℕ) (k : ℕ) (out : List ℕ) : Type 0 where
   pub pages : k ≡ reach_from p 0 (decode ws)
   pub words : out ≡ draw (change_from p k 0 (decode ws))
+
+-- of the free blocks that have k pages or more this is one of the smallest, and the lowest of those
+pub record IsSmallest (k : ℕ) (ws : List ℕ) (b : Placed) : Type 0 where
+  pub within : b.at + b.pages ≤ length ws
+  pub there : FreeAt (decode ws) 0 b.at b.pages
+  pub enough : k ≤ b.pages
+  pub pages : b.pages ≡ smallest k (decode ws)
+  pub place : Some b.at ≡ place_block k 0 (decode ws)

@@ -1,61 +1,23 @@
 // Stores in the map of a region by halves: these functions have exactly its words, or those of one block of it. `allocate` and `release` need
 // them sound, and those that only read need them tiled.
-ghost use Rattle.std.specs.Prelude.{◌≡◌, true, ◌+◌, ◌-◌, ◌≤◌, length, take, drop, replicate};
+ghost use Rattle.std.specs.Prelude.{◌≡◌, true, ◌+◌, ◌-◌, ◌≤◌, length, take, drop, replicate, MatchOption};
 ghost use Rattle.arith.specs.Power.{level, is_power};
 ghost use Rattle.manager.specs.Kind.{allocate, held_from};
 ghost use Rattle.manager.specs.Map.{tiled, sound_map, decode, draw};
-ghost use Rattle.manager.specs.Halves.{lesser, smallest, lowest_free, carve, join, release_block, halves};
+ghost use Rattle.manager.specs.Halves.{place_block, carve, join, release_block, halves};
+ghost use Rattle.segments.specs.MapWords.{IsSmallest};
 
 use manager::Need;
+use map::{Segment, Segments};
 
-// The smaller of two sizes, of which the second is 0 where there is none.
-fn lesser(n: u32, m: u32) -> u32
-    ensures { result ≡ lesser n m }
-{
-    if m == 0 {
-        return n;
-    }
-    if n <= m { n } else { m }
-}
-
-// The pages of the smallest free block that has k or more; 0 where there is none.
-fn smallest(map: &[u32], k: u64) -> u32
+// The smallest free block that has k pages or more, the lowest of its size.
+fn smallest(map: &[u32], k: u64) -> Option<Segment>
     requires { tiled map.now ≡ true }
-    ensures { result ≡ smallest k (decode map.now) }
+    ensures { MatchOption result (None ≡ place_block k 0 (decode map.now)) (IsSmallest k map.now) }
 {
-    let mut best: u32 = 0;
-    let mut i = 0;
-    while i < map.len() {
-        let w = map[i];
-        let pages = w / 2;
-        i = i + pages as usize;
-        if w % 2 == 0 {
-            if k <= pages as u64 {
-                best = lesser(pages, best);
-            }
-        }
-    }
-    best
-}
-
-// The first page of the lowest free block of b pages.
-fn lowest_free(map: &[u32], b: u32) -> Option<usize>
-    requires { tiled map.now ≡ true }
-    ensures { result ≡ lowest_free b 0 (decode map.now) }
-{
-    let mut i = 0;
-    while i < map.len() {
-        let w = map[i];
-        let at = i;
-        let pages = w / 2;
-        i = i + pages as usize;
-        if w % 2 == 0 {
-            if pages == b {
-                return Some(at);
-            }
-        }
-    }
-    None
+    Segments::of(map)
+        .filter(|s| !s.held && k <= s.pages as u64)
+        .min_by_key(|s| s.pages)
 }
 
 // Halves a block, of whose words all but the first are 0, again and again until it has k pages or fewer, the low half going on. What is left
@@ -82,19 +44,11 @@ pub(crate) fn allocate(map: &mut [u32], n: Need) -> Option<usize>
     requires some { 1 ≤ n.pages }
     ensures { (result ≡ halves.place n 0 (decode map.old)) × (map.new ≡ draw (allocate halves n 0 (decode map.old))) }
 {
-    let k = n.pages;
-    let b = smallest(map, k);
-    if b == 0 {
-        return None;
-    }
-    match lowest_free(map, b) {
-        None => None,
-        Some(i) => {
-            let end = i + b as usize;
-            carve(&mut map[i..end], k as u32);
-            Some(i)
-        }
-    }
+    let block = smallest(map, n.pages)?;
+    let at = block.at;
+    let end = at + block.pages as usize;
+    carve(&mut map[at..end], n.pages as u32);
+    Some(at)
 }
 
 // Frees the held block at page p. A block that it makes whole with its other half joins the other half of that, and so on upwards.

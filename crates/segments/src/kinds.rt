@@ -17,13 +17,8 @@ pub(crate) fn allocate(map: &mut [u32], o: Order, first: u64, n: Need) -> Option
     if !map::by_halves(o) {
         return pages::allocate(map, first, n);
     }
-    match halves::allocate(map, n) {
-        None => None,
-        Some(i) => {
-            let page = first as usize + i;
-            Some(page)
-        }
-    }
+    let i = halves::allocate(map, n)?;
+    Some(first as usize + i)
 }
 
 // Frees the held segment at page p.

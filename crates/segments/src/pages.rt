@@ -1,29 +1,23 @@
 // Stores in the map of a region of pages: these functions have exactly its words, and need them sound; those that only read need them
 // tiled.
-ghost use Rattle.std.specs.Prelude.{◌≡◌, true, ◌+◌, ◌/◌, ◌≤◌, length, get_or};
+ghost use Rattle.std.specs.Prelude.{◌≡◌, true, ◌+◌, ◌/◌, ◌≤◌, length, get_or, MatchOption};
 ghost use Rattle.manager.specs.Map.{tiled, sound_map, decode, draw};
 ghost use Rattle.manager.specs.Kind.{allocate, held_from};
 ghost use Rattle.manager.specs.Paged.{apart, paged, place_from, reach_from, change_from};
-ghost use Rattle.segments.specs.MapWords.{cutting, taking, segment_from, before_from, Extends};
+ghost use Rattle.segments.specs.MapWords.{cutting, taking, segment_from, HasRoom, before_from, Extends};
 
 use manager::Need;
+use map::Segments;
 
 // The free segment with the lowest address that has the pages, from the first one on the alignment on: the place of its word. The map's first
 // page is page `first`.
 fn find(map: &[u32], first: u64, n: Need) -> Option<usize>
     requires { (tiled map.now ≡ true) × (length map.now ≤ 16384) × (first ≤ 65536) }
-    ensures { result ≡ segment_from n first 0 (decode map.now) }
+    ensures { MatchOption result (None ≡ segment_from n first 0 (decode map.now)) (HasRoom n first map.now) }
 {
-    let mut i = 0;
-    while i < map.len() {
-        let w = map[i];
-        let at = i;
-        let pages = w / 2;
-        i = i + pages as usize;
-        if w % 2 == 0 {
-            if n.pages <= map::room_from(n.every, first + at as u64, pages) as u64 {
-                return Some(at);
-            }
+    for s in Segments::of(map) {
+        if !s.held && n.pages <= map::room_from(n.every, first + s.at as u64, s.pages) as u64 {
+            return Some(s.at);
         }
     }
     None
@@ -63,16 +57,12 @@ pub(crate) fn allocate(map: &mut [u32], first: u64, n: Need) -> Option<usize>
     requires some { (1 ≤ n.pages) × (first ≤ 65536) }
     ensures { (result ≡ place_from n first (decode map.old)) × (map.new ≡ draw (allocate paged n first (decode map.old))) }
 {
-    match find(map, first, n) {
-        None => None,
-        Some(i) => {
-            let at = first + i as u64;
-            let gap = arith::gap_to(n.every, at);
-            take_at(map, i, gap as u32, n.pages as u32);
-            let page = at + gap;
-            Some(page as usize)
-        }
-    }
+    let i = find(map, first, n)?;
+    let at = first + i as u64;
+    let gap = arith::gap_to(n.every, at);
+    take_at(map, i, gap as u32, n.pages as u32);
+    let page = at + gap;
+    Some(page as usize)
 }
 
 // The held segment at page p takes in a free follower. Its pages then.
@@ -119,16 +109,10 @@ fn previous(map: &[u32], p: usize) -> usize
     requires { tiled map.now ≡ true }
     ensures { result ≡ before_from p p 0 (decode map.now) }
 {
-    let mut q = p;
-    let mut i = 0;
-    while i < map.len() {
-        if i == p {
-            return q;
-        }
-        q = i;
-        i = i + (map[i] / 2) as usize;
-    }
-    q
+    Segments::of(map)
+        .take_while(|s| s.at != p)
+        .last()
+        .map_or(p, |s| s.at)
 }
 
 // Frees the held segment of so many pages at page p, which has no free follower; q is what `previous` says.

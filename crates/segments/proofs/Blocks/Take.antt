@@ -1,6 +1,6 @@
 -- What a get does to the words: the smallest free block that serves, the lowest of its size, stands in the words as a first word and words
 -- 0; just these are lent, and what they are cut to is put back in their place. Assumes nothing.
-use Rattle.std.specs.Prelude.{None, Some}
+use Rattle.std.specs.Prelude.{None}
 use Prim.Native.Nat.{ℕ, zero, suc, ◌+◌, ◌-◌, ◌≤◌}
 use mathlib.Core.Path.{◌≡◌, sym, ap, ◌∙◌}
 use mathlib.Core.Logic.{inl, inr, ⊎_elim}
@@ -11,17 +11,18 @@ use native.Mathlib.Nat.{add-sub_cancel_left}
 use native.Mathlib.Numerals.{sub-one}
 use lib.ListN.{length, take, drop}
 use lib.Seq.{take_at, drop_at}
-use borrow.Author.Tests.{eq-eqb, ne_eqb}
+use borrow.Author.Tests.{eq-eqb}
 use Rattle.arith.specs.Power.{level, is_power}
 use Rattle.arith.proofs.Laws.Power.{is_power_lem}
 use Rattle.manager.specs.Map.{Segment, free, held, words_of, draw, decode, tiled, sound_map, total}
 use Rattle.manager.specs.Kind.{allocate}
-use Rattle.manager.specs.Halves.{FreeAt, smallest, lowest_free, place_block, carve, occupy_block, halves}
+use Rattle.manager.specs.Halves.{FreeAt, place_block, carve, occupy_block, halves}
 use Rattle.manager.specs.declared.Need.{Need}
+use Rattle.map.specs.declared.walk.Segment.{Segment as Placed}
+use Rattle.segments.specs.MapWords.{IsSmallest}
 use Rattle.manager.proofs.Laws.Map.{Sized, sound_tiled, sound_proper, redraw, sized_decoded, draw_append, draw_cons, length_draw, length_words}
-use Rattle.manager.proofs.Laws.Map.{total_decoded}
 use Rattle.manager.proofs.Laws.Halves.Cut.{Halved, one, two, proper_halved}
-use Rattle.manager.proofs.Laws.Halves.Place.{free_part, free_within, smallest_there, lowest_there}
+use Rattle.manager.proofs.Laws.Halves.Place.{free_part}
 use Rattle.manager.proofs.Laws.Halves.Take.{occupy_right}
 use Rattle.segments.proofs.Blocks.Carve.{Blank}
 
@@ -94,14 +95,11 @@ module _ (p m t ws : List ℕ) (i n : ℕ) (x : ws ≡ p ++ (m ++ t)) (ep : leng
 abbrev part : List ℕ → ℕ → ℕ → List ℕ
 part ws i b = take (i + b - i) (drop i ws)
 
-pub record Took (n : Need) (b i : ℕ) (ws : List ℕ) : Type 0 where
-  pub within : i + b ≤ length ws
-  pub room : n.pages ≤ b
-  pub long : length (part ws i b) ≡ b
-  pub blank : Blank (part ws i b) n.pages
-  pub place : Some i ≡ place_block n.pages 0 (decode ws)
-  pub words : (out : List ℕ) → out ≡ draw (carve (level (length (part ws i b))) n.pages (length (part ws i b)))
-      → take i ws ++ (out ++ drop (i + b - i) (drop i ws)) ≡ draw (allocate halves n 0 (decode ws))
+pub record Took (n : Need) (x : Placed) (ws : List ℕ) : Type 0 where
+  pub long : length (part ws x.at x.pages) ≡ x.pages
+  pub blank : Blank (part ws x.at x.pages) n.pages
+  pub words : (out : List ℕ) → out ≡ draw (carve (level (length (part ws x.at x.pages))) n.pages (length (part ws x.at x.pages)))
+      → take x.at ws ++ (out ++ drop (x.at + x.pages - x.at) (drop x.at ws)) ≡ draw (allocate halves n 0 (decode ws))
 
 module _ (ws : List ℕ) (n : Need) (ok : sound_map halves.proper ws ≡ true) where
   abbrev k : ℕ
@@ -111,53 +109,41 @@ module _ (ws : List ℕ) (n : Need) (ok : sound_map halves.proper ws ≡ true) w
   tiles = sound_tiled halves.proper ws ok
 
   -- where none serves nothing changes
-  module _ (b : ℕ) (eb : b ≡ smallest k (decode ws)) where
-    pub none_large : b ≡ 0 → place_block k 0 (decode ws) ≡ None
-    unfolding place_block
-    none_large z = rw (eq-eqb (smallest k (decode ws)) 0 (sym eb ∙ z))
+  pub untaken : None ≡ place_block k 0 (decode ws) → (None ≡ place_block k 0 (decode ws)) × (ws ≡ draw (allocate halves n 0 (decode ws)))
+  untaken e = (e, rw (← e) (sym (redraw ws tiles)))
 
-    pub place_is : (b ≡ 0 → ⊥) → place_block k 0 (decode ws) ≡ lowest_free b 0 (decode ws)
-    unfolding place_block
-    place_is ne = rw (← eb, ne_eqb b 0 ne)
-
-  pub untaken : place_block k 0 (decode ws) ≡ None → (None ≡ place_block k 0 (decode ws)) × (ws ≡ draw (allocate halves n 0 (decode ws)))
-  untaken e = (sym e, rw e (sym (redraw ws tiles)))
-
-  module _ (b i : ℕ) (o : 1 ≤ k) (eb : b ≡ smallest k (decode ws)) (ne : b ≡ 0 → ⊥) (ei : lowest_free b 0 (decode ws) ≡ Some i) where
+  module _ (o : 1 ≤ k) (x : Placed) (c : IsSmallest k ws x) where
     abbrev s : List Segment
     s = decode ws
 
-    there : FreeAt s 0 i b
-    there = (lowest_there b 0 s i ei).0
+    abbrev i : ℕ
+    i = x.at
 
-    place : place_block k 0 s ≡ Some i
-    place = place_is b eb ne ∙ ei
+    abbrev b : ℕ
+    b = x.pages
 
-    pub took : Took n b i ws
+    pub took : Took n x ws
     took =
-        let h = spot 0 i b s there in
+        let h = spot 0 i b s c.there in
         let p = draw h.pre in
         let m = words_of b 0 in
         let t = draw h.post in
         let g = carve (level b) k b in
-        let x : ws ≡ p ++ (m ++ t) =
+        let y : ws ≡ p ++ (m ++ t) =
         sym (redraw ws tiles)
         ∙ ap draw h.is
         ∙ draw_append h.pre (free b ∷ h.post)
         ∙ ap (λ (u : List ℕ). p ++ u) (draw_cons (free b) h.post) in
         let ep : length p ≡ i = omega (arith, length_draw h.pre, h.page) in
         let em : length m ≡ b = length_words b 0 in
-        let y : part ws i b ≡ m = part_is p m t ws i b x ep em in
+        let z : part ws i b ≡ m = part_is p m t ws i b y ep em in
         let w : draw (occupy_block i k 0 s) ≡ p ++ (draw g ++ t) =
         ap draw (occupy_spot 0 i b k s h (sized_decoded ws tiles))
         ∙ draw_append h.pre (g ++ h.post)
         ∙ ap (λ (u : List ℕ). p ++ u) (draw_append g h.post) in
-        let v : draw (allocate halves n 0 s) ≡ draw (occupy_block i k 0 s) = rw place in
+        let v : draw (allocate halves n 0 s) ≡ draw (occupy_block i k 0 s) = rw (← c.place) in
         record {
-          within = omega (arith, (free_within s 0 i b there).1, total_decoded ws tiles);
-          room = rw eb (smallest_there k s 0 o (omega (arith, eb))).2;
-          long = ap length y ∙ em;
-          blank = rw y (blank_words b k (free_power 0 i b (proper_halved s (sound_proper halves.proper ws ok)) there) (omega arith) o);
-          place = sym place;
-          words = λ out e. put_is p m t ws i b x ep em out ∙ rw (e, y, em) (sym (v ∙ w));
+          long = ap length z ∙ em;
+          blank = rw z (blank_words b k (free_power 0 i b (proper_halved s (sound_proper halves.proper ws ok)) c.there) (omega (arith, c.enough)) o);
+          words = λ out e. put_is p m t ws i b y ep em out ∙ rw (e, z, em) (sym (v ∙ w));
         }

@@ -1,33 +1,18 @@
--- `previous` meets its contract: a walk from segment to segment that keeps the last page. Assumes nothing.
-use native.Mathlib.Omega.{arith}
-use Rattle.manager.proofs.Laws.Map.{next_in, next_past}
-use Rattle.segments.proofs.Walk.{seeking}
-use borrow.Author.Rules.{rules}
+-- `previous` meets its contract: the last segment that the chain gives stands before page p. Assumes nothing.
+use Rattle.std.proofs.Common.{rules, tests, not, nat_eq}
+use Rattle.std.proofs.lemmas.Iterator.Consumers.{YieldsList-at}
+use Rattle.std.proofs.lemmas.Iterator.Search.{YieldsList-from_take_while}
+use Rattle.manager.specs.Map.{decode}
+use Rattle.map.specs.declared.walk.Segment.{Segment}
+use Rattle.map.proofs.Walked.{walk_gives, drained}
+use Rattle.segments.proofs.Walk.{previous_page}
 use Rattle.segments.proofs.pages.previous.Goals as goal
 
-pub loop-i-init : goal.loop-i-init
-loop-i-init c = search (rules, seeking)
-
-pub returns-then-i-p : goal.returns-then-i-p
-returns-then-i-p c = search (rules, seeking)
-
-pub offset_bounds-map-i : goal.offset_bounds-map-i
-offset_bounds-map-i c = search (rules, seeking)
-
-pub bounds-map-i : goal.bounds-map-i
-bounds-map-i c = search (rules, seeking)
-
-pub overflow_cast-i : goal.overflow_cast-i
-overflow_cast-i c = omega (arith, (next_in _ _ c.loop-i.invariant.here c.loop-i-test.true))
-
-pub overflow_add-i : goal.overflow_add-i
-overflow_add-i c = omega (arith, (next_in _ _ c.loop-i.invariant.here c.loop-i-test.true))
-
-pub loop-i-smaller : goal.loop-i-smaller
-loop-i-smaller c = omega (arith, (next_in _ _ c.loop-i.invariant.here c.loop-i-test.true), (next_past _ _ c.loop-i.invariant.here c.loop-i-test.true))
-
-pub loop-i-preserved : goal.loop-i-preserved
-loop-i-preserved c = search (rules, seeking)
-
 pub returns : goal.returns
-returns c = search (rules, seeking)
+returns c =
+    let ran = c.last.ensures.ran in
+    let e =
+    previous_page c.args.p (decode c.args.map.now) ran.0
+    (drained {s = c.take_while.result} ran.0 ran.1
+    (YieldsList-from_take_while _ (λ (x : Segment). not (nat_eq x.at c.args.p)) (YieldsList-at c.take_while.ensures.source (walk_gives {s = c.of.result} _ c.of.ensures)) c.take_while.ensures.closure c.take_while.ensures.done (λ x b q k. search (rules, tests)))) in
+    rw (← e) (search rules)
