@@ -13,19 +13,22 @@ use Rattle.manager.proofs.Laws.Apart.{Well, well_sized, well_decoded, well_drawn
 use Rattle.manager.specs.Kind.{held_from}
 use Rattle.manager.specs.Paged.{apart, free+, lead, rest, reach_from, change_from}
 use Rattle.manager.proofs.Laws.Paged.{well_rest, lead_none, rest_none, well_change}
-use Rattle.segments.specs.MapWords.{cutting, Extends}
+use Rattle.segments.specs.MapWords.{IsHeldAt, IsLastHeld, before_from, cutting, Extends}
 use Rattle.segments.proofs.Words.{cutting_words}
 use Rattle.segments.proofs.Take.{draw_free}
 use Rattle.segments.proofs.Stands.{Follower, none, kept, joins, Stands, stands, some, post_well, pre_long, word_is, within, held_is, reach_is, change_is, resize_is, grown, behind, alone, takes_in}
 
 -- ---- the tests of `extend`
 
-module _ (p : ℕ) (ws : List ℕ) (ok : sound_map apart ws ≡ true) (l : 1 ≤ held_from p 0 (decode ws)) where
+module _ {p : ℕ} {ws : List ℕ} (at : IsHeldAt apart p ws) where
   here : Stands p ws
-  here = stands p ws ok l
+  here = stands p ws at.sound at.held
 
   pages_is : get_or ws p 0 / 2 ≡ here.pages
   pages_is = omega (arith, word_is p ws here)
+
+  pub held_within : p + held_from p 0 (decode ws) ≤ length ws
+  held_within = omega (arith, held_is p ws here, within p ws here)
 
   pub extend_in : p + get_or ws p 0 / 2 ≤ length ws
   extend_in = omega (arith, pages_is, within p ws here)
@@ -34,13 +37,13 @@ module _ (p : ℕ) (ws : List ℕ) (ok : sound_map apart ws ≡ true) (l : 1 ≤
   extend_some = omega (arith, pages_is, some p ws here)
 
   at_end : Follower here.post ws (p + here.pages) → length ws ≤ p + here.pages → Extends p ws here.pages ws
-  at_end (none e z) h = alone p ws here ok z
+  at_end (none e z) h = alone p ws here at.sound z
   at_end (kept b m z) h = absurd (omega arith)
   at_end (joins w o b x) h = absurd (omega arith)
 
   at_held : Follower here.post ws (p + here.pages) → p + here.pages < length ws → (get_or ws (p + here.pages) 0 % 2 ≡ 0 → ⊥) → Extends p ws here.pages ws
   at_held (none e z) h ne = absurd (omega arith)
-  at_held (kept b m z) h ne = alone p ws here ok z
+  at_held (kept b m z) h ne = alone p ws here at.sound z
   at_held (joins w o b x) h ne = absurd (ne (omega arith))
 
   at_free : Follower here.post ws (p + here.pages) → p + here.pages < length ws → get_or ws (p + here.pages) 0 % 2 ≡ 0
@@ -64,22 +67,22 @@ module _ (p : ℕ) (ws : List ℕ) (ok : sound_map apart ws ≡ true) (l : 1 ≤
       → Extends p ws (get_or ws p 0 / 2 + get_or ws (p + get_or ws p 0 / 2) 0 / 2) (set (set ws p ((get_or ws p 0 / 2 + get_or ws (p + get_or ws p 0 / 2) 0 / 2) * 2 + 1)) (p + get_or ws p 0 / 2) 0)
   extend_free h m = rw pages_is (at_free (behind p ws here) (omega (arith, pages_is)) (rw pages_is at m)).1
 
-pub ruleset extending = (extend_end, extend_held, extend_free)
+pub ruleset extending = (held_within, extend_in, extend_some, extend_sum, extend_end, extend_held, extend_free)
 
 -- how many pages it could have
-module _ (p : ℕ) (ws : List ℕ) (ok : sound_map apart ws ≡ true) (l : 1 ≤ held_from p 0 (decode ws)) where
+module _ {p : ℕ} {ws : List ℕ} (at : IsHeldAt apart p ws) where
   pub reach_end : length ws ≤ p + get_or ws p 0 / 2 → get_or ws p 0 / 2 ≡ reach_from p 0 (decode ws)
-  reach_end h = (extend_end p ws ok l h).pages
+  reach_end h = (extend_end at h).pages
 
   module _ (h : p + get_or ws p 0 / 2 < length ws) where
     pub reach_held : (get_or ws (p + get_or ws p 0 / 2) 0 % 2 ≡ 0 → ⊥) → get_or ws p 0 / 2 ≡ reach_from p 0 (decode ws)
-    reach_held ne = (extend_held p ws ok l h ne).pages
+    reach_held ne = (extend_held at h ne).pages
 
     pub reach_free : get_or ws (p + get_or ws p 0 / 2) 0 % 2 ≡ 0
         → get_or ws p 0 / 2 + get_or ws (p + get_or ws p 0 / 2) 0 / 2 ≡ reach_from p 0 (decode ws)
-    reach_free m = (extend_free p ws ok l h m).pages
+    reach_free m = (extend_free at h m).pages
 
-pub ruleset reaching = (reach_end, reach_held, reach_free)
+pub ruleset reaching = (held_within, extend_in, extend_some, extend_sum, reach_end, reach_held, reach_free)
 
 -- ---- after `extend`
 
@@ -93,9 +96,9 @@ pub record Extended (p : ℕ) (ws : List ℕ) (k : ℕ) (out : List ℕ) : Type 
   pub freed : change_from p 0 0 (decode out) ≡ change_from p 0 0 (decode ws)
   pub cut : (j : ℕ) → 1 ≤ j → j ≤ k → cutting p k j 1 out ≡ draw (change_from p j 0 (decode ws))
 
-module _ (p : ℕ) (ws : List ℕ) (ok : sound_map apart ws ≡ true) (l : 1 ≤ held_from p 0 (decode ws)) (k : ℕ) (out : List ℕ) (x : Extends p ws k out) where
+module _ {p : ℕ} {ws : List ℕ} (at : IsHeldAt apart p ws) {k : ℕ} {out : List ℕ} (x : Extends p ws k out) where
   was : Stands p ws
-  was = stands p ws ok l
+  was = stands p ws at.sound at.held
 
   k_is : k ≡ was.pages + lead was.post
   k_is = x.pages ∙ reach_is p ws was
@@ -113,7 +116,7 @@ module _ (p : ℕ) (ws : List ℕ) (ok : sound_map apart ws ≡ true) (l : 1 ≤
   out_is = x.words ∙ ap draw grown_k
 
   out_well : Well true (was.pre ++ (held k ∷ rest was.post))
-  out_well = rw grown_k at (well_change p k 0 (decode ws) (well_decoded ws ok))
+  out_well = rw grown_k at (well_change p k 0 (decode ws) (well_decoded ws at.sound))
 
   now_stands : Stands p out
   now_stands =
@@ -147,32 +150,42 @@ module _ (p : ℕ) (ws : List ℕ) (ok : sound_map apart ws ≡ true) (l : 1 ≤
       }
 
 -- what a resize and a return have of `extend`
-module _ (p : ℕ) (ws : List ℕ) (ok : sound_map apart ws ≡ true) (l : 1 ≤ held_from p 0 (decode ws)) (k : ℕ) (out : List ℕ) (x : Extends p ws k out) where
+module _ {p : ℕ} {ws : List ℕ} (at : IsHeldAt apart p ws) {k : ℕ} {out : List ℕ} (x : Extends p ws k out) where
   pub within_reach : (j : ℕ) → j ≤ reach_from p 0 (decode ws) → j ≤ k
   within_reach j h = omega (arith, x.pages)
 
   pub room_out : p + k ≤ length out
-  room_out = (extended p ws ok l k out x).room
+  room_out = (extended at x).room
 
   pub sound_out : sound_map apart out ≡ true
-  sound_out = (extended p ws ok l k out x).sound
+  sound_out = (extended at x).sound
 
   pub tiled_out : tiled out ≡ true
   tiled_out = sound_tiled apart out sound_out
 
   pub some_out : 1 ≤ k
-  some_out = (extended p ws ok l k out x).some
+  some_out = (extended at x).some
 
   pub held_out : held_from p 0 (decode out) ≡ k
-  held_out = (extended p ws ok l k out x).held
+  held_out = (extended at x).held
 
   pub reach_out : reach_from p 0 (decode out) ≡ k
-  reach_out = (extended p ws ok l k out x).reach
+  reach_out = (extended at x).reach
+
+  -- what `release` asks for
+  pub last_out : length out ≤ 16384 → (q : ℕ) → q ≡ before_from p p 0 (decode out) → IsLastHeld p q k out
+  last_out l q e =
+      record {
+        at = record { sound = sound_out; short = l; held = omega (arith, some_out, held_out) };
+        all = sym held_out;
+        reach = reach_out ∙ sym held_out;
+        before = e;
+      }
 
   pub resized : (j : ℕ) → 1 ≤ j → j ≤ reach_from p 0 (decode ws) → (last : List ℕ) → last ≡ cutting p k j 1 out → last ≡ draw (change_from p j 0 (decode ws))
-  resized j o h last e = e ∙ (extended p ws ok l k out x).cut j o (within_reach j h)
+  resized j o h last e = e ∙ (extended at x).cut j o (within_reach j h)
 
   pub returned : (last : List ℕ) → last ≡ draw (change_from p 0 0 (decode out)) → last ≡ draw (change_from p 0 0 (decode ws))
-  returned last e = e ∙ ap draw (extended p ws ok l k out x).freed
+  returned last e = e ∙ ap draw (extended at x).freed
 
 pub ruleset changing = (within_reach, room_out, sound_out, tiled_out, some_out, held_out, reach_out, resized, returned)

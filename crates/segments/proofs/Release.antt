@@ -8,13 +8,13 @@ use native.Mathlib.Omega.{arith}
 use lib.ListN.{length, get_or, set}
 use lib.Dec.{eqb}
 use borrow.Author.Tests.{eq-eqb, ne_eqb}
-use Rattle.manager.specs.Map.{Segment, free, held, is_held_segment, size_of, words_of, draw, decode, sound_map, total}
+use Rattle.manager.specs.Map.{Segment, free, held, is_held_segment, size_of, words_of, draw, decode, total}
 use Rattle.manager.proofs.Laws.Map.{mark_of, draw_append, draw_cons, length_draw, total_append, total_cons}
 use Rattle.manager.proofs.Laws.Apart.{Well, well_at}
 use Rattle.manager.specs.Kind.{held_from}
 use Rattle.manager.specs.Paged.{apart, free+, lead, rest, reach_from, change_from}
 use Rattle.manager.proofs.Laws.Paged.{onto, onto_append, onto_last, free_join, well_rest}
-use Rattle.segments.specs.MapWords.{before_from}
+use Rattle.segments.specs.MapWords.{IsHeldAt, before_from}
 use Rattle.segments.proofs.Words.{word_at, set_past, set_mark, join_words}
 use Rattle.segments.proofs.Take.{draw_free}
 use Rattle.segments.proofs.Stands.{Stands, stands, apart_rest, some, post_well, pre_long, word_is, within, held_is, reach_is, change_is}
@@ -170,9 +170,32 @@ module _ (p q : ℕ) (ws : List ℕ) (h : Stands p ws) (z : lead h.post ≡ 0) w
       release_from
       (rw (e, h.says) (before_at p p 0 true h.pre h.pages h.post h.well (omega (arith, h.page))))
 
-pub released : (p q pages : ℕ) (ws : List ℕ) → sound_map apart ws ≡ true → 1 ≤ pages → held_from p 0 (decode ws) ≡ pages → reach_from p 0 (decode ws) ≡ pages
-    → q ≡ before_from p p 0 (decode ws) → Released p q pages ws
-released p q pages ws ok o eh er e =
-    let h = stands p ws ok (omega arith) in
-    let n : h.pages ≡ pages = sym (held_is p ws h) ∙ eh in
-    rw n at (release_here p q ws h (omega (arith, reach_is p ws h)) e)
+module _ {p : ℕ} {ws : List ℕ} (at : IsHeldAt apart p ws) (z : reach_from p 0 (decode ws) ≡ held_from p 0 (decode ws)) where
+  abbrev before : ℕ
+  before = before_from p p 0 (decode ws)
+
+  abbrev pages : ℕ
+  pages = held_from p 0 (decode ws)
+
+  released : Released p before pages ws
+  released =
+      let h = stands p ws at.sound at.held in
+      rw (sym (held_is p ws h)) at (release_here p before ws h (omega (arith, reach_is p ws h, held_is p ws h)) refl)
+
+  pub before_in : before < length ws
+  before_in = released.before_in
+
+  pub held_in : p + pages ≤ length ws
+  held_in = released.room
+
+  pub before_sum : get_or ws before 0 % 2 ≡ 0 → get_or ws before 0 / 2 + pages ≤ length ws
+  before_sum = released.sum
+
+  module _ (q n : ℕ) (eq : q ≡ before) (en : n ≡ pages) where
+    pub before_joins : get_or ws q 0 % 2 ≡ 0 → set (set ws q (get_or ws q 0 + n * 2)) p 0 ≡ draw (change_from p 0 0 (decode ws))
+    before_joins m = rw (eq, en) (released.join (rw eq at m))
+
+    pub freed_alone : (get_or ws q 0 % 2 ≡ 0 → ⊥) → set ws p (n * 2) ≡ draw (change_from p 0 0 (decode ws))
+    freed_alone m = rw en (released.mark (rw eq at m))
+
+pub ruleset releasing = (before_in, held_in, before_sum, before_joins, freed_alone)

@@ -1,11 +1,23 @@
 -- What the private functions on a region's map do. Assumes nothing.
-use Rattle.std.specs.Prelude.{ℕ, ◌+◌, ◌-◌, ◌*◌, ◌/◌, ◌≡◌, ◌≤◌, cond, List, [], ◌∷◌, length, get_or, set, eqb, leb, ltb, Option, None, Some}
+use Rattle.std.specs.Prelude.{ℕ, Bool, true, ◌+◌, ◌-◌, ◌*◌, ◌/◌, ◌≡◌, ◌≤◌, cond, List, [], ◌∷◌, length, get_or, set, eqb, leb, ltb, Option, None, Some}
 use Rattle.arith.specs.Round.{align_up}
-use Rattle.manager.specs.Map.{Segment, free, held, decode, draw, size_of}
-use Rattle.manager.specs.Paged.{room_from, reach_from, change_from}
+use Rattle.manager.specs.Map.{Segment, free, held, decode, draw, sound_map, size_of}
+use Rattle.manager.specs.Kind.{held_from}
+use Rattle.manager.specs.Paged.{apart, room_from, reach_from, change_from}
 use Rattle.manager.specs.Halves.{FreeAt, smallest, place_block}
 use Rattle.manager.specs.declared.Need.{Need}
 use Rattle.map.specs.declared.walk.Segment.{Segment as Placed}
+
+-- the words of the map of a region: sound, and no more than a region has pages
+pub record IsMap (proper : List Segment → Bool) (ws : List ℕ) : Type 0 where
+  pub sound : sound_map proper ws ≡ true
+  pub short : length ws ≤ 16384
+
+-- such words, in which a held segment starts at page p
+pub record IsHeldAt (proper : List Segment → Bool) (p : ℕ) (ws : List ℕ) : Type 0 where
+  pub sound : sound_map proper ws ≡ true
+  pub short : length ws ≤ 16384
+  pub held : 1 ≤ held_from p 0 (decode ws)
 
 -- the words where of a segment of so many pages at page i the first k are one, so marked, and the others a free one
 unfoldable pub cutting : ℕ → ℕ → ℕ → ℕ → List ℕ → List ℕ
@@ -35,6 +47,13 @@ pub record HasRoom (n : Need) (first : ℕ) (ws : List ℕ) (i : ℕ) : Type 0 w
 unfoldable pub before_from : ℕ → ℕ → ℕ → List Segment → ℕ
 before_from p q at [] = q
 before_from p q at (g ∷ s) = cond (eqb at p) q (before_from p at (at + size_of g) s)
+
+-- the words of a region's map in which the held segment at page p has so many pages and no free follower, and stands behind the segment at page q
+pub record IsLastHeld (p q pages : ℕ) (ws : List ℕ) : Type 0 where
+  pub at : IsHeldAt apart p ws
+  pub all : pages ≡ held_from p 0 (decode ws)
+  pub reach : reach_from p 0 (decode ws) ≡ held_from p 0 (decode ws)
+  pub before : q ≡ before_from p p 0 (decode ws)
 
 -- the held segment at page p has the most that it can have: so many pages, and the words are then these
 pub record Extends (p : ℕ) (ws : List ℕ) (k : ℕ) (out : List ℕ) : Type 0 where

@@ -2,10 +2,10 @@
 // them sound, and those that only read need them tiled.
 ghost use Rattle.std.specs.Prelude.{◌≡◌, true, ◌+◌, ◌-◌, ◌≤◌, length, take, drop, replicate, MatchOption};
 ghost use Rattle.arith.specs.Power.{level, is_power};
-ghost use Rattle.manager.specs.Kind.{allocate, held_from};
-ghost use Rattle.manager.specs.Map.{tiled, sound_map, decode, draw};
+ghost use Rattle.manager.specs.Kind.{allocate};
+ghost use Rattle.manager.specs.Map.{tiled, decode, draw};
 ghost use Rattle.manager.specs.Halves.{place_block, carve, join, release_block, halves};
-ghost use Rattle.segments.specs.MapWords.{IsSmallest};
+ghost use Rattle.segments.specs.MapWords.{IsMap, IsHeldAt, IsSmallest};
 
 use manager::Need;
 use map::{Segment, Segments};
@@ -40,7 +40,7 @@ fn carve(map: &mut [u32], k: u32)
 
 // Takes the pages where there is room, and says where: the place of their word.
 pub(crate) fn allocate(map: &mut [u32], n: Need) -> Option<usize>
-    requires sound { (sound_map halves.proper map.old ≡ true) × (length map.old ≤ 16384) }
+    requires sound { IsMap halves.proper map.old }
     requires some { 1 ≤ n.pages }
     ensures { (result ≡ halves.place n 0 (decode map.old)) × (map.new ≡ draw (allocate halves n 0 (decode map.old))) }
 {
@@ -53,8 +53,7 @@ pub(crate) fn allocate(map: &mut [u32], n: Need) -> Option<usize>
 
 // Frees the held block at page p. A block that it makes whole with its other half joins the other half of that, and so on upwards.
 pub(crate) fn release(map: &mut [u32], p: usize)
-    requires sound { (sound_map halves.proper map.old ≡ true) × (length map.old ≤ 16384) }
-    requires held { 1 ≤ held_from p 0 (decode map.old) }
+    requires { IsHeldAt halves.proper p map.old }
     ensures { map.new ≡ draw (release_block (level (length map.old)) p 0 (decode map.old)) }
 {
     let n = map.len();

@@ -1,16 +1,17 @@
 // The stores in a map by the kind of its region: of pages, or by halves. No other function of the crate asks which it is. These functions
 // have exactly the map's words, and need them sound.
-ghost use Rattle.std.specs.Prelude.{◌≡◌, true, ◌≤◌, length};
-ghost use Rattle.manager.specs.Kind.{allocate, held_from};
-ghost use Rattle.manager.specs.Map.{sound_map, decode, draw};
+ghost use Rattle.std.specs.Prelude.{◌≡◌, true, ◌≤◌};
+ghost use Rattle.manager.specs.Kind.{allocate};
+ghost use Rattle.manager.specs.Map.{decode, draw};
 ghost use Rattle.manager.specs.Region.{kind_of};
+ghost use Rattle.segments.specs.MapWords.{IsMap, IsHeldAt};
 
 use crate::{halves, pages};
 use manager::{Need, Order};
 
 // Takes the pages where there is room, and says where: the number of the first one. The map's first page is page `first`.
 pub(crate) fn allocate(map: &mut [u32], o: Order, first: u64, n: Need) -> Option<usize>
-    requires sound { (sound_map (kind_of o).proper map.old ≡ true) × (length map.old ≤ 16384) }
+    requires sound { IsMap (kind_of o).proper map.old }
     requires some { (1 ≤ n.pages) × (first ≤ 65536) }
     ensures { (result ≡ (kind_of o).place n first (decode map.old)) × (map.new ≡ draw (allocate (kind_of o) n first (decode map.old))) }
 {
@@ -23,8 +24,7 @@ pub(crate) fn allocate(map: &mut [u32], o: Order, first: u64, n: Need) -> Option
 
 // Frees the held segment at page p.
 pub(crate) fn release_at(map: &mut [u32], o: Order, p: usize)
-    requires sound { (sound_map (kind_of o).proper map.old ≡ true) × (length map.old ≤ 16384) }
-    requires held { 1 ≤ held_from p 0 (decode map.old) }
+    requires { IsHeldAt (kind_of o).proper p map.old }
     ensures { map.new ≡ draw ((kind_of o).change p 0 0 (decode map.old)) }
 {
     if map::by_halves(o) {
@@ -36,8 +36,7 @@ pub(crate) fn release_at(map: &mut [u32], o: Order, p: usize)
 
 // Whether the held segment at page p can have k pages.
 pub(crate) fn can_have(map: &[u32], o: Order, p: usize, k: u64) -> bool
-    requires sound { (sound_map (kind_of o).proper map.now ≡ true) × (length map.now ≤ 16384) }
-    requires held { 1 ≤ held_from p 0 (decode map.now) }
+    requires { IsHeldAt (kind_of o).proper p map.now }
     ensures { result ≡ (kind_of o).can_have p k 0 (decode map.now) }
 {
     if map::by_halves(o) {
@@ -48,8 +47,8 @@ pub(crate) fn can_have(map: &[u32], o: Order, p: usize, k: u64) -> bool
 
 // The held segment at page p has k pages from now on, which it can have.
 pub(crate) fn resize_at(map: &mut [u32], o: Order, p: usize, k: u32)
-    requires sound { (sound_map (kind_of o).proper map.old ≡ true) × (length map.old ≤ 16384) }
-    requires fits { (1 ≤ k) × (1 ≤ held_from p 0 (decode map.old)) × ((kind_of o).can_have p k 0 (decode map.old) ≡ true) }
+    requires held { IsHeldAt (kind_of o).proper p map.old }
+    requires fits { (1 ≤ k) × ((kind_of o).can_have p k 0 (decode map.old) ≡ true) }
     ensures { map.new ≡ draw ((kind_of o).change p k 0 (decode map.old)) }
 {
     if map::by_halves(o) {

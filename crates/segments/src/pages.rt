@@ -1,10 +1,10 @@
 // Stores in the map of a region of pages: these functions have exactly its words, and need them sound; those that only read need them
 // tiled.
 ghost use Rattle.std.specs.Prelude.{◌≡◌, true, ◌+◌, ◌/◌, ◌≤◌, length, get_or, MatchOption};
-ghost use Rattle.manager.specs.Map.{tiled, sound_map, decode, draw};
+ghost use Rattle.manager.specs.Map.{tiled, decode, draw};
 ghost use Rattle.manager.specs.Kind.{allocate, held_from};
 ghost use Rattle.manager.specs.Paged.{apart, paged, place_from, reach_from, change_from};
-ghost use Rattle.segments.specs.MapWords.{cutting, taking, segment_from, HasRoom, before_from, Extends};
+ghost use Rattle.segments.specs.MapWords.{IsMap, IsHeldAt, cutting, taking, segment_from, HasRoom, before_from, IsLastHeld, Extends};
 
 use manager::Need;
 use map::Segments;
@@ -53,7 +53,7 @@ fn take_at(map: &mut [u32], i: usize, gap: u32, k: u32)
 
 // Takes the pages where there is room, and says where: the number of the first one.
 pub(crate) fn allocate(map: &mut [u32], first: u64, n: Need) -> Option<usize>
-    requires sound { (sound_map apart map.old ≡ true) × (length map.old ≤ 16384) }
+    requires sound { IsMap apart map.old }
     requires some { (1 ≤ n.pages) × (first ≤ 65536) }
     ensures { (result ≡ place_from n first (decode map.old)) × (map.new ≡ draw (allocate paged n first (decode map.old))) }
 {
@@ -66,9 +66,9 @@ pub(crate) fn allocate(map: &mut [u32], first: u64, n: Need) -> Option<usize>
 }
 
 // The held segment at page p takes in a free follower. Its pages then.
+#[tactic(auto, using(crate::proofs::Extend::extending))]
 fn extend(map: &mut [u32], p: usize) -> u32
-    requires sound { (sound_map apart map.old ≡ true) × (length map.old ≤ 16384) }
-    requires held { 1 ≤ held_from p 0 (decode map.old) }
+    requires { IsHeldAt apart p map.old }
     ensures { Extends p map.old result map.new }
 {
     let pages = map[p] / 2;
@@ -87,9 +87,9 @@ fn extend(map: &mut [u32], p: usize) -> u32
 }
 
 // The most pages that the held segment at page p can have: its own and those of a free follower.
+#[tactic(auto, using(crate::proofs::Extend::reaching))]
 pub(crate) fn reach_at(map: &[u32], p: usize) -> u32
-    requires sound { (sound_map apart map.now ≡ true) × (length map.now ≤ 16384) }
-    requires held { 1 ≤ held_from p 0 (decode map.now) }
+    requires { IsHeldAt apart p map.now }
     ensures { result ≡ reach_from p 0 (decode map.now) }
 {
     let pages = map[p] / 2;
@@ -116,10 +116,9 @@ fn previous(map: &[u32], p: usize) -> usize
 }
 
 // Frees the held segment of so many pages at page p, which has no free follower; q is what `previous` says.
+#[tactic(auto, using(crate::proofs::Release::releasing))]
 fn release(map: &mut [u32], p: usize, q: usize, pages: u32)
-    requires sound { (sound_map apart map.old ≡ true) × (length map.old ≤ 16384) }
-    requires held { (1 ≤ pages) × (held_from p 0 (decode map.old) ≡ pages) × (reach_from p 0 (decode map.old) ≡ pages) }
-    requires previous { q ≡ before_from p p 0 (decode map.old) }
+    requires { IsLastHeld p q pages map.old }
     ensures { map.new ≡ draw (change_from p 0 0 (decode map.old)) }
 {
     let w = map[q];
@@ -132,9 +131,9 @@ fn release(map: &mut [u32], p: usize, q: usize, pages: u32)
 }
 
 // The held segment at page p has k pages from now on.
+#[tactic(auto, using(crate::proofs::Extend::changing))]
 pub(crate) fn resize_at(map: &mut [u32], p: usize, k: u32)
-    requires sound { (sound_map apart map.old ≡ true) × (length map.old ≤ 16384) }
-    requires held { 1 ≤ held_from p 0 (decode map.old) }
+    requires held { IsHeldAt apart p map.old }
     requires reached { (1 ≤ k) × (k ≤ reach_from p 0 (decode map.old)) }
     ensures { map.new ≡ draw (change_from p k 0 (decode map.old)) }
 {
@@ -143,9 +142,9 @@ pub(crate) fn resize_at(map: &mut [u32], p: usize, k: u32)
 }
 
 // Frees the held segment at page p, and joins it to its free neighbours.
+#[tactic(auto, using(crate::proofs::Extend::changing))]
 pub(crate) fn release_at(map: &mut [u32], p: usize)
-    requires sound { (sound_map apart map.old ≡ true) × (length map.old ≤ 16384) }
-    requires held { 1 ≤ held_from p 0 (decode map.old) }
+    requires { IsHeldAt apart p map.old }
     ensures { map.new ≡ draw (change_from p 0 0 (decode map.old)) }
 {
     let pages = extend(map, p);

@@ -11,8 +11,9 @@ use lib.ListN.{length, get_or, set, take, drop, length-append, drop_of_length-le
 use lib.Seq.{take_at, drop_at, take_all}
 use Rattle.arith.specs.Power.{level}
 use Rattle.arith.proofs.Laws.Power.{some_power, double, level_power}
-use Rattle.manager.specs.Map.{Segment, free, held, words_of, draw, decode, tiled, sound_map, total}
+use Rattle.manager.specs.Map.{Segment, free, held, words_of, draw, decode, tiled, total}
 use Rattle.manager.specs.Kind.{held_from}
+use Rattle.segments.specs.MapWords.{IsHeldAt}
 use Rattle.manager.specs.Halves.{join, release_block, halves}
 use Rattle.manager.proofs.Laws.Map.{sound_tiled, sound_proper, sound_drawn, redraw, reread, tiled_drawn, total_decoded, draw_append, length_draw}
 use Rattle.manager.proofs.Laws.Map.{walk_start, walk_end, next_here, says_held}
@@ -85,14 +86,9 @@ none_held p n h = omega arith
 
 -- ---- WHAT IS RELEASED, WHAT IS LENT FOR IT, AND WHAT IS BACK
 
--- a sound map in which a block is held at page p
-pub record Holds (p : ℕ) (ws : List ℕ) : Type 0 where
-  pub sound : sound_map halves.proper ws ≡ true
-  pub held : 1 ≤ held_from p 0 (decode ws)
-
 -- the half of it that has the page, as its own page q
 pub record Lent (ws part : List ℕ) (q : ℕ) : Type 0 where
-  pub holds : Holds q part
+  pub holds : IsHeldAt halves.proper q part
   pub long : length part ≡ length ws / 2
 
 -- the map with that half released, before the two are put together
@@ -105,11 +101,17 @@ pub record Freed (p : ℕ) (ws out : List ℕ) : Type 0 where
 
 -- a half is a sound map of its own, and what its release gives
 module _ {j : ℕ} {s : List Segment} (y : Halved j s) (part : List ℕ) (q : ℕ) (x : part ≡ draw s) where
-  lent_half : (ws : List ℕ) → length ws / 2 ≡ 2 ^ j → 1 ≤ held_from q 0 s → Lent ws part q
-  lent_half ws e h =
+  lent_half : (ws : List ℕ) → length ws ≤ 16384 → length ws / 2 ≡ 2 ^ j → 1 ≤ held_from q 0 s → Lent ws part q
+  lent_half ws few e h =
+      let l : length part ≡ length ws / 2 = ap length x ∙ length_draw s ∙ halved_total y ∙ sym e in
       record {
-        holds = record { sound = rw x (sound_drawn halves.proper s (halved_sized y) (proper_of y)); held = rw (x, reread s (halved_sized y)) h };
-        long = ap length x ∙ length_draw s ∙ halved_total y ∙ sym e;
+        holds =
+            record {
+              sound = rw x (sound_drawn halves.proper s (halved_sized y) (proper_of y));
+              short = omega arith;
+              held = rw (x, reread s (halved_sized y)) h;
+            };
+        long = l;
       }
 
   half_out : (out : List ℕ) → out ≡ draw (release_block (level (length part)) q 0 (decode part)) → out ≡ draw (release_block j q 0 s)
@@ -117,7 +119,7 @@ module _ {j : ℕ} {s : List Segment} (y : Halved j s) (part : List ℕ) (q : �
       let l : level (length (draw s)) ≡ j = ap level (length_draw s ∙ halved_total y) ∙ level_power j in
       e ∙ rw (x, l, reread s (halved_sized y))
 
-module _ {p : ℕ} {ws : List ℕ} (h : Holds p ws) where
+module _ {p : ℕ} {ws : List ℕ} (h : IsHeldAt halves.proper p ws) where
   tiles : tiled ws ≡ true
   tiles = sound_tiled halves.proper ws h.sound
 
@@ -196,7 +198,7 @@ module _ {p : ℕ} {ws : List ℕ} (h : Holds p ws) where
       low_held = elim side [ inl u ↦ u.1 | inr u ↦ absurd (omega (arith, u.0, half_is)) ]
 
       pub lent_low : Lent ws (take half ws) p
-      lent_low = lent_half c.low_halved (take half ws) p low_is ws half_is low_held
+      lent_low = lent_half c.low_halved (take half ws) p low_is ws h.short half_is low_held
 
       pub freed_low : (out : List ℕ) → out ≡ draw (release_block (level (length (take half ws))) p 0 (decode (take half ws)))
           → Freed p ws (out ++ drop half ws)
@@ -232,7 +234,7 @@ module _ {p : ℕ} {ws : List ℕ} (h : Holds p ws) where
           elim side [ inl u ↦ absurd (omega (arith, u.0, half_is)) | inr u ↦ omega (arith, u.1) ]
 
       pub lent_high : Lent ws part (p - half)
-      lent_high = lent_half c.high_halved part (p - half) part_is ws half_is high_held
+      lent_high = lent_half c.high_halved part (p - half) part_is ws h.short half_is high_held
 
       pub freed_high : (out : List ℕ) → out ≡ draw (release_block (level (length part)) (p - half) 0 (decode part))
           → Freed p ws (take half ws ++ (out ++ drop (length ws - half) (drop half ws)))
