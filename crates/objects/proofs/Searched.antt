@@ -2,7 +2,7 @@
 use Rattle.std.proofs.Common.{◌≡◌, ℕ, ◌≤◌, ◌<◌, Bool, true, false, cond, List, ltb, leb, refl, sym, ap, ◌∙◌, Some, None}
 use Rattle.std.proofs.lemmas.Option.{none-some, same_Some, cond_some}
 use mathlib.Core.Logic.{⊎_elim}
-use borrow.Author.Tests.{eqb-true, ltb-true, ltb-false, le-leb, lt-leb}
+use borrow.Author.Tests.{eqb-true, eqb-false, ltb-true, ltb-false, le-leb, lt-leb}
 use Rattle.manager.specs.Record.{no_region, object_of, region_of, partition_of}
 use Rattle.manager.proofs.Laws.Ids.{Live, object_cases}
 use Rattle.manager.specs.Region.{dead}
@@ -50,6 +50,9 @@ module _ (d : Manager) (id : ℕ) where
     pub region_live : dead (region_of d id) ≡ false
     region_live = let v = was_some (dead (region_of d id)) (region_of d id) r e in v.0
 
+    pub region_has_name : r.name ≡ 0 → ⊥
+    region_has_name e = eqb-false (region_of d id).name 0 region_live (ap (λ (x : Region). x.name) (sym region_found) ∙ e)
+
   module _ (p : Partition) (e : Some p ≡ live (λ (p : Partition). p.name) (partition_of d id)) where
     pub partition_found : p ≡ partition_of d id
     partition_found = let v = was_some (dead_partition (partition_of d id)) (partition_of d id) p e in v.1
@@ -57,7 +60,10 @@ module _ (d : Manager) (id : ℕ) where
     pub partition_live : dead_partition (partition_of d id) ≡ false
     partition_live = let v = was_some (dead_partition (partition_of d id)) (partition_of d id) p e in v.0
 
-pub ruleset objects_found = (region_missing, region_unused, region_found, region_live, partition_missing, partition_found, partition_live)
+    pub partition_has_name : p.name ≡ 0 → ⊥
+    partition_has_name e = eqb-false (partition_of d id).name 0 partition_live (ap (λ (x : Partition). x.name) (sym partition_found) ∙ e)
+
+pub ruleset objects_found = (region_missing, region_unused, region_found, region_live, region_has_name, partition_missing, partition_found, partition_live, partition_has_name)
 
 -- A PLACE, by `named` and `unspent`: i is past the last of n; or this is i, and one of them
 module _ (n i : ℕ) where
