@@ -3,11 +3,10 @@ use Rattle.std.proofs.Common.{◌≡◌, ℕ, ◌≤◌, ◌<◌, Bool, true, fa
 use Rattle.std.proofs.lemmas.Option.{none-some, same_Some, cond_some}
 use mathlib.Core.Logic.{⊎_elim}
 use borrow.Author.Tests.{eqb-true, eqb-false, ltb-true, ltb-false, le-leb, lt-leb}
-use Rattle.manager.specs.Record.{no_region, object_of, region_of, partition_of}
+use Rattle.manager.specs.Record.{no_region, no_partition, object_of}
 use Rattle.manager.proofs.Laws.Ids.{Live, object_cases}
 use Rattle.manager.specs.Region.{dead}
 use Rattle.manager.specs.Partition.{dead_partition}
-use Rattle.manager.specs.declared.Manager.{Manager}
 use Rattle.manager.specs.declared.Region.{Region}
 use Rattle.manager.specs.declared.Partition.{Partition}
 use Rattle.objects.specs.Slots.{live, below}
@@ -31,37 +30,44 @@ unused {A = A} name g z l id e =
     ⊎_elim (λ (v : Live name g z l id). absurd (v.named (ap name (sym v.is) ∙ e))) (λ (f : object_of name g z l id ≡ z). f) (object_cases name g z l id)
 
 -- AN OBJECT, by `find`: none is live under the id; or this is the one, and it is live
-module _ (d : Manager) (id : ℕ) where
-  pub region_missing : None ≡ live (λ (r : Region). r.name) (region_of d id) → dead (region_of d id) ≡ true
-  region_missing e = was_none (dead (region_of d id)) (region_of d id) e
+module _ (rs : List Region) (id : ℕ) where
+  abbrev the_region : Region
+  the_region = object_of (λ r. r.name) (λ r. r.generation) no_region rs id
 
-  pub partition_missing : None ≡ live (λ (p : Partition). p.name) (partition_of d id) → dead_partition (partition_of d id) ≡ true
-  partition_missing e = was_none (dead_partition (partition_of d id)) (partition_of d id) e
+  pub region_missing : None ≡ live (λ (r : Region). r.name) the_region → dead the_region ≡ true
+  region_missing e = was_none (dead the_region) the_region e
 
   -- and then what stands for it is a slot that was never used
-  pub region_unused : None ≡ live (λ (r : Region). r.name) (region_of d id) → region_of d id ≡ no_region
+  pub region_unused : None ≡ live (λ (r : Region). r.name) the_region → the_region ≡ no_region
   region_unused e =
-      unused (λ (r : Region). r.name) (λ r. r.generation) no_region d.regions id (eqb-true (region_of d id).name 0 (region_missing e))
+      unused (λ (r : Region). r.name) (λ r. r.generation) no_region rs id (eqb-true the_region.name 0 (region_missing e))
 
-  module _ (r : Region) (e : Some r ≡ live (λ (r : Region). r.name) (region_of d id)) where
-    pub region_found : r ≡ region_of d id
-    region_found = let v = was_some (dead (region_of d id)) (region_of d id) r e in v.1
+  module _ (r : Region) (e : Some r ≡ live (λ (r : Region). r.name) the_region) where
+    pub region_found : r ≡ the_region
+    region_found = let v = was_some (dead the_region) the_region r e in v.1
 
-    pub region_live : dead (region_of d id) ≡ false
-    region_live = let v = was_some (dead (region_of d id)) (region_of d id) r e in v.0
+    pub region_live : dead the_region ≡ false
+    region_live = let v = was_some (dead the_region) the_region r e in v.0
 
     pub region_has_name : r.name ≡ 0 → ⊥
-    region_has_name e = eqb-false (region_of d id).name 0 region_live (ap (λ (x : Region). x.name) (sym region_found) ∙ e)
+    region_has_name e = eqb-false the_region.name 0 region_live (ap (λ (x : Region). x.name) (sym region_found) ∙ e)
 
-  module _ (p : Partition) (e : Some p ≡ live (λ (p : Partition). p.name) (partition_of d id)) where
-    pub partition_found : p ≡ partition_of d id
-    partition_found = let v = was_some (dead_partition (partition_of d id)) (partition_of d id) p e in v.1
+module _ (ps : List Partition) (id : ℕ) where
+  abbrev the_partition : Partition
+  the_partition = object_of (λ p. p.name) (λ p. p.generation) no_partition ps id
 
-    pub partition_live : dead_partition (partition_of d id) ≡ false
-    partition_live = let v = was_some (dead_partition (partition_of d id)) (partition_of d id) p e in v.0
+  pub partition_missing : None ≡ live (λ (p : Partition). p.name) the_partition → dead_partition the_partition ≡ true
+  partition_missing e = was_none (dead_partition the_partition) the_partition e
+
+  module _ (p : Partition) (e : Some p ≡ live (λ (p : Partition). p.name) the_partition) where
+    pub partition_found : p ≡ the_partition
+    partition_found = let v = was_some (dead_partition the_partition) the_partition p e in v.1
+
+    pub partition_live : dead_partition the_partition ≡ false
+    partition_live = let v = was_some (dead_partition the_partition) the_partition p e in v.0
 
     pub partition_has_name : p.name ≡ 0 → ⊥
-    partition_has_name e = eqb-false (partition_of d id).name 0 partition_live (ap (λ (x : Partition). x.name) (sym partition_found) ∙ e)
+    partition_has_name e = eqb-false the_partition.name 0 partition_live (ap (λ (x : Partition). x.name) (sym partition_found) ∙ e)
 
 pub ruleset objects_found = (region_missing, region_unused, region_found, region_live, region_has_name, partition_missing, partition_found, partition_live, partition_has_name)
 

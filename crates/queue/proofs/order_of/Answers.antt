@@ -4,4 +4,4 @@ use Rattle.objects.proofs.Searched.{region_unused}
 use Rattle.queue.proofs.order_of.Goals as goal
 
 pub returns-in-None : goal.returns-in-None
-returns-in-None c = rw (region_unused c.args.d.now c.args.id c.in-None.ensures) refl
+returns-in-None c = rw (region_unused c.args.d.now.regions c.args.id c.in-None.ensures) refl
