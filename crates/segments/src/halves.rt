@@ -52,6 +52,7 @@ pub(crate) fn allocate(map: &mut [u32], n: Need) -> Option<usize>
 }
 
 // Frees the held block at page p. A block that it makes whole with its other half joins the other half of that, and so on upwards.
+#[tactic(auto, using(crate::proofs::Blocks::Release::parting))]
 pub(crate) fn release(map: &mut [u32], p: usize)
     requires { IsHeldAt halves.proper p map.old }
     ensures { map.new ≡ draw (release_block (level (length map.old)) p 0 (decode map.old)) }
@@ -72,6 +73,7 @@ pub(crate) fn release(map: &mut [u32], p: usize)
 }
 
 // The two halves of a block, each of so many pages, become one where both are wholly free.
+#[tactic(auto, using(crate::proofs::Blocks::Join::joining))]
 fn join(map: &mut [u32], half: usize)
     requires halved { (1 ≤ half) × (half ≤ 8192) × (length map.old ≡ half + half) }
     requires both_tiled { (tiled (take half map.old) ≡ true) × (tiled (drop half map.old) ≡ true) }

@@ -23,6 +23,7 @@ pub(crate) fn allocate(map: &mut [u32], o: Order, first: u64, n: Need) -> Option
 }
 
 // Frees the held segment at page p.
+#[tactic(auto, using(crate::proofs::Order::kinds))]
 pub(crate) fn release_at(map: &mut [u32], o: Order, p: usize)
     requires { IsHeldAt (kind_of o).proper p map.old }
     ensures { map.new ≡ draw ((kind_of o).change p 0 0 (decode map.old)) }
@@ -35,6 +36,7 @@ pub(crate) fn release_at(map: &mut [u32], o: Order, p: usize)
 }
 
 // Whether the held segment at page p can have k pages.
+#[tactic(auto, using(crate::proofs::Order::kinds))]
 pub(crate) fn can_have(map: &[u32], o: Order, p: usize, k: u64) -> bool
     requires { IsHeldAt (kind_of o).proper p map.now }
     ensures { result ≡ (kind_of o).can_have p k 0 (decode map.now) }
@@ -46,6 +48,7 @@ pub(crate) fn can_have(map: &[u32], o: Order, p: usize, k: u64) -> bool
 }
 
 // The held segment at page p has k pages from now on, which it can have.
+#[tactic(auto, using(crate::proofs::Order::kinds))]
 pub(crate) fn resize_at(map: &mut [u32], o: Order, p: usize, k: u32)
     requires held { IsHeldAt (kind_of o).proper p map.old }
     requires fits { (1 ≤ k) × ((kind_of o).can_have p k 0 (decode map.old) ≡ true) }

@@ -24,6 +24,7 @@ fn find(map: &[u32], first: u64, n: Need) -> Option<usize>
 }
 
 // Of the segment of so many pages at page i the first k are one from now on, marked as held or not, and the others free.
+#[tactic(auto, using(crate::proofs::Words::cutting_part, crate::proofs::Words::cutting_whole))]
 fn cut(map: &mut [u32], i: usize, pages: u32, k: u32, mark: u32)
     requires { (1 ≤ k) × (k ≤ pages) × (i + pages ≤ length map.old) × (length map.old ≤ 16384) × (mark ≤ 1) }
     ensures { map.new ≡ cutting i pages k mark map.old }
@@ -36,6 +37,7 @@ fn cut(map: &mut [u32], i: usize, pages: u32, k: u32, mark: u32)
 }
 
 // Takes k pages of the free segment at page i, from `gap` pages behind its first one on. Those before them stay free, as do those behind.
+#[tactic(auto, using(crate::proofs::Take::taking_low, crate::proofs::Take::taking_high, crate::proofs::Take::cut_long))]
 fn take_at(map: &mut [u32], i: usize, gap: u32, k: u32)
     requires some { (1 ≤ k) × (gap + k ≤ get_or map.old i 0 / 2) }
     requires within { (i + get_or map.old i 0 / 2 ≤ length map.old) × (length map.old ≤ 16384) }

@@ -246,3 +246,5 @@ module _ {p : ℕ} {ws : List ℕ} (h : IsHeldAt halves.proper p ws) where
           (sym (release_high j p 0 a b c.low_halved c.high_halved (omega (arith, half_is)) ∙ rw r))
           (take half ws ++ (out ++ drop (length ws - half) (drop half ws)))
           (rw (low_is, rest_is, x, append-nil (draw d)))
+
+pub ruleset parting = (some_pages, released, twice, lent_low, lent_high, freed_low, freed_high)
