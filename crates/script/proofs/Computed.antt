@@ -1,10 +1,9 @@
 -- A test that computes at every number below n. Assumes nothing.
 use mathlib.Core.Path.{◌≡◌, refl, sym, subst}
 use Prim.Native.Nat.{ℕ, zero, suc, ◌<◌}
-use mathlib.Core.Bool.{Bool, true, false, cond}
+use mathlib.Core.Bool.{Bool, true, false, cond, true≢false}
 use native.Mathlib.Omega.{arith}
 use native.Mathlib.Decide.{dec_lt}
-use Rattle.text.proofs.Laws.{true_false}
 
 unfoldable pub all_upto : ℕ → (ℕ → Bool) → Bool
 all_upto zero f = true
@@ -12,7 +11,7 @@ all_upto (suc n) f = cond (f n) (all_upto n f) false
 
 pub both : (t u : Bool) → cond t u false ≡ true → (t ≡ true) × (u ≡ true)
 both true u h = (refl, h)
-both false u h = true_false (sym h)
+both false u h = absurd (true≢false (sym h))
 
 pub all_upto_lem : (n : ℕ) (f : ℕ → Bool) → all_upto n f ≡ true → (k : ℕ) → k < n → f k ≡ true
 unfolding all_upto

@@ -3,7 +3,7 @@
 use mathlib.Core.Path.{◌≡◌, refl, sym, ◌∙◌, ap, subst}
 use Prim.Native.Nat.{ℕ, zero, suc, ◌+◌, ◌-◌, ◌≤◌, ◌<◌}
 use mathlib.Core.List.{List, [], ◌∷◌, ◌++◌, append_assoc, append-nil}
-use mathlib.Core.Bool.{Bool, true, false, cond}
+use mathlib.Core.Bool.{Bool, true, false, cond, true≢false}
 use native.Mathlib.Nat.{add-zero, add_assoc}
 use native.Mathlib.Omega.{arith}
 use lib.ListN.{length, get_or, drop, length-append, length-drop}
@@ -15,7 +15,7 @@ use Rattle.std.proofs.lemmas.Option.{same_Some}
 use Rattle.text.specs.Lines.{starts, took}
 use Rattle.text.specs.Decimal.{line_of}
 use Rattle.text.specs.declared.Entry.{Entry}
-use Rattle.text.proofs.Laws.{true_false, starts_fits}
+use Rattle.text.proofs.Laws.{starts_fits}
 use Rattle.text.proofs.Digits.{length_line}
 use Rattle.text.proofs.Numbers.{digits_some}
 use Rattle.text.proofs.WrittenLines.{plain, starts_complete, starts_sound, field_complete, field_sound}
@@ -67,8 +67,8 @@ apart_go x y xs ys r false h f = refl
 
 apart_starts : (xs ys r : List ℕ) → apart xs ys ≡ true → starts xs (ys ++ r) ≡ false
 unfolding apart starts
-apart_starts [] ys r h = true_false (sym h)
-apart_starts (x ∷ xs) [] r h = true_false (sym h)
+apart_starts [] ys r h = absurd (true≢false (sym h))
+apart_starts (x ∷ xs) [] r h = absurd (true≢false (sym h))
 apart_starts (x ∷ xs) (y ∷ ys) r h = apart_go x y xs ys r (eqb x y) h (λ g. apart_starts xs ys r g)
 
 apart_all : List ℕ → List Row → Bool

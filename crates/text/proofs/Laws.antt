@@ -4,7 +4,7 @@ use mathlib.Core.Path.{◌≡◌, refl, sym, ◌∙◌, ap}
 use Prim.Native.Nat.{ℕ, zero, suc, ◌+◌, ◌-◌, ◌*◌, ◌≤◌, ◌<◌}
 use mathlib.Core.Logic.{inl, inr}
 use mathlib.Core.List.{List, [], ◌∷◌}
-use mathlib.Core.Bool.{Bool, true, false, cond, not, ◌&&◌}
+use mathlib.Core.Bool.{Bool, true, false, cond, not, ◌&&◌, true≢false}
 use native.Mathlib.Numerals.{add-one}
 use native.Mathlib.Omega.{arith}
 use lib.ListN.{length, get_or, take, drop, drop_of_length-le, length-take, length-drop}
@@ -18,9 +18,6 @@ use Rattle.std.specs.Cmp.Lexicographic.{pointwise}
 use Rattle.std.specs.List.{position, position_or_len, slice_range, starts_with}
 use Rattle.std.proofs.lemmas.Option.{none-some, same_Some}
 use Rattle.text.specs.Lines.{number_after, number_of, line_from, line_at, starts, part, took, field_at}
-
-pub true_false : {A : Type 0} → true ≡ false → A
-true_false z = let y : ◌≡◌ {A = ℕ} 0 1 = cc in absurd (omega arith)
 
 -- ---- a line's end
 
@@ -94,8 +91,8 @@ line_within s at e h =
 key_go : (t u r : Bool) → t ≡ u → (t && r) ≡ cond u r false
 key_go true true r e = refl
 key_go false false r e = refl
-key_go true false r e = true_false e
-key_go false true r e = true_false (sym e)
+key_go true false r e = absurd (true≢false e)
+key_go false true r e = absurd (true≢false (sym e))
 
 pub starts_pointwise : (ks bs : List ℕ) → pointwise eqb (take (length ks) bs) ks ≡ starts ks bs
 unfolding starts
@@ -112,13 +109,13 @@ starts_same (k ∷ ks) (b ∷ bs) = rw (starts_same ks bs) (key_go (eqb k b) (eq
 
 starts_go : (k b : ℕ) (ks bs : List ℕ) (t : Bool) → cond t (starts ks bs) false ≡ true → (starts ks bs ≡ true → length ks ≤ length bs) → length (k ∷ ks) ≤ length (b ∷ bs)
 starts_go k b ks bs true e f = let h : length ks ≤ length bs = f e in omega arith
-starts_go k b ks bs false e f = true_false (sym e)
+starts_go k b ks bs false e f = absurd (true≢false (sym e))
 
 -- what starts with ks is as long
 pub starts_long : (ks bs : List ℕ) → starts ks bs ≡ true → length ks ≤ length bs
 unfolding starts
 starts_long [] bs e = omega arith
-starts_long (k ∷ ks) [] e = true_false (sym e)
+starts_long (k ∷ ks) [] e = absurd (true≢false (sym e))
 starts_long (k ∷ ks) (b ∷ bs) e = starts_go k b ks bs (eqb k b) e (λ u. starts_long ks bs u)
 
 -- the same of a part, and of the rest from a position on

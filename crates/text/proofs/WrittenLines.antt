@@ -3,7 +3,7 @@
 use mathlib.Core.Path.{◌≡◌, refl, sym, ◌∙◌, ap}
 use Prim.Native.Nat.{ℕ, zero, suc, ◌+◌, ◌-◌, ◌/◌, ◌%◌, ◌≤◌, ◌<◌}
 use mathlib.Core.List.{List, [], ◌∷◌, ◌++◌, append_assoc}
-use mathlib.Core.Bool.{Bool, true, false, cond}
+use mathlib.Core.Bool.{Bool, true, false, cond, true≢false}
 use native.Mathlib.Nat.{add-suc, suc-add, add-zero}
 use native.Mathlib.Numerals.{add-one}
 use native.Mathlib.Omega.{arith}
@@ -17,7 +17,7 @@ use Rattle.text.specs.declared.Entry.{Entry}
 use Rattle.std.specs.Prelude.{Option, Some, None, option_and_then}
 use Rattle.text.specs.Lines.{part, number_of, line_from, line_at, starts, took, field_at}
 use Rattle.text.specs.Decimal.{decimal, line_of}
-use Rattle.text.proofs.Laws.{true_false, line_found, starts_part}
+use Rattle.text.proofs.Laws.{line_found, starts_part}
 use Rattle.text.proofs.Digits.{decimal_small, decimal_big, length_line, length_decimal}
 use Rattle.text.proofs.Numbers.{number_complete, number_sound}
 
@@ -28,7 +28,7 @@ plain [] = true
 plain (b ∷ bs) = cond (eqb b 10) false (plain bs)
 
 plain_go : (b : ℕ) (bs : List ℕ) (t : Bool) → eqb b 10 ≡ t → cond t false (plain bs) ≡ true → (b ≡ 10 → ⊥) × (plain bs ≡ true)
-plain_go b bs true e h = true_false (sym h)
+plain_go b bs true e h = absurd (true≢false (sym h))
 plain_go b bs false e h = (eqb-false b 10 e, h)
 
 plain_step : (b : ℕ) (bs : List ℕ) → plain (b ∷ bs) ≡ true → (b ≡ 10 → ⊥) × (plain bs ≡ true)
@@ -72,12 +72,12 @@ starts_complete (k ∷ ks) r = rw (eq-eqb k k refl) (starts_complete ks r)
 
 starts_go : (k b : ℕ) (ks bs : List ℕ) (t : Bool) → eqb k b ≡ t → cond t (starts ks bs) false ≡ true → (starts ks bs ≡ true → bs ≡ ks ++ drop (length ks) bs) → b ∷ bs ≡ (k ∷ ks) ++ drop (length ks) bs
 starts_go k b ks bs true e h f = let q : k ≡ b = eqb-true k b e in rw (← f h, q)
-starts_go k b ks bs false e h f = true_false (sym h)
+starts_go k b ks bs false e h f = absurd (true≢false (sym h))
 
 pub starts_sound : (ks bs : List ℕ) → starts ks bs ≡ true → bs ≡ ks ++ drop (length ks) bs
 unfolding starts
 starts_sound [] bs h = refl
-starts_sound (k ∷ ks) [] h = true_false (sym h)
+starts_sound (k ∷ ks) [] h = absurd (true≢false (sym h))
 starts_sound (k ∷ ks) (b ∷ bs) h = starts_go k b ks bs (eqb k b) refl h (λ g. starts_sound ks bs g)
 
 -- what a first part of a list starts with, the list starts with
@@ -90,7 +90,7 @@ unfolding starts
 starts_take [] bs n h = refl
 starts_take (k ∷ ks) [] zero h = h
 starts_take (k ∷ ks) [] (suc n) h = h
-starts_take (k ∷ ks) (b ∷ bs) zero h = true_false (sym h)
+starts_take (k ∷ ks) (b ∷ bs) zero h = absurd (true≢false (sym h))
 starts_take (k ∷ ks) (b ∷ bs) (suc n) h = starts_take_go k b ks bs n (eqb k b) h (λ g. starts_take ks bs n g)
 
 -- ---- a line of a key and a number
