@@ -1,11 +1,9 @@
--- `steepleclay::read_all` meets its contract. The invariant: what is filled is within the buffer, whose length stays. The measure is what is left of it. Assumes nothing.
-use mathlib.Core.Path.{◌≡◌}
-use Prim.Native.Nat.{◌≤◌, ◌-◌}
-use lib.ListN.{length}
+-- `steepleclay::read_all` meets its contract. The invariant: what is filled is within the buffer. The measure is what is left of it. Assumes nothing.
+use Rattle.std.proofs.Common.{◌≤◌, ◌-◌, length}
 use Rattle.steepleclay.proofs.read_all.Given as goal
 
 abbrev pub invariant-loop-done : goal.invariant-loop-done
-invariant-loop-done l = (l.done ≤ length l.buf) × (length l.buf ≡ length l.initial.buf)
+invariant-loop-done l = l.done ≤ length l.buf
 
 abbrev pub decreases-loop-done : goal.decreases-loop-done
 decreases-loop-done l = length l.buf - l.done
