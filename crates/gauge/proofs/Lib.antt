@@ -1,5 +1,4 @@
 pub mod Laws
-pub mod Steps
 pub mod Claims
 pub mod Computing
 pub mod Examples

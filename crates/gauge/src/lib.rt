@@ -50,10 +50,10 @@ fn fill(held: u32, total: u64) -> f64
     if held == 0 {
         return 0.0;
     }
-    if held as u64 == total {
+    if u64::from(held) == total {
         return 1.0;
     }
-    let h = held as f64;
+    let h = f64::from(held);
     let t = total as f64;
     h / t
 }
@@ -65,21 +65,11 @@ fn smooth(s: f64, x: f64) -> f64
     s + (x - s) * 0.25
 }
 
-// A NaN, and nothing else, differs from itself.
-fn is_nan(x: f64) -> bool
-    ensures { result ≡ is_nan x }
-{
-    x != x
-}
-
 // A number from 0 to 1.
 fn is_fill(x: f64) -> bool
     ensures { result ≡ is_fill x }
 {
-    if 0.0 <= x {
-        return x <= 1.0;
-    }
-    false
+    (0.0..=1.0).contains(&x)
 }
 
 // A limit is no number, or low is above high.
@@ -87,17 +77,8 @@ fn wrong_limits(alarm: Alarm) -> bool
     ensures { result ≡ wrong_limits alarm }
 {
     match alarm {
-        Alarm::Above(limit) => is_nan(limit),
-        Alarm::Below(limit) => is_nan(limit),
-        Alarm::Outside(low, high) => {
-            if is_nan(low) {
-                return true;
-            }
-            if is_nan(high) {
-                return true;
-            }
-            high < low
-        }
+        Alarm::Above(limit) | Alarm::Below(limit) => limit.is_nan(),
+        Alarm::Outside(low, high) => low.is_nan() || high.is_nan() || high < low,
     }
 }
 
@@ -108,12 +89,7 @@ fn sounds(alarm: Alarm, s: f64) -> bool
     match alarm {
         Alarm::Above(limit) => limit < s,
         Alarm::Below(limit) => s < limit,
-        Alarm::Outside(low, high) => {
-            if s < low {
-                return true;
-            }
-            high < s
-        }
+        Alarm::Outside(low, high) => s < low || high < s,
     }
 }
 
@@ -121,19 +97,11 @@ fn sounds(alarm: Alarm, s: f64) -> bool
 fn refuses(gauge: Gauge, alarm: Alarm, held: u32, total: u64) -> bool
     ensures { result ≡ wrong gauge alarm held total }
 {
-    if wrong_limits(alarm) {
-        return true;
-    }
-    if !is_fill(gauge.last) {
-        return true;
-    }
-    if !is_fill(gauge.smoothed) {
-        return true;
-    }
-    if total == 0 {
-        return true;
-    }
-    total < held as u64
+    wrong_limits(alarm)
+        || !is_fill(gauge.last)
+        || !is_fill(gauge.smoothed)
+        || total == 0
+        || total < u64::from(held)
 }
 
 // A reading of numbers whose total may be the sum of two.
@@ -161,7 +129,7 @@ fn observe(gauge: Gauge, alarm: Alarm, held: u32, total: u64) -> Reading
 pub fn read(gauge: Gauge, alarm: Alarm, held: u32, total: u32) -> Reading
     ensures { result ≡ reading gauge alarm held total }
 {
-    observe(gauge, alarm, held, total as u64)
+    observe(gauge, alarm, held, u64::from(total))
 }
 
 // A reading of a region by its information. The sum of both totals is taken in 64 bits.
@@ -170,6 +138,6 @@ pub fn read_information(gauge: Gauge, alarm: Alarm, information: Information) ->
 {
     let held = information.held_total;
     let free = information.free_total;
-    let total = free as u64 + held as u64;
+    let total = u64::from(free) + u64::from(held);
     observe(gauge, alarm, held, total)
 }

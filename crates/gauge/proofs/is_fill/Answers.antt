@@ -1,9 +1,8 @@
--- The two comparisons of the definition. Assumes nothing.
-use Rattle.gauge.proofs.Steps.{numbers}
+-- The comparisons of the range are those of the definition. Assumes nothing.
+use Rattle.std.proofs.Common.{rules}
+use lib.Ieee.{le, of_bits}
 use Rattle.gauge.proofs.is_fill.Goals as goal
 
-pub returns-then-x : goal.returns-then-x
-returns-then-x c = search numbers
-
 pub returns : goal.returns
-returns c = search numbers
+unfolding le of_bits
+returns c = search rules

@@ -1,12 +1,12 @@
 -- A refused reading leaves the gauge; else the new fills and the comparison are those of the definition. Assumes nothing.
-use mathlib.Core.Path.{sym, ◌∙◌}
-use Rattle.gauge.proofs.Steps.{reading_refused, reading_taken}
+use Rattle.std.proofs.Common.{rules}
+use Rattle.gauge.specs.Gauge.{reading}
 use Rattle.gauge.proofs.observe.Goals as goal
 
 pub returns-then-refuses : goal.returns-then-refuses
-returns-then-refuses c = reading_refused _ _ _ _ (sym c.refuses.ensures ∙ c.if-refuses.true)
+unfolding reading
+returns-then-refuses c = search rules
 
 pub returns : goal.returns
-returns c =
-    reading_taken c.args.gauge c.args.alarm _ _ _ _ _ (sym c.refuses.ensures ∙ c.if-refuses.false) c.fill-last.ensures c.smooth-smoothed.ensures
-    c.sounds.ensures
+unfolding reading
+returns c = search rules
