@@ -19,7 +19,7 @@ use Rattle.manager.specs.declared.Waiter.{Waiter}
 use Rattle.manager.specs.declared.Order.{Order}
 use Rattle.manager.specs.declared.Order.TheVariants.{Fifo, Priority, HalvesFifo, HalvesPriority}
 use Rattle.packing.specs.Packing.{region_size, partition_size, waiter_size, last_order, order_word, order_at, region_words, partition_words, waiter_words, all_words, all_at, choices, region_at, partition_at, waiter_at, partitions_at, waiters_at, record_words, pack, unpack, well_formed}
-use Rattle.packing.proofs.Laws.{all_length, region_size_lem}
+use Rattle.packing.proofs.Laws.{all_length}
 
 -- AN ORDER
 order_of_word : (o : Order) → order_at (order_word o) ≡ o
@@ -64,7 +64,6 @@ module _ (pre post : List ℕ) where
   here y ys = get_or-append_seam pre y ys 0
 
   region_back : (r : Region) → region_at (pre ++ (region_words r ++ post)) (length pre) ≡ r
-  unfolding region_at region_words
   region_back r =
       let ws = region_words r ++ post in
       rw (here r.name _, at_place ws 1, at_place ws 2, at_place ws 3, at_place ws 4, at_place ws 5, order_of_word r.order)
@@ -79,11 +78,11 @@ module _ (pre post : List ℕ) where
 
 -- the choices that were packed are choices
 choices_back : (l : List Region) (n i : ℕ) (pre post : List ℕ) → length l ≡ n → length pre ≡ i → choices n (pre ++ (all_words region_words l ++ post)) i ≡ true
-unfolding choices all_words region_words
+unfolding choices all_words
 choices_back [] n i pre post e p = rw (sym e)
 choices_back (x ∷ l) zero i pre post e p = absurd (omega arith)
 choices_back (x ∷ l) (suc n) i pre post e p =
-    let next : length (pre ++ region_words x) ≡ i + region_size = omega (arith, length-append pre (region_words x), region_size_lem x) in
+    let next : length (pre ++ region_words x) ≡ i + region_size = omega (arith, length-append pre (region_words x)) in
     let shift : pre ++ (region_words x ++ (all_words region_words l ++ post)) ≡ (pre ++ region_words x) ++ (all_words region_words l ++ post)
     = sym (append_assoc pre (region_words x) (all_words region_words l ++ post)) in
     let word : get_or (pre ++ (region_words x ++ (all_words region_words l ++ post))) (i + 5) 0 ≡ order_word x.order
@@ -104,7 +103,7 @@ module _ (d : Manager) (h₁ : length d.regions ≡ slots) (h₂ : length d.part
 
   so_many_regions : length rs ≡ partitions_at
   unfolding rs
-  so_many_regions = all_length region_words region_size slots region_size_lem d.regions h₁
+  so_many_regions = all_length region_words region_size slots (λ r. refl) d.regions h₁
 
   so_many_partitions : length ps ≡ (partition_size * slots)
   unfolding ps
@@ -128,7 +127,7 @@ module _ (d : Manager) (h₁ : length d.regions ≡ slots) (h₂ : length d.part
   unfolding pack unpack rs ps qs
   unpack_pack =
       let e₁ : all_at region_at region_size slots (rs ++ (ps ++ qs)) 0 ≡ d.regions
-      = all_back region_words region_at region_size region_size_lem (λ x pre post. region_back pre post x) d.regions slots 0 [] (ps ++ qs) h₁ refl in
+      = all_back region_words region_at region_size (λ r. refl) (λ x pre post. region_back pre post x) d.regions slots 0 [] (ps ++ qs) h₁ refl in
       let e₂ : all_at partition_at partition_size slots (rs ++ (ps ++ qs)) partitions_at ≡ d.partitions
       = all_back partition_words partition_at partition_size (λ p. refl) (λ x pre post. partition_back pre post x) d.partitions slots partitions_at rs qs h₂ so_many_regions in
       let last : (rs ++ ps) ++ (qs ++ []) ≡ rs ++ (ps ++ qs) = append_assoc rs ps (qs ++ []) ∙ rw (append-nil qs) in
@@ -171,7 +170,6 @@ module _ (ws : List ℕ) where
   choice_at (suc n) i (suc k) e h = let at : i + region_size * suc k ≡ i + region_size + region_size * k = omega arith in rw at (choice_at n (i + region_size) k (and_second (leb (get_or ws (i + 5) 0) last_order) _ e) (omega arith))
 
   region_again : (i : ℕ) → i + region_size ≤ length ws → get_or ws (i + 5) 0 ≤ last_order → region_words (region_at ws i) ≡ take region_size (drop i ws)
-  unfolding region_at region_words
   region_again i h c = rw (six_from i h, word_of_order _ c)
 
   partition_again : (i : ℕ) → i + partition_size ≤ length ws → partition_words (partition_at ws i) ≡ take partition_size (drop i ws)

@@ -1,237 +1,139 @@
--- Packing and unpacking element by element: a loop that has come to element k has taken or put those before, and the rest gives the
--- whole. One law for each turn, over the kind of element. Assumes nothing.
+-- A record in its words: what the words of its parts say is what they all say, and its parts' words are its own. Assumes nothing.
 use mathlib.Core.Path.{◌≡◌, refl, ap, sym, ◌∙◌}
-use mathlib.Core.Bool.{Bool, true, false, not}
-use mathlib.Core.List.{List, [], ◌∷◌, ◌++◌, append-nil}
-use Prim.Native.Nat.{ℕ, zero, suc, ◌+◌, ◌-◌, ◌*◌, ◌≤◌, ◌<◌}
+use mathlib.Core.Bool.{Bool, true, false, cond, ◌&&◌}
+use mathlib.Core.List.{List, [], ◌∷◌, ◌++◌}
+use Prim.Native.Nat.{ℕ, zero, suc, ◌+◌, ◌*◌, ◌≤◌, ◌<◌}
 use native.Mathlib.Omega.{arith}
-use native.Mathlib.Numerals.{add-one}
-use borrow.Author.Tests.{le-leb, lt-leb, eq-eqb, ne_eqb, not-true, not-false}
-use lib.ListN.{length, drop, get_or, set, replicate, length-append, length-set, drop_of_length-le}
-use lib.Seq.{sets, set_out, sets-eq, drop-cons, length-sets}
-use Rattle.objects.proofs.Laws.{unmapped}
-use Rattle.objects.proofs.Fill.{Filling, fill_start, fill_put, fill_full}
-use Rattle.manager.specs.Record.{slots, tasks, fresh, no_region, no_partition, no_waiter}
+use borrow.Author.Tests.{le-leb, eq-eqb}
+use lib.Dec.{leb}
+use lib.ListN.{length, take, drop, get_or, length-append}
+use Rattle.std.proofs.Common.{Option, Some, None}
+use Rattle.std.proofs.lemmas.Option.{none-some, same_Some, cond_some}
+use Rattle.std.proofs.lemmas.List.{take-take, drop-take, drop-drop, take_all, length-drop, length-take-le, get_or-take, get_or-drop}
+use Rattle.manager.specs.Record.{slots, tasks, fresh}
 use Rattle.manager.specs.declared.Manager.{Manager}
 use Rattle.manager.specs.declared.Region.{Region}
 use Rattle.manager.specs.declared.Partition.{Partition}
 use Rattle.manager.specs.declared.Waiter.{Waiter}
-use Rattle.manager.specs.declared.Order.{Order}
-use Rattle.manager.specs.declared.Order.TheVariants.{HalvesPriority}
-use Rattle.packing.specs.Packing.{last_order, region_size, partition_size, waiter_size, order_word, order_at, region_words, partition_words, waiter_words, all_words, all_at, choices, region_at, partition_at, waiter_at, partitions_at, waiters_at, record_words, pack, packed, unpack, unpacked}
+use Rattle.packing.specs.Packing.{last_order, region_size, partition_size, waiter_size, region_words, partition_words, waiter_words, all_words, all_at, all_said, before, region_said, choices, region_at, partition_at, waiter_at, partitions_at, waiters_at, record_words, pack, packed, unpack, unpacked}
 
--- the first part starts at 0
-pub at_first : (n : ℕ) → n ≡ 0 + n
-at_first n = omega arith
+-- VALUES SAID ONE BEHIND THE OTHER are those that are read from their places, where each is one
+module _ {A : Type 0} (f : List ℕ → Option A) (g : List ℕ → ℕ → A) (ok : List ℕ → ℕ → Bool) (size : ℕ) (ws : List ℕ)
+    (one : (i : ℕ) → i + size ≤ length ws → f (take size (drop i ws)) ≡ cond (ok ws i) (Some (g ws i)) None) where
+  abbrev pub all_ok : ℕ → ℕ → Bool
+  all_ok zero i = true
+  all_ok (suc n) i = ok ws i && all_ok n (i + size)
 
--- past the end nothing is put
-pub sets_out : (vs ws : List ℕ) (i : ℕ) → length ws ≤ i → sets ws i vs ≡ ws
-sets_out [] ws i h = refl
-sets_out (x ∷ vs) ws i h = rw (set_out ws i x h) (sets_out vs ws (suc i) (omega arith))
+  joined : (a b : Bool) (x : A) (l : List A) → before (cond a (Some x) None) (cond b (Some l) None) ≡ cond (a && b) (Some (x ∷ l)) None
+  joined false false x l = refl
+  joined false true x l = refl
+  joined true false x l = refl
+  joined true true x l = refl
 
--- a part of the words taken: those of the elements up to k
-module _ {A : Type 0} (f : List ℕ → ℕ → A) (z : A) (size n base : ℕ) (ws : List ℕ) where
-  pub record Taking (all : List A) (k : ℕ) : Type 0 where
-    pub within : k ≤ n
-    pub fill : Filling z n all k (all_at f size (n - k) ws (base + size * k)) (all_at f size n ws base)
+  pub all_is : (n i : ℕ) → i + size * n ≤ length ws → all_said f size n (take (size * n) (drop i ws)) ≡ cond (all_ok n i) (Some (all_at g size n ws i)) None
+  unfolding all_said all_at
+  all_is zero i h = refl
+  all_is (suc n) i h =
+      let m : size * suc n ≡ size + size * n = omega arith in
+      let vs = drop i ws in
+      let enough : i + (size + size * n) ≤ length ws = rw (← m) h in
+      let fits : size + size * n ≤ length vs = omega (arith, length-drop i ws, enough) in
+      let long : size ≤ length (take (size + size * n) vs) = omega (arith, length-take-le (size + size * n) vs fits) in
+      let first : take size (take (size + size * n) vs) ≡ take size vs = take-take size (size + size * n) vs (omega arith) in
+      let rest : drop size (take (size + size * n) vs) ≡ take (size * n) (drop (i + size) ws) = drop-take size (size * n) vs ∙ ap (take (size * n)) (drop-drop size i ws) in
+      rw (m, le-leb _ _ long, first, rest, one i (omega (arith, enough)), all_is n (i + size) (omega (arith, enough))) (joined (ok ws i) (all_ok n (i + size)) (g ws i) (all_at g size n ws (i + size)))
 
-  pub take_start : Taking (replicate n z) 0
-  take_start =
-      let e : base + size * 0 ≡ base = omega arith in
-      let a : n - 0 ≡ n = omega arith in
-      record { within = omega arith; fill = rw (e, a) (fill_start z n _) }
+module _ (ws : List ℕ) where
+  at_place : (i n j : ℕ) → j < n → get_or (take n (drop i ws)) j 0 ≡ get_or ws (i + j) 0
+  at_place i n j h = get_or-take n (drop i ws) j 0 h ∙ get_or-drop i ws j 0
 
-  pub take_next : (all : List A) (k at : ℕ) (x : A) → Taking all k → k < n → x ≡ f ws at → at ≡ base + size * k → Taking (set all k x) (k + 1)
-  unfolding all_at
-  take_next all k at x v h g e =
-      let left : n - k ≡ suc (n - (k + 1)) = omega arith in
-      let next : base + size * (k + 1) ≡ base + size * k + size = omega arith in
-      record { within = omega arith; fill = rw (g, e, next) (fill_put z n all k _ _ _ h (rw left at v.fill)) }
+  here : (i n : ℕ) → 0 < n → get_or (take n (drop i ws)) 0 0 ≡ get_or ws i 0
+  here i n h = let e : i + 0 ≡ i = omega arith in at_place i n 0 h ∙ rw e
 
-  pub take_end : (all : List A) (k : ℕ) → Taking all k → n ≤ k → all ≡ all_at f size n ws base
-  unfolding all_at
-  take_end all k v h = let none : n - k ≡ 0 = omega arith in fill_full z n all k _ (rw none at v.fill) h
+  abbrev an_order : List ℕ → ℕ → Bool
+  an_order vs i = leb (get_or vs (i + 5) 0) last_order
 
--- the last order read
-pub last_order_lem : (w : ℕ) → (w ≡ 0 → ⊥) → (w ≡ 1 → ⊥) → (w ≡ 2 → ⊥) → HalvesPriority ≡ order_at w
-last_order_lem zero h k l = absurd (h refl)
-last_order_lem (suc zero) h k l = absurd (k refl)
-last_order_lem (suc (suc zero)) h k l = absurd (l refl)
-last_order_lem (suc (suc (suc w))) h k l = refl
+  one_region : (i : ℕ) → i + region_size ≤ length ws → region_said (take region_size (drop i ws)) ≡ cond (an_order ws i) (Some (region_at ws i)) None
+  one_region i h = rw (here i 6 (omega arith), at_place i 6 1 (omega arith), at_place i 6 2 (omega arith), at_place i 6 3 (omega arith), at_place i 6 4 (omega arith), at_place i 6 5 (omega arith))
 
--- a region read, its order by itself
-pub region_read : (ws : List ℕ) (at : ℕ) (o : Order) → o ≡ order_at (get_or ws (at + 5) 0)
-    → record { name = get_or ws at 0; generation = get_or ws (at + 1) 0; start = get_or ws (at + 2) 0; length = get_or ws (at + 3) 0; page = get_or ws (at + 4) 0; order = o } ≡ region_at ws at
-unfolding region_at
-region_read ws at o e = rw e
+  one_partition : (i : ℕ) → i + partition_size ≤ length ws → partition_at (take partition_size (drop i ws)) 0 ≡ partition_at ws i
+  one_partition i h = rw (here i 8 (omega arith), at_place i 8 1 (omega arith), at_place i 8 2 (omega arith), at_place i 8 3 (omega arith), at_place i 8 4 (omega arith), at_place i 8 5 (omega arith), at_place i 8 6 (omega arith), at_place i 8 7 (omega arith))
 
--- orders looked at: those of the regions up to k
-pub record Choosing (n : ℕ) (ws : List ℕ) (k : ℕ) : Type 0 where
-  pub within : k ≤ n
-  pub rest : choices (n - k) ws (region_size * k) ≡ choices n ws 0
+  one_waiter : (i : ℕ) → i + waiter_size ≤ length ws → waiter_at (take waiter_size (drop i ws)) 0 ≡ waiter_at ws i
+  one_waiter i h = rw (here i 6 (omega arith), at_place i 6 1 (omega arith), at_place i 6 2 (omega arith), at_place i 6 3 (omega arith), at_place i 6 4 (omega arith), at_place i 6 5 (omega arith))
 
-module _ (n : ℕ) (ws : List ℕ) where
-  pub choose_start : Choosing n ws 0
-  choose_start = let a : n - 0 ≡ n = omega arith in record { within = omega arith; rest = rw a }
-
-  module _ (k at : ℕ) (v : Choosing n ws k) (h : k < n) (e : at ≡ region_size * k) where
-    left : n - k ≡ suc (n - (k + 1))
-    left = omega arith
-
-    pub choose_next : get_or ws (at + 5) 0 ≤ last_order → Choosing n ws (k + 1)
-    unfolding choices
-    choose_next c =
-        let next : region_size * (k + 1) ≡ region_size * k + region_size = omega arith in
-        let here : get_or ws (region_size * k + 5) 0 ≤ last_order = rw (← e) c in
-        record { within = omega arith; rest = rw next (rw (left, le-leb _ _ here) at v.rest) }
-
-    pub choose_none : last_order < get_or ws (at + 5) 0 → false ≡ choices n ws 0
-    unfolding choices
-    choose_none c = let here : last_order < get_or ws (region_size * k + 5) 0 = rw (← e) c in rw (left, lt-leb _ _ here) at v.rest
-
-  pub choose_end : (k : ℕ) → Choosing n ws k → n ≤ k → true ≡ choices n ws 0
+  -- the parts of a record by the words of each
+  choices_ok : (n i : ℕ) → all_ok region_said region_at an_order region_size ws one_region n i ≡ choices n ws i
   unfolding choices
-  choose_end k v h = let none : n - k ≡ 0 = omega arith in rw none at v.rest
+  choices_ok zero i = refl
+  choices_ok (suc n) i = rw (choices_ok n (i + region_size))
 
--- words copied: those before k, to the places before i
-module _ (at : ℕ) (from ws₀ : List ℕ) where
-  pub record Copying (ws : List ℕ) (i k : ℕ) : Type 0 where
-    pub same : length ws ≡ length ws₀
-    pub rest : sets ws i (drop k from) ≡ sets ws₀ at from
+  regions_said : (n : ℕ) → region_size * n ≤ length ws
+      → all_said region_said region_size n (take (region_size * n) ws) ≡ cond (choices n ws 0) (Some (all_at region_at region_size n ws 0)) None
+  regions_said n h = rw (← choices_ok n 0) (all_is region_said region_at an_order region_size ws one_region n 0 (omega (arith, h)))
 
-  pub copy_start : Copying ws₀ at 0
-  copy_start = record { same = refl; rest = refl }
+  module _ {A : Type 0} (g : List ℕ → ℕ → A) (size : ℕ) (one : (i : ℕ) → i + size ≤ length ws → g (take size (drop i ws)) 0 ≡ g ws i) where
+    all_fine : (n i : ℕ) → all_ok (λ vs. Some (g vs 0)) g (λ vs i. true) size ws (λ i h. ap Some (one i h)) n i ≡ true
+    all_fine zero i = refl
+    all_fine (suc n) i = all_fine n (i + size)
 
-  module _ (ws : List ℕ) (i k : ℕ) (v : Copying ws i k) where
-    pub copy_next : k < length from → Copying (set ws i (get_or from k 0)) (i + 1) (k + 1)
-    copy_next h = record { same = length-set ws i (get_or from k 0) ∙ v.same; rest = rw (add-one, add-one) (rw (drop-cons from k 0 h) at v.rest) }
+    others_said : (n i : ℕ) → i + size * n ≤ length ws
+        → all_said (λ vs. Some (g vs 0)) size n (take (size * n) (drop i ws)) ≡ Some (all_at g size n ws i)
+    others_said n i h = all_is (λ vs. Some (g vs 0)) g (λ vs i. true) size ws (λ i h. ap Some (one i h)) n i h ∙ rw (all_fine n i)
 
-    pub copy_end : length from ≤ k → ws ≡ sets ws₀ at from
-    copy_end h = rw (drop_of_length-le from {i = k} h) at v.rest
+  abbrev part_two : List ℕ
+  part_two = take (partition_size * slots) (drop partitions_at ws)
 
-    -- no place is left
-    pub copy_full : length ws ≤ i → ws ≡ sets ws₀ at from
-    copy_full h = sym (sets_out (drop k from) ws i h) ∙ v.rest
+  abbrev part_three : List ℕ
+  part_three = drop (partition_size * slots) (drop partitions_at ws)
 
--- words put one behind the other
-pub sets_append : (a b ws : List ℕ) (i : ℕ) → sets ws i (a ++ b) ≡ sets (sets ws i a) (i + length a) b
-sets_append [] b ws i = let e : i + 0 ≡ i = omega arith in rw e
-sets_append (x ∷ a) b ws i = let e : suc i + length a ≡ i + suc (length a) = omega arith in rw (← e) (sets_append a b (set ws i x) (suc i))
+  -- a record's words: each part is said by its own
+  module _ (e : length ws ≡ record_words) where
+    first_is : all_said region_said region_size slots (take partitions_at ws) ≡ cond (choices slots ws 0) (Some (all_at region_at region_size slots ws 0)) None
+    first_is = regions_said slots (omega (arith, e))
 
-pub whole_set : (vs ws : List ℕ) → length vs ≡ length ws → sets ws 0 vs ≡ vs
-whole_set vs ws e =
-    sets-eq vs ws 0 (omega (arith, e)) ∙ ap (λ (r : List ℕ). vs ++ r) (drop_of_length-le ws {i = 0 + length vs} (omega (arith, e))) ∙ append-nil vs
+    second_is : all_said (λ vs. Some (partition_at vs 0)) partition_size slots part_two ≡ Some (all_at partition_at partition_size slots ws partitions_at)
+    second_is = others_said partition_at partition_size one_partition slots partitions_at (omega (arith, e))
 
--- elements put: those up to k
-module _ {A : Type 0} (f : A → List ℕ) (size n base : ℕ) (l : List A) (ws₀ : List ℕ) where
-  pub record Putting (ws : List ℕ) (k : ℕ) : Type 0 where
-    pub within : k ≤ n
-    pub some : length l ≡ n
-    pub same : length ws ≡ length ws₀
-    pub rest : sets ws (base + size * k) (all_words f (drop k l)) ≡ sets ws₀ base (all_words f l)
+    third_is : all_said (λ vs. Some (waiter_at vs 0)) waiter_size tasks part_three ≡ Some (all_at waiter_at waiter_size tasks ws waiters_at)
+    third_is =
+        let same : part_three ≡ drop waiters_at ws = drop-drop (partition_size * slots) partitions_at ws in
+        let whole : take (waiter_size * tasks) (drop waiters_at ws) ≡ drop waiters_at ws = take_all (waiter_size * tasks) (drop waiters_at ws) (omega (arith, e, length-drop waiters_at ws)) in
+        rw (same, ← whole) (others_said waiter_at waiter_size one_waiter tasks waiters_at (omega (arith, e)))
 
-  pub put_start : length l ≡ n → Putting ws₀ 0
-  put_start h = let e : base + size * 0 ≡ base = omega arith in record { within = omega arith; some = h; same = refl; rest = rw e }
+    pub no_regions : all_said region_said region_size slots (take partitions_at ws) ≡ None → None ≡ unpacked ws
+    no_regions h = rw (eq-eqb (length ws) record_words e) (by_choice (choices slots ws 0) (sym first_is ∙ h))
+      where
+        by_choice : (b : Bool) → cond b (Some (all_at region_at region_size slots ws 0)) None ≡ None → None ≡ cond b (Some (unpack ws)) None
+        by_choice true h = absurd (none-some _ (sym h))
+        by_choice false h = refl
 
-  module _ (ws : List ℕ) (k : ℕ) (v : Putting ws k) where
-    pub put_next : k < n → (z : A) (ws' : List ℕ) (at : ℕ) → ws' ≡ sets ws at (f (get_or l k z)) → at ≡ base + size * k → length (f (get_or l k z)) ≡ size
-        → Putting ws' (k + 1)
-    unfolding all_words
-    put_next h z ws' at g e s =
-        let next : base + size * (k + 1) ≡ base + size * k + size = omega arith in
-        let parts : drop k l ≡ get_or l k z ∷ drop (k + 1) l = rw add-one (drop-cons l k z (omega (arith, v.some))) in
-        let joined = sets_append (f (get_or l k z)) (all_words f (drop (k + 1) l)) ws (base + size * k) in
-        record {
-          within = omega arith;
-          some = v.some;
-          same = ap length g ∙ length-sets ws at (f (get_or l k z)) ∙ v.same;
-          rest = rw (g, e, next) (sym (rw s at joined) ∙ (rw parts at v.rest));
-        }
+    pub some_partitions : all_said (λ vs. Some (partition_at vs 0)) partition_size slots part_two ≡ None → None ≡ unpacked ws
+    some_partitions h = absurd (none-some _ (sym h ∙ second_is))
 
-    pub put_end : n ≤ k → ws ≡ sets ws₀ base (all_words f l)
-    unfolding all_words
-    put_end h = let past : length l ≤ k = omega (arith, v.some) in rw (drop_of_length-le l {i = k} past) at v.rest
+    pub some_waiters : all_said (λ vs. Some (waiter_at vs 0)) waiter_size tasks part_three ≡ None → None ≡ unpacked ws
+    some_waiters h = absurd (none-some _ (sym h ∙ third_is))
 
--- the words of one element, stored one by one
-module _ (ws : List ℕ) (at a b c d e f : ℕ) where
-  abbrev six : List ℕ
-  six = set (set (set (set (set (set ws at a) (at + 1) b) (at + 2) c) (at + 3) d) (at + 4) e) (at + 5) f
+    -- d is the record that the parts are read into
+    pub record_said : (d : Manager) → d ≡ fresh → (rs : List Region) (ps : List Partition) (qs : List Waiter) (one two three : List ℕ)
+        → one ≡ take partitions_at ws → two ≡ part_two → three ≡ part_three
+        → all_said region_said region_size (length d.regions) one ≡ Some rs → all_said (λ vs. Some (partition_at vs 0)) partition_size (length d.partitions) two ≡ Some ps
+        → all_said (λ vs. Some (waiter_at vs 0)) waiter_size (length d.waiters) three ≡ Some qs → Some (record { regions = rs; partitions = ps; waiters = qs }) ≡ unpacked ws
+    unfolding unpack
+    record_said d new rs ps qs one two three e₁ e₂ e₃ h k l =
+        let first : all_said region_said region_size slots (take partitions_at ws) ≡ Some rs = rw (new, e₁) at h in
+        let second : all_said (λ vs. Some (partition_at vs 0)) partition_size slots part_two ≡ Some ps = rw (new, e₂) at k in
+        let third : all_said (λ vs. Some (waiter_at vs 0)) waiter_size tasks part_three ≡ Some qs = rw (new, e₃) at l in
+        let choice = cond_some (choices slots ws 0) (all_at region_at region_size slots ws 0) rs (sym first_is ∙ first) in
+        rw (eq-eqb (length ws) record_words e, choice.0, choice.1, same_Some _ _ (sym second ∙ second_is), same_Some _ _ (sym third ∙ third_is))
 
-  store_six : six ≡ sets ws at (a ∷ b ∷ c ∷ d ∷ e ∷ f ∷ [])
-  store_six =
-      let i₁ : at + 1 ≡ suc at = omega arith in
-      let i₂ : at + 2 ≡ suc (suc at) = omega arith in
-      let i₃ : at + 3 ≡ suc (suc (suc at)) = omega arith in
-      let i₄ : at + 4 ≡ suc (suc (suc (suc at))) = omega arith in
-      let i₅ : at + 5 ≡ suc (suc (suc (suc (suc at)))) = omega arith in
-      rw (i₁, i₂, i₃, i₄, i₅)
+pub ruleset unpacking = (no_regions, some_partitions, some_waiters)
 
-  store_eight : (g h : ℕ) → set (set six (at + 6) g) (at + 7) h ≡ sets ws at (a ∷ b ∷ c ∷ d ∷ e ∷ f ∷ g ∷ h ∷ [])
-  store_eight g h =
-      let i₆ : at + 6 ≡ suc (suc (suc (suc (suc (suc at))))) = omega arith in
-      let i₇ : at + 7 ≡ suc (suc (suc (suc (suc (suc (suc at)))))) = omega arith in
-      rw (store_six, i₆, i₇)
-
--- a region put, its choice by itself
-pub region_put : (ws : List ℕ) (at : ℕ) (r : Region) (w : ℕ) → w ≡ order_word r.order
-    → set (set (set (set (set (set ws at r.name) (at + 1) r.generation) (at + 2) r.start) (at + 3) r.length) (at + 4) r.page) (at + 5) w
-    ≡ sets ws at (region_words r)
-unfolding region_words
-region_put ws at r w e = rw (← e) (store_six ws at r.name r.generation r.start r.length r.page w)
-
-pub partition_put : (ws : List ℕ) (at : ℕ) (p : Partition)
-    → set (set (set (set (set (set (set (set ws at p.name) (at + 1) p.generation) (at + 2) p.start) (at + 3) p.length) (at + 4) p.size) (at + 5) p.front) (at + 6) p.rear) (at + 7) p.free
-    ≡ sets ws at (partition_words p)
-partition_put ws at p = store_eight ws at p.name p.generation p.start p.length p.size p.front p.rear p.free
-
-pub waiter_put : (ws : List ℕ) (at : ℕ) (w : Waiter)
-    → set (set (set (set (set (set ws at w.task) (at + 1) w.region) (at + 2) w.size) (at + 3) w.alignment) (at + 4) w.priority) (at + 5) w.ticks
-    ≡ sets ws at (waiter_words w)
-waiter_put ws at w = store_six ws at w.task w.region w.size w.alignment w.priority w.ticks
-
--- words put leave as many
-pub as_many : (ws ws' vs : List ℕ) (i n : ℕ) → ws' ≡ sets ws i vs → length ws ≡ n → length ws' ≡ n
-as_many ws ws' vs i n e h = ap length e ∙ length-sets ws i vs ∙ h
-
-pub region_size_lem : (r : Region) → length (region_words r) ≡ region_size
-unfolding region_words
-region_size_lem r = refl
-
-pub ruleset one_by_one = (region_put, partition_put, waiter_put)
-
-pub ruleset packing = (unmapped, at_first, choose_start, choose_next, choose_none, choose_end, copy_start, copy_next, copy_end, copy_full, put_start, put_next, put_end, region_size_lem)
-
--- an array that starts as the fresh record's
-module _ (ws : List ℕ) (d : Manager) (e : d ≡ fresh) where
-  pub take_regions : Taking region_at no_region region_size slots 0 ws d.regions 0
-  take_regions = rw e (take_start region_at no_region region_size slots 0 ws)
-
-  pub take_partitions : Taking partition_at no_partition partition_size slots partitions_at ws d.partitions 0
-  take_partitions = rw e (take_start partition_at no_partition partition_size slots partitions_at ws)
-
-  pub take_waiters : Taking waiter_at no_waiter waiter_size tasks waiters_at ws d.waiters 0
-  take_waiters = rw e (take_start waiter_at no_waiter waiter_size tasks waiters_at ws)
-
-pub ruleset taking = (unmapped, at_first, take_regions, take_partitions, take_waiters, take_next, take_end)
-
-pub ruleset reading = (region_read)
-
--- words that say no record
-module _ (ws : List ℕ) (d : Manager) (e : d ≡ fresh) where
-  pub not_so_many : (length ws ≡ record_words → ⊥) → record { ok = false; manager = d } ≡ unpacked ws
-  not_so_many h = rw (e, ne_eqb (length ws) record_words h)
-
-  pub no_choice : length ws ≡ record_words → (b : Bool) → b ≡ choices slots ws 0 → not b ≡ true → record { ok = false; manager = d } ≡ unpacked ws
-  no_choice h b g f = rw (e, eq-eqb (length ws) record_words h, ← g, not-true b f)
-
--- and those that say one
-pub record_read : (ws : List ℕ) → length ws ≡ record_words → (b : Bool) → b ≡ choices slots ws 0 → not b ≡ false → (rs : List Region) (ps : List Partition) (qs : List Waiter)
-    → rs ≡ all_at region_at region_size slots ws 0 → ps ≡ all_at partition_at partition_size slots ws partitions_at → qs ≡ all_at waiter_at waiter_size tasks ws waiters_at
-    → record { ok = true; manager = record { regions = rs; partitions = ps; waiters = qs } } ≡ unpacked ws
-unfolding unpack
-record_read ws h b g f rs ps qs e₁ e₂ e₃ = rw (e₁, e₂, e₃, eq-eqb (length ws) record_words h, ← g, not-false b f)
-
-pub ruleset unpacking = (not_so_many, no_choice, record_read)
+-- A RECORD IN WORDS
+pub words_put : (d : Manager) (ws : List ℕ) → length ws ≡ record_words → (rs ps qs : List ℕ) → rs ≡ all_words region_words d.regions
+    → ps ≡ all_words partition_words d.partitions → qs ≡ all_words waiter_words d.waiters → rs ++ (ps ++ qs) ≡ packed d ws
+unfolding pack
+words_put d ws e rs ps qs e₁ e₂ e₃ = rw (eq-eqb (length ws) record_words e, e₁, e₂, e₃)
 
 -- how many words the elements have
 pub all_length : {A : Type 0} (f : A → List ℕ) (size n : ℕ) → ((x : A) → length (f x) ≡ size) → (l : List A) → length l ≡ n → length (all_words f l) ≡ size * n
@@ -240,27 +142,3 @@ all_length f size n h [] e = let z : size * n ≡ 0 = rw (sym e) (omega arith) i
 all_length f size zero h (x ∷ l) e = absurd (omega arith)
 all_length f size (suc n) h (x ∷ l) e =
     omega (arith, length-append (f x) (all_words f l), h x, all_length f size n h l (omega arith))
-
--- a record put: none of the words is left
-module _ (d : Manager) (ws : List ℕ) where
-  pub put_none : (length ws ≡ record_words → ⊥) → ws ≡ packed d ws
-  put_none h = rw (ne_eqb (length ws) record_words h)
-
-  pub put_all : length ws ≡ record_words → length d.regions ≡ slots → length d.partitions ≡ slots → length d.waiters ≡ tasks
-      → (ws₁ ws₂ ws₃ : List ℕ) → ws₁ ≡ sets ws 0 (all_words region_words d.regions) → ws₂ ≡ sets ws₁ partitions_at (all_words partition_words d.partitions)
-      → ws₃ ≡ sets ws₂ waiters_at (all_words waiter_words d.waiters) → ws₃ ≡ packed d ws
-  unfolding pack
-  put_all h h₁ h₂ h₃ ws₁ ws₂ ws₃ e₁ e₂ e₃ =
-      let rs = all_words region_words d.regions in
-      let ps = all_words partition_words d.partitions in
-      let qs = all_words waiter_words d.waiters in
-      let l₁ : length rs ≡ partitions_at = all_length region_words region_size slots region_size_lem d.regions h₁ in
-      let l₂ : length ps ≡ (partition_size * slots) = all_length partition_words partition_size slots (λ p. refl) d.partitions h₂ in
-      let l₃ : length qs ≡ (waiter_size * tasks) = all_length waiter_words waiter_size tasks (λ q. refl) d.waiters h₃ in
-      let l : length (rs ++ (ps ++ qs)) ≡ length ws = omega (arith, length-append rs (ps ++ qs), length-append ps qs) in
-      let whole : sets ws 0 (rs ++ (ps ++ qs)) ≡ rs ++ (ps ++ qs) = whole_set (rs ++ (ps ++ qs)) ws l in
-      let j₁ : sets ws 0 (rs ++ (ps ++ qs)) ≡ sets ws₁ partitions_at (ps ++ qs) = rw e₁ (rw l₁ at (sets_append rs (ps ++ qs) ws 0)) in
-      let j₂ : sets ws₁ partitions_at (ps ++ qs) ≡ sets ws₂ waiters_at qs = rw e₂ (rw l₂ at (sets_append ps qs ws₁ partitions_at)) in
-      rw (eq-eqb (length ws) record_words h) (e₃ ∙ sym j₂ ∙ sym j₁ ∙ whole)
-
-pub ruleset storing = (unmapped, as_many, put_none, put_all)

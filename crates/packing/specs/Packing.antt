@@ -1,14 +1,16 @@
 -- The manager record as words that a caller keeps: the regions, the partitions and the waiters, slot by slot and field by field.
 -- Assumes nothing.
-use Rattle.std.specs.Prelude.{ℕ, zero, suc, ◌+◌, ◌*◌, Bool, true, false, cond, ◌&&◌, List, [], ◌∷◌, ◌++◌, length, get_or, eqb, leb}
-use Rattle.manager.specs.Record.{slots, tasks, fresh}
+use Rattle.std.specs.Prelude.{ℕ, zero, suc, ◌+◌, ◌*◌, Bool, true, cond, ◌&&◌, List, [], ◌∷◌, ◌++◌, length, get_or, eqb, leb, Option, Some, None, take, drop}
+use Rattle.manager.specs.Record.{slots, tasks}
 use Rattle.manager.specs.declared.Manager.{Manager}
 use Rattle.manager.specs.declared.Region.{Region}
 use Rattle.manager.specs.declared.Partition.{Partition}
 use Rattle.manager.specs.declared.Waiter.{Waiter}
+use Rattle.manager.specs.declared.Notice.{Notice}
+use Rattle.manager.specs.declared.Information.{Information}
+use Rattle.manager.specs.Status.{number_of}
 use Rattle.manager.specs.declared.Order.{Order}
 use Rattle.manager.specs.declared.Order.TheVariants.{Fifo, Priority, HalvesFifo, HalvesPriority}
-use Rattle.packing.specs.declared.Unpacked.{Unpacked}
 
 -- how many words an element of each kind has
 abbrev pub region_size : ℕ
@@ -47,7 +49,7 @@ order_at (suc zero) = Priority
 order_at (suc (suc zero)) = HalvesFifo
 order_at (suc (suc (suc w))) = HalvesPriority
 
-unfoldable pub region_words : Region → List ℕ
+abbrev pub region_words : Region → List ℕ
 region_words r = r.name ∷ r.generation ∷ r.start ∷ r.length ∷ r.page ∷ order_word r.order ∷ []
 
 abbrev pub partition_words : Partition → List ℕ
@@ -55,6 +57,13 @@ partition_words p = p.name ∷ p.generation ∷ p.start ∷ p.length ∷ p.size 
 
 abbrev pub waiter_words : Waiter → List ℕ
 waiter_words w = w.task ∷ w.region ∷ w.size ∷ w.alignment ∷ w.priority ∷ w.ticks ∷ []
+
+-- what an answer has besides: a notice, and information
+abbrev pub notice_words : Notice → List ℕ
+notice_words n = n.task ∷ number_of n.status ∷ n.address ∷ []
+
+abbrev pub information_words : Information → List ℕ
+information_words i = i.free_count ∷ i.free_largest ∷ i.free_total ∷ i.held_count ∷ i.held_largest ∷ i.held_total ∷ []
 
 module _ {A : Type 0} where
   -- the words of all elements
@@ -70,7 +79,7 @@ module _ {A : Type 0} where
 unfoldable pub pack : Manager → List ℕ
 pack d = all_words region_words d.regions ++ (all_words partition_words d.partitions ++ all_words waiter_words d.waiters)
 
-unfoldable pub region_at : List ℕ → ℕ → Region
+abbrev pub region_at : List ℕ → ℕ → Region
 region_at ws i =
     record {
       name = get_or ws i 0;
@@ -105,6 +114,21 @@ waiter_at ws i =
       ticks = get_or ws (i + 5) 0;
     }
 
+-- what the six words of a region say: nothing where its order is none
+abbrev pub region_said : List ℕ → Option Region
+region_said ws = cond (leb (get_or ws 5 0) last_order) (Some (region_at ws 0)) None
+
+-- elements said by the words one behind the other, each by `size` words; none where they end or the words of one say none
+module _ {A : Type 0} where
+  abbrev pub before : Option A → Option (List A) → Option (List A)
+  before None l = None
+  before (Some x) None = None
+  before (Some x) (Some l) = Some (x ∷ l)
+
+  unfoldable pub all_said : (List ℕ → Option A) → ℕ → ℕ → List ℕ → Option (List A)
+  all_said f size zero ws = Some []
+  all_said f size (suc n) ws = cond (leb size (length ws)) (before (f (take size ws)) (all_said f size n (drop size ws))) None
+
 -- the words say a record: their number is right, and each order is one
 unfoldable pub choices : ℕ → List ℕ → ℕ → Bool
 choices zero ws i = true
@@ -121,9 +145,9 @@ unpack ws =
       waiters = all_at waiter_at waiter_size tasks ws waiters_at;
     }
 
--- what the words say; a fresh record where they say none
-abbrev pub unpacked : List ℕ → Unpacked
-unpacked ws = cond (well_formed ws) (record { ok = true; manager = unpack ws }) (record { ok = false; manager = fresh })
+-- what the words say, if they say a record
+abbrev pub unpacked : List ℕ → Option Manager
+unpacked ws = cond (well_formed ws) (Some (unpack ws)) None
 
 -- the words after a record is put into them: none change where their number is wrong
 abbrev pub packed : Manager → List ℕ → List ℕ

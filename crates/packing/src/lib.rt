@@ -1,107 +1,59 @@
 // The manager record as words that a caller keeps, and back.
 #![tactic(auto)]
 
-mod reading;
-mod writing;
+mod parts;
+mod words;
 
 ghost use Rattle.std.specs.Prelude.{◌≡◌};
-ghost use Rattle.std.proofs.lemmas.List.Edits.{sets};
-ghost use Rattle.packing.specs.Packing.{order_at, packed, unpacked};
+ghost use Rattle.packing.specs.Packing.{packed, unpacked};
 
-use manager::{Manager, Order};
+use manager::Manager;
+pub use words::{FromWords, ToWords, read_all, write_all};
 
-// Copies words to the words from a place on, as far as there are any.
-pub fn copy(words: &mut [u32], at: usize, from: &[u32])
-    ensures { words.new ≡ sets words.old at from.now }
-{
-    let mut i = at;
-    let mut k: usize = 0;
-    while k < from.len() {
-        if words.len() <= i {
-            return;
-        }
-        words[i] = from[k];
-        i = i + 1;
-        k = k + 1;
-    }
-}
+// How many words a part of the record has, and of an answer.
+pub const REGION_WORDS: usize = 6;
 
-// The largest word that is an order.
-pub const LAST_ORDER: u32 = 3;
+pub const PARTITION_WORDS: usize = 8;
 
-// The order that a word says.
-pub fn order_at(word: u32) -> Order
-    ensures { result ≡ order_at word }
-{
-    match word {
-        0 => Order::Fifo,
-        1 => Order::Priority,
-        2 => Order::HalvesFifo,
-        _ => Order::HalvesPriority,
-    }
-}
+pub const WAITER_WORDS: usize = 6;
 
-// What words say: a record, if they say one.
-#[derive(Clone, Copy)]
-pub struct Unpacked {
-    pub ok: bool,
-    pub manager: Manager,
-}
+pub const NOTICE_WORDS: usize = 3;
 
-// How many words a region, a partition and a waiter have.
-pub(crate) const REGION_SIZE: usize = 6;
+pub const INFORMATION_WORDS: usize = 6;
 
-pub(crate) const PARTITION_SIZE: usize = 8;
+// How many words all regions have, all partitions, and the record.
+const REGIONS: usize = REGION_WORDS * Manager::SLOTS;
 
-pub(crate) const WAITER_SIZE: usize = 6;
+const PARTITIONS: usize = PARTITION_WORDS * Manager::SLOTS;
 
-// Where the words of the partitions and of the waiters start, and how many words a record has.
-pub(crate) const PARTITIONS_AT: usize = REGION_SIZE * Manager::SLOTS;
+pub const RECORD_WORDS: usize = REGIONS + PARTITIONS + WAITER_WORDS * Manager::TASKS;
 
-pub(crate) const WAITERS_AT: usize = PARTITIONS_AT + PARTITION_SIZE * Manager::SLOTS;
-
-pub const RECORD_WORDS: usize = WAITERS_AT + WAITER_SIZE * Manager::TASKS;
-
-// The record that the words say; not ok where their number is wrong or an order is none.
-pub fn unpack(words: &[u32]) -> Unpacked
+// The record that the words say; none where their number is wrong or an order is none.
+pub fn unpack(words: &[u32]) -> Option<Manager>
     ensures { result ≡ unpacked words.now }
 {
     if words.len() != RECORD_WORDS {
-        return Unpacked {
-            ok: false,
-            manager: Manager::new(),
-        };
+        return None;
     }
-    if !reading::choices(words) {
-        return Unpacked {
-            ok: false,
-            manager: Manager::new(),
-        };
-    }
-    let regions = reading::regions(words);
-    let partitions = reading::partitions(words);
-    let waiters = reading::waiters(words);
-    Unpacked {
-        ok: true,
-        manager: Manager {
-            regions: regions,
-            partitions: partitions,
-            waiters: waiters,
-        },
-    }
+    let (regions, rest) = words.split_at(REGIONS);
+    let (partitions, waiters) = rest.split_at(PARTITIONS);
+    let mut manager = Manager::new();
+    read_all(regions, &mut manager.regions)?;
+    read_all(partitions, &mut manager.partitions)?;
+    read_all(waiters, &mut manager.waiters)?;
+    Some(manager)
 }
 
 // Puts a record into its words; nothing where their number is wrong.
-pub fn pack(d: Manager, words: &mut [u32])
-    ensures { words.new ≡ packed d words.old }
+pub fn pack(d: &Manager, words: &mut [u32])
+    ensures { words.new ≡ packed d.now words.old }
 {
     if words.len() != RECORD_WORDS {
         return;
     }
-    let regions = d.regions;
-    let partitions = d.partitions;
-    let waiters = d.waiters;
-    writing::regions(words, regions);
-    writing::partitions(words, partitions);
-    writing::waiters(words, waiters);
+    let (regions, rest) = words.split_at_mut(REGIONS);
+    let (partitions, waiters) = rest.split_at_mut(PARTITIONS);
+    write_all(&d.regions, regions);
+    write_all(&d.partitions, partitions);
+    write_all(&d.waiters, waiters);
 }

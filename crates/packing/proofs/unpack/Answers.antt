@@ -1,31 +1,18 @@
--- Words of another number or without a choice say nothing; from the others each part is taken. Assumes nothing.
-use borrow.Author.Rules.{rules}
-use Rattle.packing.proofs.Laws.{unpacking}
+-- Words of another number, or with an order that is none, say nothing; else each part is read from its words. Assumes nothing.
+use Rattle.std.proofs.Common.{rules}
+use Rattle.packing.proofs.Laws.{unpacking, record_said}
 use Rattle.packing.proofs.unpack.Goals as goal
 
-pub new-requires : goal.new-requires
-new-requires c = search (rules, unpacking)
+pub returns-in_err-read_all : goal.returns-in_err-read_all
+returns-in_err-read_all c = search (rules, unpacking)
 
-pub returns-then-words-ne-RECORD_WORDS : goal.returns-then-words-ne-RECORD_WORDS
-returns-then-words-ne-RECORD_WORDS c = search (rules, unpacking)
+pub returns-in_err-read_all-2 : goal.returns-in_err-read_all-2
+returns-in_err-read_all-2 c = search (rules, unpacking)
 
-pub choices-requires : goal.choices-requires
-choices-requires c = search (rules, unpacking)
-
-pub new-requires-then-not-choices : goal.new-requires-then-not-choices
-new-requires-then-not-choices c = search (rules, unpacking)
-
-pub returns-then-not-choices : goal.returns-then-not-choices
-returns-then-not-choices c = search (rules, unpacking)
-
-pub regions-regions-requires : goal.regions-regions-requires
-regions-regions-requires c = search (rules, unpacking)
-
-pub partitions-partitions-requires : goal.partitions-partitions-requires
-partitions-partitions-requires c = search (rules, unpacking)
-
-pub waiters-waiters-requires : goal.waiters-waiters-requires
-waiters-waiters-requires c = search (rules, unpacking)
+pub returns-in_err-read_all-3 : goal.returns-in_err-read_all-3
+returns-in_err-read_all-3 c = search (rules, unpacking)
 
 pub returns : goal.returns
-returns c = search (rules, unpacking)
+returns c =
+    record_said _ (search rules) _ c.new-manager.ensures _ _ _ _ _ _ c.split_at.ensures.front (search rules) (search rules)
+    c.in_ok-read_all.ensures c.in_ok-read_all-2.ensures c.in_ok-read_all-3.ensures
