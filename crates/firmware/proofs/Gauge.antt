@@ -5,12 +5,13 @@ use mathlib.Core.Path.{◌≡◌, refl, sym, ap, ◌∙◌, subst}
 use mathlib.Core.Bool.{Bool, true, false, cond, not, ◌&&◌, true≢false}
 use mathlib.Core.List.{List}
 use native.Mathlib.Omega.{arith}
-use borrow.Author.Tests.{eq-eqb, ne_eqb, le-leb, lt-leb, lt-ltb, le-ltb}
+use Rattle.std.proofs.Common.{Option, Some, None}
+use Rattle.std.proofs.lemmas.Option.{none-some, cond_some}
+use borrow.Author.Tests.{eq-eqb, ne_eqb, lt-ltb, le-ltb}
 use lib.Dec.{T, leb, ltb}
 use lib.ListN.{get_or, length, set}
-use lib.Ieee.{Float, nan, inf, fin, binary64, of_bits, to_bits, div, is_nan, nan_bits, fits}
+use lib.Ieee.{Float, nan, inf, fin, binary64, of_bits, to_bits, is_nan, nan_bits, fits}
 use lib.Ieee.Bits.{nan_bits_is, nan_bits_above, of_bits-fits}
-use Rattle.gauge.specs.declared.Alarm.TheVariants.{Above, Below, Outside}
 use Rattle.gauge.specs.declared.Gauge.{Gauge}
 use Rattle.gauge.specs.Gauge.{reading, reading_of}
 use Rattle.gauge.specs.declared.Alarm.{Alarm}
@@ -21,7 +22,7 @@ use Rattle.manager.specs.declared.Information.{Information}
 use mir.Syntax.{w32}
 use mir.Val.{Fits, bool_byte}
 use Rattle.firmware.specs.Exported.{notices_at}
-use Rattle.firmware.specs.Reading.{alarm_at, gauge_at, gauge_words, information_at, last_alarm, Left, left, read_with, gauge_read, gauge_read_from, LeavesGauge, Numbers}
+use Rattle.firmware.specs.Reading.{alarm_at, gauge_at, information_at, last_alarm, Left, left, read_with, gauge_read, gauge_read_from, LeavesGauge, Numbers}
 
 -- THE FLOAT OF A BIT PATTERN
 abbrev infinity : ℕ
@@ -40,47 +41,12 @@ only_nan nan e = refl
 only_nan (inf s) e = absurd (true≢false (sym e))
 only_nan (fin s m d) e = absurd (true≢false (sym e))
 
-pub nan_read : (n : ℕ) → infinity < n % sign → div binary64 (of_bits binary64 0) (of_bits binary64 0) ≡ of_bits binary64 n
-unfolding div of_bits
+pub nan_read : (n : ℕ) → infinity < n % sign → of_bits binary64 0x7ff8_0000_0000_0000 ≡ of_bits binary64 n
+unfolding of_bits
 nan_read n h = sym (only_nan (of_bits binary64 n) (sym (nan_bits_is binary64 n) ∙ nan_bits_lem n ∙ lt-ltb _ _ h))
 
 pub number_read : (n : ℕ) → n % sign ≤ infinity → T (not (nan_bits binary64 n))
 number_read n h = subst (λ b. T (not b)) (sym (nan_bits_lem n ∙ le-ltb _ _ h)) tt
-
--- AN ALARM BY ITS NUMBER, from the floats of its limits
-module _ (alarm limit high : ℕ) (low : Float) (low_is : low ≡ of_bits binary64 limit) where
-  pub says_above : alarm ≡ 0 → Above low ≡ alarm_at alarm limit high
-  unfolding alarm_at
-  says_above e = rw (low_is, eq-eqb alarm 0 e)
-
-  pub says_below : (alarm ≡ 0 → ⊥) → alarm ≡ 1 → Below low ≡ alarm_at alarm limit high
-  unfolding alarm_at
-  says_below n e = rw (low_is, ne_eqb alarm 0 n, eq-eqb alarm 1 e)
-
-  pub says_outside : (alarm ≡ 0 → ⊥) → (alarm ≡ 1 → ⊥) → (top : Float) → top ≡ of_bits binary64 high → Outside low top ≡ alarm_at alarm limit high
-  unfolding alarm_at
-  says_outside n e top top-is = rw (low_is, top-is, ne_eqb alarm 0 n, ne_eqb alarm 1 e)
-
--- A GAUGE OF TWO WORDS
-pub says_gauge : (words : List ℕ) (last smoothed : Float) → last ≡ of_bits binary64 (get_or words 0 0) → smoothed ≡ of_bits binary64 (get_or words 1 0)
-    → ◌≡◌ {A = Gauge} (record { last = last; smoothed = smoothed }) (gauge_at words)
-unfolding gauge_at
-says_gauge words last smoothed e f = rw (e, f)
-
--- the information of an answer
-pub says_information : (answer : List ℕ)
-    → ◌≡◌ {A = Information}
-    (record {
-      free_count = get_or answer 1 0;
-      free_largest = get_or answer 2 0;
-      free_total = get_or answer 3 0;
-      held_count = get_or answer 4 0;
-      held_largest = get_or answer 5 0;
-      held_total = get_or answer 6 0;
-    })
-    (information_at answer)
-unfolding information_at
-says_information answer = refl
 
 -- WHAT A READING LEAVES
 byte : (b : Bool) → bool_byte b ≡ cond b 1 0
@@ -90,7 +56,6 @@ byte false = refl
 module _ (words : List ℕ) (r : Reading) (n : ℕ) (status : n ≡ number_of r.status) where
   pub left_taken : n ≡ 0
       → LeavesGauge (left words r) (set (set words 0 (to_bits binary64 r.gauge.last)) 1 (to_bits binary64 r.gauge.smoothed)) (bool_byte r.sounds) n
-  unfolding left gauge_words
   left_taken e =
       record {
         kept = rw (eq-eqb (number_of r.status) 0 (sym status ∙ e));
@@ -99,7 +64,6 @@ module _ (words : List ℕ) (r : Reading) (n : ℕ) (status : n ≡ number_of r.
       }
 
   pub left_refused : (n ≡ 0 → ⊥) → LeavesGauge (left words r) words (bool_byte r.sounds) n
-  unfolding left
   left_refused h =
       record {
         kept = rw (ne_eqb (number_of r.status) 0 (λ e. h (status ∙ e)));
@@ -118,47 +82,62 @@ module _ (ok : Bool) (words : List ℕ) (sounds : ℕ) (a : Alarm) (read : Gauge
   is_left e b b-is g g-is r r-is words' sounds' status l =
       subst (λ (o : Left). LeavesGauge o words' sounds' status) (rw (e, r-is, g-is, b-is)) l
 
+-- the alarm that is asked for, if it is one
+abbrev asked : ℕ → ℕ → ℕ → Option Alarm
+asked alarm limit high = cond (leb alarm last_alarm) (Some (alarm_at alarm limit high)) None
+
+abbrev told : List ℕ → Option Information
+told answer = cond (leb notices_at (length answer)) (Some (information_at answer)) None
+
+none_is : {A : Type 0} (b : Bool) (x : A) → None ≡ cond b (Some x) None → b ≡ false
+none_is true x h = absurd (none-some x h)
+none_is false x h = refl
+
 -- with numbers: an alarm that is none, and one
 module _ (words : List ℕ) (sounds alarm limit high held total : ℕ) where
-  pub no_alarm : last_alarm < alarm → LeavesGauge (gauge_read words sounds alarm limit high held total) words sounds 25
+  pub no_alarm : None ≡ asked alarm limit high → LeavesGauge (gauge_read words sounds alarm limit high held total) words sounds 25
   unfolding gauge_read
   no_alarm h =
-      untouched (leb alarm last_alarm) words sounds (alarm_at alarm limit high) (λ g a. reading g a held total) (lt-leb _ _ h)
+      untouched (leb alarm last_alarm) words sounds (alarm_at alarm limit high) (λ g a. reading g a held total) (none_is _ _ h)
 
-  pub an_alarm : alarm ≤ last_alarm → (a : Alarm) → a ≡ alarm_at alarm limit high → (g : Gauge) → g ≡ gauge_at words
+  pub an_alarm : (a : Alarm) → Some a ≡ asked alarm limit high → (g : Gauge) → g ≡ gauge_at words
       → (r : Reading) → r ≡ reading g a held total → (words' : List ℕ) (sounds' status : ℕ) → LeavesGauge (left words r) words' sounds' status
       → LeavesGauge (gauge_read words sounds alarm limit high held total) words' sounds' status
   unfolding gauge_read
-  an_alarm h = is_left (leb alarm last_alarm) words sounds (alarm_at alarm limit high) (λ g a. reading g a held total) (le-leb _ _ h)
+  an_alarm a h =
+      let is = cond_some (leb alarm last_alarm) (alarm_at alarm limit high) a (sym h) in
+      is_left (leb alarm last_alarm) words sounds (alarm_at alarm limit high) (λ g a. reading g a held total) is.0 a (sym is.1)
 
 -- with an answer: an alarm that is none, an answer that is too short, and both right
 module _ (words : List ℕ) (sounds alarm limit high : ℕ) (answer : List ℕ) where
   abbrev both : Bool
   both = leb alarm last_alarm && leb notices_at (length answer)
 
-  pub no_alarm_from : last_alarm < alarm → LeavesGauge (gauge_read_from words sounds alarm limit high answer) words sounds 25
+  pub no_alarm_from : None ≡ asked alarm limit high → LeavesGauge (gauge_read_from words sounds alarm limit high answer) words sounds 25
   unfolding gauge_read_from
   no_alarm_from h =
-      untouched both words sounds (alarm_at alarm limit high) (λ g a. reading_of g a (information_at answer)) (rw (lt-leb alarm last_alarm h))
+      let no : leb alarm last_alarm ≡ false = none_is _ _ h in
+      untouched both words sounds (alarm_at alarm limit high) (λ g a. reading_of g a (information_at answer)) (rw no)
 
-  pub no_answer : alarm ≤ last_alarm → length answer < notices_at → LeavesGauge (gauge_read_from words sounds alarm limit high answer) words sounds 25
+  pub no_answer : (a : Alarm) → Some a ≡ asked alarm limit high → None ≡ told answer → LeavesGauge (gauge_read_from words sounds alarm limit high answer) words sounds 25
   unfolding gauge_read_from
-  no_answer h k =
-      untouched both words sounds (alarm_at alarm limit high) (λ g a. reading_of g a (information_at answer))
-      (rw (le-leb alarm last_alarm h, lt-leb notices_at (length answer) k))
+  no_answer a h k =
+      let is = cond_some (leb alarm last_alarm) (alarm_at alarm limit high) a (sym h) in
+      let no : leb notices_at (length answer) ≡ false = none_is _ _ k in
+      untouched both words sounds (alarm_at alarm limit high) (λ g a. reading_of g a (information_at answer)) (rw (is.0, no))
 
-  pub an_answer : alarm ≤ last_alarm → notices_at ≤ length answer → (a : Alarm) → a ≡ alarm_at alarm limit high → (g : Gauge) → g ≡ gauge_at words
-      → (i : Information) → i ≡ information_at answer
+  pub an_answer : (a : Alarm) → Some a ≡ asked alarm limit high → (i : Information) → Some i ≡ told answer → (g : Gauge) → g ≡ gauge_at words
       → (r : Reading) → r ≡ reading_of g a i → (words' : List ℕ) (sounds' status : ℕ) → LeavesGauge (left words r) words' sounds' status
       → LeavesGauge (gauge_read_from words sounds alarm limit high answer) words' sounds' status
   unfolding gauge_read_from
-  an_answer h k a a-is g g-is i i-is r r-is =
+  an_answer a h i k g g-is r r-is =
+      let is = cond_some (leb alarm last_alarm) (alarm_at alarm limit high) a (sym h) in
+      let has = cond_some (leb notices_at (length answer)) (information_at answer) i (sym k) in
       is_left both words sounds (alarm_at alarm limit high) (λ g a. reading_of g a (information_at answer))
-      (rw (le-leb alarm last_alarm h, le-leb notices_at (length answer) k)) a a-is g g-is r (r-is ∙ ap (reading_of g a) i-is)
+      (rw (is.0, has.0)) a (sym is.1) g g-is r (r-is ∙ ap (reading_of g a) (sym has.1))
 
 -- a reading of the gauge in two words leaves numbers, where a float counts its total
 words_fit : (words : List ℕ) → T (fits binary64 (gauge_at words).smoothed)
-unfolding gauge_at
 words_fit words = of_bits-fits binary64 (get_or words 1 0)
 
 numbers : (words : List ℕ) (a : Alarm) (held total : ℕ) (g : Gauge) (r : Reading) → total ≤ 2 ^ 53 → g ≡ gauge_at words
@@ -177,11 +156,11 @@ numbers_read words a held total g r h = numbers words a held total g r (counts h
     counts h = omega arith
 
 pub numbers_read_from : (words answer : List ℕ) (a : Alarm) (g : Gauge) (i : Information) (r : Reading)
-    → Fits w32 (get_or answer 3 0) → Fits w32 (get_or answer 6 0) → g ≡ gauge_at words → i ≡ information_at answer → r ≡ reading_of g a i → Numbers r
-unfolding information_at
+    → Fits w32 (get_or answer 3 0) → Fits w32 (get_or answer 6 0) → g ≡ gauge_at words → Some i ≡ told answer → r ≡ reading_of g a i → Numbers r
 numbers_read_from words answer a g i r h k g-is i-is r-is =
+    let has = cond_some (leb notices_at (length answer)) (information_at answer) i (sym i-is) in
     numbers words a (get_or answer 6 0) (get_or answer 3 0 + get_or answer 6 0) g r (counts (get_or answer 3 0) (get_or answer 6 0) h.fits k.fits) g-is
-    (r-is ∙ ap (reading_of g a) i-is)
+    (r-is ∙ ap (reading_of g a) (sym has.1))
   where
     counts : (m n : ℕ) → m < 2 ^ 32 → n < 2 ^ 32 → m + n ≤ 2 ^ 53
     counts m n h k = omega arith

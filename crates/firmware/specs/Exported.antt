@@ -1,18 +1,19 @@
 -- What each exported function leaves, for every input. The caller keeps the manager record as words (`state`) and lends the memory and the
 -- words of the answer. Words that say no record, an answer that is too short and a choice that is none are answered 25, with nothing
 -- changed; else the call is performed. Assumes nothing.
-use Rattle.std.specs.Prelude.{ℕ, ◌+◌, ◌*◌, ◌≡◌, cond, ◌&&◌, List, [], ◌∷◌, eqb, leb, length}
+use Rattle.std.specs.Prelude.{ℕ, ◌+◌, ◌*◌, ◌≡◌, cond, ◌&&◌, List, [], ◌∷◌, eqb, leb, length, Option, Some, None}
 use Rattle.std.proofs.lemmas.List.Edits.{sets}
 use Rattle.manager.specs.Record.{tasks, fresh}
 use Rattle.manager.specs.Result.{Result, answer_of, refused}
 use Rattle.manager.specs.Status.{number_of}
 use Rattle.manager.specs.declared.Answer.{Answer}
 use Rattle.manager.specs.declared.Call.{Call}
-use Rattle.manager.specs.declared.Notice.{Notice}
+use Rattle.manager.specs.declared.Status.{Status}
 use Rattle.manager.specs.declared.Status.TheVariants.{InternalError}
 use Rattle.manager.specs.declared.Wait.{Wait}
 use Rattle.manager.specs.declared.Wait.TheVariants.{No, Yes}
 use Rattle.packing.specs.Packing.{all_words, pack, unpack, well_formed}
+pub use Rattle.packing.specs.Packing.{notice_words}
 pub use Rattle.manager.specs.Perform.{perform}
 pub use Rattle.manager.specs.Access.{read_segment, write_segment}
 
@@ -22,9 +23,6 @@ notices_at = 7
 
 abbrev pub answer_size : ℕ
 answer_size = notices_at + 3 * tasks
-
-unfoldable pub notice_words : Notice → List ℕ
-notice_words n = n.task ∷ number_of n.status ∷ n.address ∷ []
 
 unfoldable pub answer_words : Answer → List ℕ
 answer_words a =
@@ -57,6 +55,11 @@ performed answer s =
       answer = sets answer 0 (answer_words (answer_of s));
       status = number_of s.status;
     }
+
+-- the number of what was answered; 25 where nothing was
+abbrev pub number : Option Status → ℕ
+number (Some s) = number_of s
+number None = number_of InternalError
 
 -- a call
 unfoldable pub called : List ℕ → List ℕ → List ℕ → Call → Outcome

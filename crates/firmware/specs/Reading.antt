@@ -15,14 +15,14 @@ use Rattle.manager.specs.declared.Status.TheVariants.{InternalError}
 use Rattle.firmware.specs.Exported.{notices_at}
 
 -- a gauge of two words, and the words of a gauge
-unfoldable pub gauge_at : List ℕ → Gauge
+abbrev pub gauge_at : List ℕ → Gauge
 gauge_at words = record { last = of_bits binary64 (get_or words 0 0); smoothed = of_bits binary64 (get_or words 1 0) }
 
-unfoldable pub gauge_words : Gauge → List ℕ
+abbrev pub gauge_words : Gauge → List ℕ
 gauge_words g = to_bits binary64 g.last ∷ to_bits binary64 g.smoothed ∷ []
 
 -- the six values of information in the words of an answer
-unfoldable pub information_at : List ℕ → Information
+abbrev pub information_at : List ℕ → Information
 information_at answer =
     record {
       free_count = get_or answer 1 0;
@@ -34,7 +34,7 @@ information_at answer =
     }
 
 -- the alarms: 0 is above a limit, 1 below it, 2 outside it and a high one
-unfoldable pub alarm_at : ℕ → ℕ → ℕ → Alarm
+abbrev pub alarm_at : ℕ → ℕ → ℕ → Alarm
 alarm_at alarm limit high =
     cond (eqb alarm 0) (Above (of_bits binary64 limit))
     (cond (eqb alarm 1) (Below (of_bits binary64 limit)) (Outside (of_bits binary64 limit) (of_bits binary64 high)))
@@ -49,7 +49,7 @@ pub record Left : Type 0 where
   pub status : ℕ
 
 -- a refusal leaves the words, also those of a NaN
-unfoldable pub left : List ℕ → Reading → Left
+abbrev pub left : List ℕ → Reading → Left
 left words r =
     record {
       words = cond (eqb (number_of r.status) 0) (sets words 0 (gauge_words r.gauge)) words;

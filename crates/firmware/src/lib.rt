@@ -10,9 +10,9 @@ ghost use Rattle.packing.specs.Packing.{last_order, order_at};
 ghost use Rattle.firmware.specs.Exported.{Leaves, Reads, Writes, called, chosen, wait_at, segment_words, segment_written};
 ghost use Rattle.firmware.specs.Reading.{LeavesGauge, gauge_read, gauge_read_from};
 
-use call::{INTERNAL_ERROR, run_call, wait_at};
-use manager::Call;
-use reading::{INFORMATION_WORDS, LAST_ALARM, alarm_at, gauge_at, information_at, leave};
+use call::{number, run_call};
+use manager::{Call, Order, Wait};
+use reading::{alarm_at, gauge_at, information_at, leave};
 
 // Makes a region.
 pub fn sc_region_create(
@@ -28,10 +28,9 @@ pub fn sc_region_create(
     ensures { Leaves (chosen last_order order state.old memory.old answer.old (Call.CreateRegion name start length page (order_at order)))
         state.new memory.new answer.new result }
 {
-    if packing::LAST_ORDER < order {
-        return INTERNAL_ERROR;
-    }
-    let order = packing::order_at(order);
+    let Ok(order) = Order::try_from(order) else {
+        return number(None);
+    };
     run_call(
         state,
         memory,
@@ -78,10 +77,9 @@ pub fn sc_region_get_segment(
     ensures { Leaves (chosen 1 wait state.old memory.old answer.old (Call.GetSegment id size alignment (wait_at wait) task priority ticks))
         state.new memory.new answer.new result }
 {
-    if 1 < wait {
-        return INTERNAL_ERROR;
-    }
-    let wait = wait_at(wait);
+    let Ok(wait) = Wait::try_from(wait) else {
+        return number(None);
+    };
     run_call(
         state,
         memory,
@@ -256,13 +254,12 @@ pub fn sc_segment_read(
 ) -> usize
     ensures { Reads (segment_words state.now memory.now id address) words.old words.new result }
 {
-    let unpacked = packing::unpack(state);
-    if !unpacked.ok {
+    let Some(manager) = packing::unpack(state) else {
         return 0;
-    }
-    let d = unpacked.manager;
-    let part = access::read_segment(memory, d, id, address);
-    packing::copy(words, 0, part);
+    };
+    let part = access::read_segment(memory, manager, id, address);
+    let n = part.len().min(words.len());
+    words[..n].copy_from_slice(&part[..n]);
     part.len()
 }
 
@@ -277,14 +274,10 @@ pub fn sc_segment_write(
 ) -> u32
     ensures { Writes (segment_written state.now memory.old id address first words.now) memory.new result }
 {
-    let unpacked = packing::unpack(state);
-    if !unpacked.ok {
-        return INTERNAL_ERROR;
-    }
-    let d = unpacked.manager;
-    let given = access::write_segment(memory, d, id, address, first, words);
-    let s = given.status;
-    u32::from(s)
+    let Some(manager) = packing::unpack(state) else {
+        return number(None);
+    };
+    number(Some(access::write_segment(memory, manager, id, address, first, words).status))
 }
 
 // Reads a gauge: so many held bytes of a total.
@@ -300,12 +293,10 @@ pub fn sc_gauge_read(
     ensures { LeavesGauge (gauge_read words.old sounds.old alarm limit high held total)
         words.new sounds.new result }
 {
-    if LAST_ALARM < alarm {
-        return INTERNAL_ERROR;
-    }
-    let a = alarm_at(alarm, limit, high);
-    let g = gauge_at(words);
-    let given = gauge::read(g, a, held, total);
+    let Some(alarm) = alarm_at(alarm, limit, high) else {
+        return number(None);
+    };
+    let given = gauge::read(gauge_at(words), alarm, held, total);
     leave(words, sounds, given)
 }
 
@@ -321,15 +312,12 @@ pub fn sc_gauge_read_information(
     ensures { LeavesGauge (gauge_read_from words.old sounds.old alarm limit high answer.now)
         words.new sounds.new result }
 {
-    if LAST_ALARM < alarm {
-        return INTERNAL_ERROR;
-    }
-    if answer.len() < INFORMATION_WORDS {
-        return INTERNAL_ERROR;
-    }
-    let a = alarm_at(alarm, limit, high);
-    let g = gauge_at(words);
-    let i = information_at(answer);
-    let given = gauge::read_information(g, a, i);
+    let Some(alarm) = alarm_at(alarm, limit, high) else {
+        return number(None);
+    };
+    let Some(information) = information_at(answer) else {
+        return number(None);
+    };
+    let given = gauge::read_information(gauge_at(words), alarm, information);
     leave(words, sounds, given)
 }

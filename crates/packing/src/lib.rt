@@ -45,8 +45,8 @@ pub fn unpack(words: &[u32]) -> Option<Manager>
 }
 
 // Puts a record into its words; nothing where their number is wrong.
-pub fn pack(d: &Manager, words: &mut [u32])
-    ensures { words.new ≡ packed d.now words.old }
+pub fn pack(d: Manager, words: &mut [u32])
+    ensures { words.new ≡ packed d words.old }
 {
     if words.len() != RECORD_WORDS {
         return;

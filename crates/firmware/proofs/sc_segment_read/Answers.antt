@@ -1,22 +1,9 @@
 -- Words that say no record give none; else the segment is copied. Assumes nothing.
-use borrow.Author.Rules.{rules}
-use Rattle.firmware.proofs.Laws.{segments}
+use Rattle.firmware.proofs.Laws.{read_none, read_some}
 use Rattle.firmware.proofs.sc_segment_read.Goals as goal
 
-pub unpack-unpacked-requires : goal.unpack-unpacked-requires
-unpack-unpacked-requires c = search (rules, segments)
-
-pub returns-then-not-unpacked : goal.returns-then-not-unpacked
-returns-then-not-unpacked c = search (rules, segments)
-
-pub read_segment-part-requires : goal.read_segment-part-requires
-read_segment-part-requires c = search (rules, segments)
-
-pub copy-requires : goal.copy-requires
-copy-requires c = search (rules, segments)
-
-pub shape_of-words : goal.shape_of-words
-shape_of-words c = search (rules, segments)
+pub returns-in_default : goal.returns-in_default
+returns-in_default c = read_none _ _ _ _ c.in_default.ensures _
 
 pub returns : goal.returns
-returns c = search (rules, segments)
+returns c = read_some _ _ _ _ _ c.in-Some.ensures _ _ _ _ c.read_segment-part.ensures c.min-n.ensures c.copy_from_slice.ensures.after

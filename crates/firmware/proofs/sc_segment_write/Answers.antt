@@ -1,22 +1,10 @@
 -- Words that say no record are refused; else the words are written. Assumes nothing.
-use borrow.Author.Rules.{rules}
-use Rattle.firmware.proofs.Laws.{segments}
+use Rattle.std.proofs.Common.{rules}
+use Rattle.firmware.proofs.Laws.{write_none, write_some}
 use Rattle.firmware.proofs.sc_segment_write.Goals as goal
 
-pub unpack-unpacked-requires : goal.unpack-unpacked-requires
-unpack-unpacked-requires c = search (rules, segments)
-
-pub returns-then-not-unpacked : goal.returns-then-not-unpacked
-returns-then-not-unpacked c = search (rules, segments)
-
-pub write_segment-given-requires : goal.write_segment-given-requires
-write_segment-given-requires c = search (rules, segments)
-
-pub from-requires : goal.from-requires
-from-requires c = search (rules, segments)
-
-pub shape_of-memory : goal.shape_of-memory
-shape_of-memory c = search (rules, segments)
+pub returns-in_default : goal.returns-in_default
+returns-in_default c = search (rules, write_none)
 
 pub returns : goal.returns
-returns c = search (rules, segments)
+returns c = write_some _ _ _ _ _ _ _ c.in-Some.ensures _ _ _ c.write_segment.ensures c.number-2.ensures
