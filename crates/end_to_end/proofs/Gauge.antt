@@ -21,13 +21,12 @@ use Rattle.end_to_end.specs.Gauge.{Read, leaves, words_after, asks, asked, Gauge
 
 -- the words of a kept gauge say it
 read_back : (g : Gauge) → Kept g → gauge_at (gauge_words g) ≡ g
-unfolding gauge_at gauge_words
 read_back g k =
     rw (of_bits-to_bits binary64 g.last (fill_fits binary64 g.last k.last), of_bits-to_bits binary64 g.smoothed (fill_fits binary64 g.smoothed k.smoothed))
 
 -- a refused reading leaves its gauge, and another one its own words
 left_words : (g : Gauge) (r : Asked) → (left (gauge_words g) (answer g r)).words ≡ gauge_words (answer g r).gauge
-unfolding left reading gauge_words
+unfolding reading
 left_words g r = go (wrong g r.alarm r.held r.total)
   where
     go : (b : Bool) → (left (gauge_words g) (answered g r.alarm r.held r.total b)).words
@@ -59,7 +58,7 @@ along (r ∷ rs) g k = go (leb r.alarm last_alarm) refl (λ (h : Gauge) (j : Kep
 
 -- two words of 0 are those of a fresh gauge
 fresh_words : 0 ∷ 0 ∷ [] ≡ gauge_words fresh
-unfolding gauge_words to_bits of_bits
+unfolding to_bits of_bits
 fresh_words = refl
 
 abbrev zeros : List ℕ
@@ -75,7 +74,7 @@ next l sounds r e = ap (λ (ws : List ℕ). leaves ws sounds r) (all_words_lem l
 -- an answer that is long enough is read as its two totals
 from_totals : (words : List ℕ) (sounds alarm limit high : ℕ) (given : List ℕ) → notices_at ≤ length given
     → gauge_read_from words sounds alarm limit high given ≡ gauge_read words sounds alarm limit high (get_or given 6 0) (get_or given 3 0 + get_or given 6 0)
-unfolding gauge_read_from gauge_read information_at
+unfolding gauge_read_from gauge_read
 from_totals words sounds alarm limit high given h = rw (le-leb notices_at (length given) h, and_true (leb alarm last_alarm))
   where
     and_true : (b : Bool) → (b && true) ≡ b
@@ -83,7 +82,6 @@ from_totals words sounds alarm limit high given h = rw (le-leb notices_at (lengt
     and_true false = refl
 
 pub theorem_gauge : GaugeByReadings
-unfolding left
 theorem_gauge = record {
   words = all_words_lem;
   status = λ l sounds r e. ap (λ (o : Left). o.status) (next l sounds r e);

@@ -145,7 +145,7 @@ module _ (m : List ℕ) (some : 1 ≤ length m) (most : length m ≤ most_words)
   stand k l s (clients m' w r) = stand (record { state = k.state; memory = m'; receipts = k.receipts }) l (stands_clients k s m' w) r
 
   zero_words : Stands (zeroed m)
-  unfolding pack region_words all_words
+  unfolding pack all_words
   zero_words = record { manager = fresh; words = refl; reached = trace.end }
 
 pub theorem_library : LibraryByReceipts
