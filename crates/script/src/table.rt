@@ -172,13 +172,14 @@ const ROWS: [Row; 14] = [
     },
 ];
 
-// The calls of rule 15.2.
+// The calls of rule 15.2. No clause can name a constant that holds references, so this function says what the table is.
 pub(crate) fn rows() -> &'static [Row]
     ensures { map shown result.now ≡ calls }
 {
     &ROWS
 }
 
+// How a call is made: its row names it, since functions in the table would be pointers that are handed out, which the gate refuses.
 #[derive(Clone, Copy)]
 pub(crate) enum Directive {
     CreateRegion,

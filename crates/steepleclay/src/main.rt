@@ -6,7 +6,8 @@ ghost use Rattle.std.specs.Prelude.{◌≤◌, IfOk, length};
 use std::io;
 use std::io::{Print, Read, Stdin};
 
-// Reads until the buffer is full or the input ends, and answers how far the buffer is filled.
+// Reads until the buffer is full or the input ends, and answers how far the buffer is filled. The place is counted here: std's methods that
+// fill a buffer fail at an early end or take the heap.
 fn read_all(mut input: Stdin, buf: &mut [u8]) -> io::Result<usize>
     ensures { IfOk result (λ n. n ≤ length buf.new) }
 {
