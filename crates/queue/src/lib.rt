@@ -134,6 +134,7 @@ fn expired(w: Waiter) -> Notice
 pub fn after_tick(d: Manager) -> Noticed
     ensures { Notices (after_tick d) (leaving d.waiters) result }
 {
+    // No heap: the places of both arrays are counted, and those that stay unused are all zeros in the record and in the answer.
     let mut kept = [Waiter::default(); Manager::TASKS];
     let mut told = reply::no_notices();
     let mut k: usize = 0;

@@ -74,6 +74,7 @@ impl Facts {
 }
 
 // A waiter in front of every other: of id 1, whose slot is the first, and more urgent than any. Id 0 would stand behind all: it has no slot.
+// With an `Option` in its place each step of the walk would have one more case.
 fn in_front() -> Waiter
     ensures { result ≡ front_waiter }
 {
