@@ -1,34 +1,42 @@
 // Reading and writing a held segment.
 #![tactic(auto)]
 
-mod copier;
-
-ghost use Rattle.std.specs.Prelude.{◌≡◌, ◌*◌, ◌/◌};
+ghost use Rattle.std.specs.Prelude.{◌≡◌, ◌*◌, ◌/◌, ◌≤◌, length, IfOk};
 ghost use Rattle.manager.specs.Result.{Performs};
 ghost use Rattle.manager.specs.Access.{read_segment, write_segment};
+ghost use Rattle.access.specs.Held.{held_words};
+ghost use Rattle.reply.specs.Outcomes.{concluded};
 
-use manager::{Answer, Manager, Status};
+use manager::{Answer, Manager, Region, Status};
+use reply::ensure;
+use std::ops::Range;
+
+mod slots;
 
 // The words of the held segment at an address, as a part of the memory; an empty part where the records, the id or the address are
 // refused.
+#[tactic(auto, unfolding(manager::specs::Access::read_segment))]
 pub fn read_segment<'a>(mem: &'a [u32], d: Manager, id: u32, address: u32) -> &'a [u32]
     ensures { result.now ≡ read_segment mem.now d id address }
 {
-    if !soundness::is_sound(mem, d) {
-        return &mem[0..0];
+    match held_words(mem, &d, id, address) {
+        Ok(words) => &mem[words],
+        Err(_) => &[],
     }
-    let r = objects::region_of(d, id);
-    if r.name == 0 {
-        return &mem[0..0];
-    }
-    let l = map::layout_of(r);
-    let pages = map::held_word_at(mem, l, r.page, address);
-    if pages == 0 {
-        return &mem[0..0];
-    }
+}
+
+// Where the words of the held segment at an address stand: 25, 4, 9.
+#[tactic(auto, using(crate::proofs::Laws::held_is))]
+fn held_words(mem: &[u32], d: &Manager, id: u32, address: u32) -> Result<Range<usize>, Status>
+    ensures told { result ≡ held_words mem.now d.now id address }
+    ensures within { IfOk result (λ w. (w.start ≤ w.end) × (w.end ≤ length mem.now)) }
+{
+    ensure(soundness::is_sound(mem, *d), Status::InternalError)?;
+    let r = slots::find(d, id).ok_or(Status::InvalidId)?;
+    let pages = map::held_word_at(mem, map::layout_of(r), r.page, address);
+    ensure(pages != 0, Status::InvalidAddress)?;
     let from = (address / 4) as usize;
-    let e = from + words_of(pages, r.page);
-    &mem[from..e]
+    Ok(from..from + words_of(pages, r.page))
 }
 
 // The words of so many pages.
@@ -49,25 +57,26 @@ pub fn write_segment(
 ) -> Answer
     ensures { Performs (write_segment mem.old d id address first words.now) mem.new result }
 {
-    if !soundness::is_sound(mem, d) {
-        return reply::reply(d, Status::InternalError, 0);
-    }
-    let r = objects::region_of(d, id);
-    if r.name == 0 {
-        return reply::reply(d, Status::InvalidId, 0);
-    }
-    let l = map::layout_of(r);
-    let held = map::held_word_at(mem, l, r.page, address);
-    if held == 0 {
-        return reply::reply(d, Status::InvalidAddress, 0);
-    }
-    let room = words_of(held, r.page);
-    let skip = first as usize;
-    let end = skip + words.len();
-    if room < end {
-        return reply::reply(d, Status::InvalidSize, 0);
-    }
-    let from = (address / 4) as usize + skip;
-    copier::copy(&mut mem[from..], words);
-    reply::reply(d, Status::Successful, 0)
+    let done = write(mem, &d, id, address, first, words);
+    reply::answer(d, done)
+}
+
+// The same: 25, 4, 9, and 8 for words that would end past the segment's end.
+#[tactic(auto, using(crate::proofs::Laws::stored), unfolding(manager::specs::Access::write_segment, manager::specs::Result::checked))]
+fn write(
+    mem: &mut [u32],
+    d: &Manager,
+    id: u32,
+    address: u32,
+    first: u32,
+    words: &[u32],
+) -> Result<u32, Status>
+    ensures { write_segment mem.old d.now id address first words.now ≡ concluded mem.new d.now result }
+{
+    let held = held_words(mem, d, id, address)?;
+    let from = held.start + first as usize;
+    let to = from + words.len();
+    ensure(to <= held.end, Status::InvalidSize)?;
+    mem[from..to].copy_from_slice(words);
+    Ok(0)
 }

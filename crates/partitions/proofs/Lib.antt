@@ -1,3 +1,2 @@
-pub mod Answers
 pub mod Making
-pub mod Moving
+pub mod Reading

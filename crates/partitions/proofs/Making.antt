@@ -2,146 +2,92 @@
 -- number k, and what is left of `link_all` from there gives the whole. Assumes nothing.
 use Prim.Native.Nat.{ℕ, zero, suc, ◌+◌, ◌-◌, ◌*◌, ◌/◌, ◌%◌, ◌≤◌, ◌<◌}
 use mathlib.Core.Path.{◌≡◌, refl, ap, sym, ◌∙◌}
-use mathlib.Core.Bool.{true, cond}
+use mathlib.Core.Bool.{Bool, true, false, cond}
 use mathlib.Core.List.{List}
 use mathlib.Core.Logic.{⊎_elim}
 use native.Mathlib.Omega.{arith}
 use native.Mathlib.Nat.{div-mul-le_self, mul-le-mul_right, lt-div-mul-add}
-use lib.ListN.{length}
+use lib.ListN.{length, get_or}
+use Rattle.manager.specs.Record.{generations, no_partition}
+use Rattle.manager.specs.Sound.{sound, sound_partition}
+use Rattle.manager.specs.Partitions.{partition_generation}
+use Rattle.manager.proofs.Laws.Appended.{by_case}
+use Rattle.manager.proofs.Laws.Lists.{every_at}
+use Rattle.manager.proofs.Laws.Sound.{sound_partitions, generation_most}
+use Rattle.manager.proofs.Laws.Partition.Live.{partition_generation_lem, sound_most}
+use Rattle.manager.specs.declared.Manager.{Manager}
+use Rattle.std.proofs.lemmas.List.{get_or_past}
+use Rattle.std.specs.declared.option.Option.{Option}
+use Rattle.std.specs.declared.option.Option.TheVariants.{None, Some}
 use lib.Dec.{eqb, ltb}
-use borrow.Author.Tests.{eq-eqb, ne_eqb, lt-ltb, le-ltb}
+use borrow.Author.Tests.{eq-eqb, ne_eqb, lt-ltb, le-ltb, ltb-true, ltb-false}
 use Rattle.manager.specs.Partition.{buffers, buffer_at, link, link_all}
 use Rattle.manager.proofs.Laws.Distinct.{same_or_not}
 use Rattle.manager.proofs.Laws.Partition.Created.{link_length, before_address}
 use Rattle.manager.specs.declared.Partition.{Partition}
-use Rattle.partitions.specs.Checks.{size_refused}
 
--- the sizes that are refused, test by test
-module _ (bytes size : ℕ) where
-  pub refused_empty : bytes ≡ 0 → true ≡ size_refused bytes size
-  unfolding size_refused
-  refused_empty e = rw (eq-eqb _ _ e)
 
-  module _ (a : bytes ≡ 0 → ⊥) where
-    pub refused_none : size ≡ 0 → true ≡ size_refused bytes size
-    unfolding size_refused
-    refused_none e = rw (ne_eqb _ _ a, eq-eqb _ _ e)
-
-    module _ (b : size ≡ 0 → ⊥) where
-      pub refused_short : bytes < size → true ≡ size_refused bytes size
-      unfolding size_refused
-      refused_short e = rw (ne_eqb _ _ a, ne_eqb _ _ b, lt-ltb _ _ e)
-
-      module _ (c : size ≤ bytes) where
-        pub refused_part : (size % 4 ≡ 0 → ⊥) → true ≡ size_refused bytes size
-        unfolding size_refused
-        refused_part e = rw (ne_eqb _ _ a, ne_eqb _ _ b, le-ltb _ _ c, ne_eqb _ _ e)
-
-        pub refused_small : size % 4 ≡ 0 → ltb size 8 ≡ size_refused bytes size
-        unfolding size_refused
-        refused_small e = rw (ne_eqb _ _ a, ne_eqb _ _ b, le-ltb _ _ c, eq-eqb _ _ e)
-
-pub ruleset refusing = (refused_empty, refused_none, refused_short, refused_part, refused_small)
-
--- the address of the next buffer
-module _ (at size left : ℕ) where
-  pub next_none : left ≡ 0 → 0 ≡ cond (eqb left 0) 0 (at + size)
-  next_none e = rw (eq-eqb _ _ e)
-
-  pub next_some : (left ≡ 0 → ⊥) → at + size ≡ cond (eqb left 0) 0 (at + size)
-  next_some e = rw (ne_eqb _ _ e)
-
-  pub next_fits : ((left ≡ 0 → ⊥) → at + size < 4294967296) → (left ≡ 0 → ⊥) → at + size < 4294967296
-  next_fits h e = h e
-
-pub ruleset nexts = (next_none, next_some, next_fits)
-
--- HOW FAR THE CHAINING HAS COME
-pub record Chaining (m₀ : List ℕ) (p : Partition) (m : List ℕ) (left at before : ℕ) : Type 0 where
-  pub size_in : 0 < p.size
-  pub ends : p.start + p.length < 4294967296
-  pub within : left ≤ buffers p
-  pub here : 0 < left → at ≡ buffer_at p (buffers p - left)
-  pub behind : before ≡ before_address p (buffers p - left)
-  pub long : length m ≡ length m₀
-  pub rest : link_all left m p (buffers p - left) ≡ link_all (buffers p) m₀ p 0
-
-all_step : (left : ℕ) (m : List ℕ) (p : Partition) (k : ℕ) → 0 < left
-    → link_all (left - 1) (link m (buffer_at p k) (cond (eqb (left - 1) 0) 0 (buffer_at p (k + 1))) (before_address p k)) p (k + 1) ≡ link_all left m p k
+-- ONE BUFFER OF THE CHAIN: what is left of `link_all` behind it is what was left at it
+turn : (left : ℕ) (m : List ℕ) (p : Partition) (k : ℕ)
+    → link_all left (link m (buffer_at p k) (cond (eqb left 0) 0 (buffer_at p (k + 1))) (cond (eqb k 0) 0 (buffer_at p (k - 1)))) p (k + 1) ≡ link_all (suc left) m p k
 unfolding link_all
-all_step zero m p k h = absurd (omega arith)
-all_step (suc left) m p k h = let z : suc left - 1 ≡ left = omega arith in rw z
+turn left m p k = refl
 
-all_none : (left : ℕ) (m : List ℕ) (p : Partition) (k : ℕ) → left ≤ 0 → link_all left m p k ≡ m
+all_none : (m : List ℕ) (p : Partition) (k : ℕ) → link_all 0 m p k ≡ m
 unfolding link_all
-all_none zero m p k h = refl
-all_none (suc left) m p k h = absurd (omega arith)
+all_none m p k = refl
 
-pub chaining_start : (m : List ℕ) (p : Partition) → 0 < p.size → p.start + p.length < 4294967296
-    → Chaining m p m (p.length / p.size) p.start 0
-chaining_start m p z e =
-    let k : buffers p - buffers p ≡ 0 = omega arith in
-    record {
-      size_in = z;
-      ends = e;
-      within = omega arith;
-      here = λ h. rw k (omega arith);
-      behind = rw k;
-      long = refl;
-      rest = rw k;
-    }
+next_is : (n k a b : ℕ) → k < n → a ≡ b → cond (ltb (k + 1) n) a 0 ≡ cond (eqb (n - (k + 1)) 0) 0 b
+next_is n k a b l e =
+    ⊎_elim
+    (λ (z : n - (k + 1) ≡ 0). rw (eq-eqb _ _ z, le-ltb (k + 1) n (omega arith)))
+    (λ (z : n - (k + 1) ≡ 0 → ⊥). rw (ne_eqb _ _ z, lt-ltb (k + 1) n (omega arith)) e)
+    (same_or_not (n - (k + 1)) 0)
 
-module _ (m₀ : List ℕ) (p : Partition) (m : List ℕ) (left at before : ℕ) (v : Chaining m₀ p m left at before) where
-  pub chaining_fits : 0 < left → (left - 1 ≡ 0 → ⊥) → at + p.size < 4294967296
-  chaining_fits h n =
-      let k = buffers p - left in
-      let u : (k + 1 + 1) * p.size ≤ buffers p * p.size = mul-le-mul_right p.size (omega (arith, v.within)) in
-      omega (arith, v.here h, u, div-mul-le_self p.length p.size, v.ends)
+before_is : (p : Partition) (k : ℕ) → cond (eqb k 0) 0 (buffer_at p k - p.size) ≡ cond (eqb k 0) 0 (buffer_at p (k - 1))
+before_is p zero = refl
+before_is p (suc k) =
+    let z : suc k - 1 ≡ k = omega arith in
+    let n : suc k ≡ 0 → ⊥ = λ e. omega arith in
+    let e : p.start + (suc k) * p.size - p.size ≡ p.start + k * p.size = omega arith in
+    rw (ne_eqb _ _ n, z) e
 
-  pub chaining_turn : 0 < left → (next : ℕ) → next ≡ cond (eqb (left - 1) 0) 0 (at + p.size) → (m' : List ℕ) → m' ≡ link m at next before
-      → Chaining m₀ p m' (left - 1) next at
-  chaining_turn h next q m' e =
-      let k = buffers p - left in
-      let z : buffers p - (left - 1) ≡ k + 1 = omega (arith, v.within) in
-      let b : at + p.size ≡ buffer_at p (k + 1) = omega (arith, v.here h) in
-      let x : next ≡ cond (eqb (left - 1) 0) 0 (buffer_at p (k + 1)) = q ∙ ap (λ (y : ℕ). cond (eqb (left - 1) 0) 0 y) b in
-      let i : k + 1 ≡ 0 → ⊥ = λ y. omega arith in
-      let j : k + 1 - 1 ≡ k = omega arith in
-      let f : m' ≡ link m (buffer_at p k) (cond (eqb (left - 1) 0) 0 (buffer_at p (k + 1))) (before_address p k) =
-      e ∙ rw (v.here h, x, v.behind) in
-      record {
-        size_in = v.size_in;
-        ends = v.ends;
-        within = omega (arith, v.within);
-        here = λ l. let n : left - 1 ≡ 0 → ⊥ = λ y. omega arith in rw z (x ∙ rw (ne_eqb _ _ n));
-        behind = rw (z, ne_eqb _ _ i, j) (v.here h);
-        long = ap length e ∙ link_length m at next before ∙ v.long;
-        rest = rw (z, f) (all_step left m p k h ∙ v.rest);
-      }
+module _ (p : Partition) (m : List ℕ) (k : ℕ) where
+  pub linked_more : k < buffers p → (next before : ℕ) → next ≡ cond (ltb (k + 1) (buffers p)) (buffer_at p k + p.size) 0
+      → before ≡ cond (eqb k 0) 0 (buffer_at p k - p.size) → (w : List ℕ) → w ≡ link m (buffer_at p k) next before
+      → link_all (buffers p - (k + 1)) w p (k + 1) ≡ link_all (buffers p - k) m p k
+  linked_more l next before e f w g =
+      let left = buffers p - (k + 1) in
+      let s : buffers p - k ≡ suc left = omega arith in
+      let a : buffer_at p k + p.size ≡ buffer_at p (k + 1) = omega arith in
+      let x : next ≡ cond (eqb left 0) 0 (buffer_at p (k + 1)) = e ∙ next_is (buffers p) k (buffer_at p k + p.size) (buffer_at p (k + 1)) l a in
+      let y : before ≡ cond (eqb k 0) 0 (buffer_at p (k - 1)) = f ∙ before_is p k in
+      let h : w ≡ link m (buffer_at p k) (cond (eqb left 0) 0 (buffer_at p (k + 1))) (cond (eqb k 0) 0 (buffer_at p (k - 1))) = g ∙ rw (x, y) in
+      rw (h, s) (turn left m p k)
 
-  pub chaining_end : left ≤ 0 → m ≡ link_all (buffers p) m₀ p 0
-  chaining_end h = sym (all_none left m p (buffers p - left) h) ∙ v.rest
+  pub linked_all : buffers p ≤ k → link_all (buffers p - k) m p k ≡ m
+  linked_all l = let z : buffers p - k ≡ 0 = omega arith in rw z (all_none m p k)
 
-pub ruleset linking = (chaining_start, chaining_fits, chaining_turn, chaining_end)
+-- the area of the new one ends in the memory
+pub area_ends : (m : List ℕ) (d : Manager) → sound m d ≡ true → (start bytes : ℕ) → ltb (4 * length m) (start + bytes) ≡ false → start + bytes < 4294967296
+area_ends m d ok start bytes h = omega (arith, ltb-false (4 * length m) (start + bytes) h, sound_most m d ok)
 
--- the new partition's numbers fit
-module _ (start bytes size : ℕ) (z : 0 < size) (h : size ≤ bytes) (e : start + bytes < 4294967296) where
-  pub count_some : 1 ≤ bytes / size
-  count_some =
-      let u : bytes < bytes / size * size + size = lt-div-mul-add z in
-      ⊎_elim
-      (λ (q : bytes / size ≡ 0). let w : bytes < 0 * size + size = rw q at u in omega arith)
-      (λ (q : bytes / size ≡ 0 → ⊥). omega arith)
-      (same_or_not (bytes / size) 0)
+-- the generation of a slot, and past the slots
+pub generation_is_small : (m : List ℕ) (d : Manager) → sound m d ≡ true → (i : ℕ) → partition_generation d i ≤ generations
+generation_is_small m d ok i =
+    by_case (ltb i (length d.partitions)) (λ b. partition_generation d i ≤ generations)
+    (λ e.
+      let p = get_or d.partitions i no_partition in
+      generation_most p.name p.generation
+      (partition_generation_lem m p (every_at (sound_partition m) d.partitions i no_partition (sound_partitions m d ok) (ltb-true i (length d.partitions) e))))
+    (λ e.
+      let z : get_or d.partitions i no_partition ≡ no_partition = get_or_past d.partitions i no_partition (ltb-false i (length d.partitions) e) in
+      rw (partition_generation, z) (omega arith))
 
-  pub rear_fits : (bytes / size - 1) * size < 4294967296
-  rear_fits =
-      let u : (bytes / size - 1) * size ≤ bytes / size * size = mul-le-mul_right size (omega arith) in
-      omega (arith, div-mul-le_self bytes size)
+cases : (b : Bool) (i s : ℕ) → cond b (Some i) None ≡ Some s → (b ≡ true) × (s ≡ i)
+cases true i s e = (refl, grind arith)
+cases false i s e = grind arith
 
-  pub rear_lies : start + (bytes / size - 1) * size < 4294967296
-  rear_lies =
-      let u : (bytes / size - 1) * size ≤ bytes / size * size = mul-le-mul_right size (omega arith) in
-      omega (arith, div-mul-le_self bytes size)
-
-pub ruleset numbers = (count_some, rear_fits, rear_lies)
+-- a slot that a search found
+pub slot_told : (o : Option ℕ) (n i : ℕ) → o ≡ cond (ltb i n) (Some i) None → (s : ℕ) → o ≡ Some s → s < n
+slot_told o n i q s p = let h = cases (ltb i n) i s (sym q ∙ p) in rw h.1 (ltb-true i n h.0)

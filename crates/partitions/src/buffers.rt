@@ -1,22 +1,12 @@
-// Getting and returning buffers, and deleting a partition, over sound records.
-ghost use Rattle.std.specs.Prelude.{◌≡◌, true, ◌+◌, ◌<◌, []};
-ghost use Rattle.manager.specs.Record.{slot_of, with_partition};
-ghost use Rattle.manager.specs.Result.{Performs, answer_of, replied};
-ghost use Rattle.manager.specs.declared.Status.TheVariants.{Successful};
-ghost use Rattle.manager.specs.Sound.{sound};
+// Getting and returning buffers.
+ghost use Rattle.std.specs.Prelude.{◌≡◌, ◌+◌, ◌<◌};
 ghost use Rattle.manager.specs.Partition.{gotten, returned};
-ghost use Rattle.manager.specs.Partitions.{delete_partition, get_buffer, return_buffer};
-ghost use Rattle.partitions.specs.Acts.{hands_out, takes_back};
+ghost use Rattle.manager.specs.Partitions.{get_buffer, return_buffer};
+ghost use Rattle.reply.specs.Outcomes.{concluded};
 
-use manager::{Answer, Manager, Partition, Status};
-
-// A success that puts a partition into a slot.
-pub(crate) fn update(d: Manager, slot: usize, p: Partition, value: u32) -> Answer
-    ensures { result ≡ answer_of (replied [] (with_partition d slot p) Successful value) }
-{
-    let e = objects::with_partition(d, slot, p);
-    reply::reply(e, Status::Successful, value)
-}
+use crate::slots;
+use manager::{Manager, Partition, Status};
+use reply::ensure;
 
 // The partition without its front buffer; with no buffer left, both kept ends are 0.
 fn gotten(mem: &[u32], p: Partition) -> Partition
@@ -24,13 +14,12 @@ fn gotten(mem: &[u32], p: Partition) -> Partition
     ensures { result ≡ gotten mem.now p }
 {
     let next = chain::next_of(mem, p.front);
-    let mut q = p;
-    q.front = next;
-    q.free = p.free - 1;
-    if next == 0 {
-        q.rear = 0;
+    Partition {
+        front: next,
+        rear: if next == 0 { 0 } else { p.rear },
+        free: p.free - 1,
+        ..p
     }
-    q
 }
 
 // The partition with a buffer at its rear.
@@ -38,81 +27,44 @@ fn returned(p: Partition, a: u32) -> Partition
     requires { p.free + 1 < 4294967296 }
     ensures { result ≡ returned p a }
 {
-    let mut q = p;
-    q.rear = a;
-    q.free = p.free + 1;
-    if p.free == 0 {
-        q.front = a;
+    Partition {
+        front: if p.free == 0 { a } else { p.front },
+        rear: a,
+        free: p.free + 1,
+        ..p
     }
-    q
 }
 
-// Hands out the front.
-fn hand_out(mem: &mut [u32], d: Manager, id: u32, p: Partition) -> Answer
-    requires { 0 < p.free }
-    ensures { Performs (hands_out mem.old d (slot_of id) p) mem.new result }
+// Get: 4, 13. The front goes out.
+#[tactic(auto, using(crate::proofs::Reading::reading), unfolding(manager::specs::Partitions::get_buffer, manager::specs::Result::checked))]
+pub(crate) fn get(mem: &mut [u32], d: &mut Manager, id: u32) -> Result<u32, Status>
+    ensures { get_buffer mem.old d.old id ≡ concluded mem.new d.new result }
 {
+    ensure(soundness::is_sound(mem, *d), Status::InternalError)?;
+    let p = slots::find(d, id).ok_or(Status::InvalidId)?;
+    ensure(p.free != 0, Status::Unsatisfied)?;
     let q = gotten(mem, p);
     chain::after_get(mem, p);
-    update(d, objects::slot_of(id), q, p.front)
-}
-
-// Takes a buffer back.
-fn take_back(mem: &mut [u32], d: Manager, id: u32, p: Partition, a: u32) -> Answer
-    requires { p.free + 1 < 4294967296 }
-    ensures { Performs (takes_back mem.old d (slot_of id) p a) mem.new result }
-{
-    let q = returned(p, a);
-    chain::after_return(mem, p, a);
-    update(d, objects::slot_of(id), q, 0)
-}
-
-// Delete: 4, 12. The generation rises by one.
-pub(crate) fn delete(mem: &[u32], d: Manager, id: u32) -> Answer
-    requires { sound mem.now d ≡ true }
-    ensures { Performs (delete_partition mem.now d id) mem.now result }
-{
-    let p = objects::partition_of(d, id);
-    if p.name == 0 {
-        return reply::reply(d, Status::InvalidId, 0);
-    }
-    let size = p.size;
-    if p.free != p.length / size {
-        return reply::reply(d, Status::ResourceInUse, 0);
-    }
-    let none = Partition::emptied(p.generation + 1);
-    update(d, objects::slot_of(id), none, 0)
-}
-
-// Get: 4, 13.
-pub(crate) fn get(mem: &mut [u32], d: Manager, id: u32) -> Answer
-    requires { sound mem.old d ≡ true }
-    ensures { Performs (get_buffer mem.old d id) mem.new result }
-{
-    let p = objects::partition_of(d, id);
-    if p.name == 0 {
-        return reply::reply(d, Status::InvalidId, 0);
-    }
-    if p.free == 0 {
-        return reply::reply(d, Status::Unsatisfied, 0);
-    }
-    hand_out(mem, d, id, p)
+    *d = objects::with_partition(*d, objects::slot_of(id), q);
+    Ok(p.front)
 }
 
 // Return: 4, 9, and 9 again for a buffer that is free already.
-pub(crate) fn give_back(mem: &mut [u32], d: Manager, id: u32, address: u32) -> Answer
-    requires { sound mem.old d ≡ true }
-    ensures { Performs (return_buffer mem.old d id address) mem.new result }
+#[tactic(auto, using(crate::proofs::Reading::reading), unfolding(manager::specs::Partitions::return_buffer, manager::specs::Result::checked))]
+pub(crate) fn give_back(
+    mem: &mut [u32],
+    d: &mut Manager,
+    id: u32,
+    address: u32,
+) -> Result<u32, Status>
+    ensures { return_buffer mem.old d.old id address ≡ concluded mem.new d.new result }
 {
-    let p = objects::partition_of(d, id);
-    if p.name == 0 {
-        return reply::reply(d, Status::InvalidId, 0);
-    }
-    if !chain::is_buffer(p, address) {
-        return reply::reply(d, Status::InvalidAddress, 0);
-    }
-    if chain::is_free(mem, p, address) {
-        return reply::reply(d, Status::InvalidAddress, 0);
-    }
-    take_back(mem, d, id, p, address)
+    ensure(soundness::is_sound(mem, *d), Status::InternalError)?;
+    let p = slots::find(d, id).ok_or(Status::InvalidId)?;
+    ensure(chain::is_buffer(p, address), Status::InvalidAddress)?;
+    ensure(!chain::is_free(mem, p, address), Status::InvalidAddress)?;
+    let q = returned(p, address);
+    chain::after_return(mem, p, address);
+    *d = objects::with_partition(*d, objects::slot_of(id), q);
+    Ok(0)
 }

@@ -1,60 +1,24 @@
 // Making a partition: its record, the chain of all its buffers, and the checks ahead of both.
-ghost use Rattle.std.specs.Prelude.{◌≡◌, true, cond, ◌+◌, ◌≤◌, ◌<◌, eqb};
-ghost use Rattle.manager.specs.Record.{slots};
-ghost use Rattle.manager.specs.Result.{Performs};
-ghost use Rattle.manager.specs.Sound.{sound};
+ghost use Rattle.std.specs.Prelude.{◌≡◌, ◌+◌, ◌≤◌, ◌<◌};
 ghost use Rattle.manager.specs.Partition.{buffers, link_all};
-ghost use Rattle.manager.specs.Partitions.{partition_generation, new_partition, create_partition};
-ghost use Rattle.partitions.specs.Checks.{size_refused};
-ghost use Rattle.partitions.specs.Acts.{makes};
+ghost use Rattle.manager.specs.Partitions.{new_partition, create_partition};
+ghost use Rattle.reply.specs.Outcomes.{concluded};
 
-use crate::{buffers, slots};
-use manager::{Answer, Area, Manager, Partition, Status};
-
-// Whether a length and a size of buffers are not allowed: 0, less than one buffer, no whole words, or no room for the links.
-fn size_refused(length: u32, size: u32) -> bool
-    ensures { result ≡ size_refused length size }
-{
-    if length == 0 {
-        return true;
-    }
-    if size == 0 {
-        return true;
-    }
-    if length < size {
-        return true;
-    }
-    if size % 4 != 0 {
-        return true;
-    }
-    size < 8
-}
-
-// The buffer after the one at an address; 0 behind the last.
-fn next_address(at: u32, size: u32, left: u32) -> u32
-    requires { (left ≡ 0 → ⊥) → at + size < 4294967296 }
-    ensures { result ≡ cond (eqb left 0) 0 (at + size) }
-{
-    if left == 0 {
-        return 0;
-    }
-    at + size
-}
+use crate::slots;
+use manager::{Area, Manager, Partition, Status};
+use reply::ensure;
 
 // All buffers, chained by address.
 fn link_all(mem: &mut [u32], p: Partition)
     requires { (0 < p.size) × (p.start + p.length < 4294967296) }
     ensures { mem.new ≡ link_all (buffers p) mem.old p 0 }
 {
-    let mut left = p.length / p.size;
-    let mut at = p.start;
-    let mut before: u32 = 0;
-    while left > 0 {
-        left = left - 1;
-        let next = next_address(at, p.size, left);
+    let count = p.length / p.size;
+    for k in 0..count {
+        let at = p.start + k * p.size;
+        let next = if k + 1 < count { at + p.size } else { 0 };
+        let before = if k > 0 { at - p.size } else { 0 };
         chain::set_links(mem, at, next, before);
-        before = at;
-        at = next;
     }
 }
 
@@ -76,61 +40,32 @@ fn new_partition(generation: u32, name: u32, start: u32, length: u32, size: u32)
     }
 }
 
-// The record in a slot, of the slot's generation, and the chain.
-fn make(
-    mem: &mut [u32],
-    d: Manager,
-    slot: usize,
-    name: u32,
-    start: u32,
-    length: u32,
-    size: u32,
-) -> Answer
-    requires { (sound mem.old d ≡ true) × (slot < slots) × (0 < size) × (size ≤ length) × (start + length < 4294967296) }
-    ensures { Performs (makes mem.old d slot (new_partition (partition_generation d slot) name start length size)) mem.new result }
-{
-    let old = d.partitions[slot];
-    let p = new_partition(old.generation, name, start, length, size);
-    link_all(mem, p);
-    buffers::update(d, slot, p, slots::partition_id(d, slot))
-}
-
-// Create, over sound records: the checks in their order, then the chain and the record.
+// Create: 3, a name that a live partition has 3, start 9, alignment 9, past memory 9, sizes 8, overlap 9, 5. Then the chain, and the partition
+// in its slot.
+#[tactic(auto, unfolding(manager::specs::Partitions::create_partition, manager::specs::Result::checked))]
 pub(crate) fn create(
     mem: &mut [u32],
-    d: Manager,
+    d: &mut Manager,
     name: u32,
     start: u32,
     length: u32,
     size: u32,
-) -> Answer
-    requires { sound mem.old d ≡ true }
-    ensures { Performs (create_partition mem.old d name start length size) mem.new result }
+) -> Result<u32, Status>
+    ensures { create_partition mem.old d.old name start length size ≡ concluded mem.new d.new result }
 {
-    if name == 0 {
-        return reply::reply(d, Status::InvalidName, 0);
-    }
-    if objects::partition_named(d, name) < Manager::SLOTS {
-        return reply::reply(d, Status::InvalidName, 0);
-    }
-    if start == 0 {
-        return reply::reply(d, Status::InvalidAddress, 0);
-    }
-    if start % 4 != 0 {
-        return reply::reply(d, Status::InvalidAddress, 0);
-    }
-    if objects::past_memory(mem.len(), start, length) {
-        return reply::reply(d, Status::InvalidAddress, 0);
-    }
-    if size_refused(length, size) {
-        return reply::reply(d, Status::InvalidSize, 0);
-    }
-    if objects::overlaps(d, Area { start, length }) {
-        return reply::reply(d, Status::InvalidAddress, 0);
-    }
-    let slot = objects::unspent_partition(d);
-    if slot >= Manager::SLOTS {
-        return reply::reply(d, Status::TooMany, 0);
-    }
-    make(mem, d, slot, name, start, length, size)
+    ensure(soundness::is_sound(mem, *d), Status::InternalError)?;
+    ensure(name != 0, Status::InvalidName)?;
+    ensure(slots::named(d, name).is_none(), Status::InvalidName)?;
+    ensure(start != 0, Status::InvalidAddress)?;
+    ensure(start % 4 == 0, Status::InvalidAddress)?;
+    ensure(!objects::past_memory(mem.len(), start, length), Status::InvalidAddress)?;
+    ensure((8..=length).contains(&size), Status::InvalidSize)?;
+    ensure(size % 4 == 0, Status::InvalidSize)?;
+    ensure(!objects::overlaps(*d, Area { start, length }), Status::InvalidAddress)?;
+    let slot = slots::unspent(d).ok_or(Status::TooMany)?;
+    let p = new_partition(d.partitions[slot].generation, name, start, length, size);
+    link_all(mem, p);
+    let id = slots::id_at(d, slot);
+    *d = objects::with_partition(*d, slot, p);
+    Ok(id)
 }

@@ -5,9 +5,7 @@ use mathlib.Core.Path.{◌≡◌, refl, ap, ◌∙◌}
 use mathlib.Core.List.{List, [], ◌++◌, append-nil}
 use native.Mathlib.Omega.{arith}
 use native.Mathlib.Nat.{add-zero}
-use lib.ListN.{length, replicate, set, drop, length-set}
-use lib.Seq.{drop-length}
-use borrow.Author.Fill.{fill_more}
+use lib.ListN.{length, replicate, set, length-replicate}
 use Rattle.manager.specs.Map.{draw, total}
 use Rattle.manager.specs.Paged.{free+}
 use Rattle.manager.proofs.Laws.Paged.{total_free}
@@ -22,31 +20,10 @@ unfolding draw free+
 cleared zero o = absurd (omega arith)
 cleared (suc n) o = let z : replicate {A = ℕ} n 0 ++ [] ≡ replicate n 0 = append-nil (replicate n 0) in rw (add-zero (suc n * 2), z)
 
--- the words before place i are 0
-pub record Clearing (was ws : List ℕ) (i : ℕ) : Type 0 where
-  pub within : i ≤ length was
-  pub size : length ws ≡ length was
-  pub zeros : ws ≡ replicate i 0 ++ drop i was
-
-pub clear_start : (ws : List ℕ) → Clearing ws ws 0
-clear_start ws = record { within = omega arith; size = refl; zeros = refl }
-
-module _ (was ws : List ℕ) (i : ℕ) (v : Clearing was ws i) where
-  pub clear_more : i < length ws → Clearing was (set ws i 0) (i + 1)
-  clear_more l =
-      record {
-        within = omega (arith, v.size);
-        size = length-set ws i 0 ∙ v.size;
-        zeros = ap (λ (w : List ℕ). set w i 0) v.zeros ∙ fill_more i 0 was (omega (arith, v.size));
-      }
-
-  pub clear_end : length ws ≤ i → 1 ≤ length was → set ws 0 (length ws * 2) ≡ draw (free+ (length was) [])
-  clear_end l o =
-      let e : i ≡ length was = omega (arith, v.size, v.within) in
-      let z : ws ≡ replicate (length was) 0 = v.zeros ∙ rw (e, drop-length was) (append-nil (replicate (length was) 0)) in
-      ap (λ (n : ℕ). set ws 0 (n * 2)) v.size ∙ ap (λ (w : List ℕ). set w 0 (length was * 2)) z ∙ cleared (length was) o
-
-pub ruleset clearing = (clear_start, clear_more, clear_end)
+pub clear_is : (was ws : List ℕ) → 1 ≤ length was → ws ≡ replicate (length was) 0 → set ws 0 (length ws * 2) ≡ draw (free+ (length was) [])
+clear_is was ws o e =
+    let z : length (replicate {A = ℕ} (length was) 0) ≡ length was = length-replicate (length was) 0 in
+    rw (e, z) (cleared (length was) o)
 
 -- what is put back
 pub opens : (r : Region) (l : Layout) → l ≡ layout_of r → (m : List ℕ) → Laid m r → (ws : List ℕ) → ws ≡ draw (free+ (length (lent l m)) [])

@@ -1,4 +1,4 @@
 pub mod Clear
 pub mod Count
-pub mod Making
 pub mod Reading
+pub mod Making

@@ -6,15 +6,19 @@ mod create;
 mod slots;
 mod tally;
 
+ghost use Rattle.std.specs.Prelude.{◌≡◌};
 ghost use Rattle.manager.specs.Result.{Performs};
 ghost use Rattle.manager.specs.Regions.{create_region, ident_region, delete_region, region_information};
+ghost use Rattle.regions.specs.Told.{told};
+ghost use Rattle.reply.specs.Outcomes.{concluded};
 
-use manager::{Answer, Manager, Order, Status};
+use manager::{Answer, Information, Manager, Order, Region, Status};
+use reply::ensure;
 
 // Makes a region of the area, all its pages free; the value is its id.
 pub fn create_region(
     mem: &mut [u32],
-    d: Manager,
+    mut d: Manager,
     name: u32,
     start: u32,
     length: u32,
@@ -23,68 +27,64 @@ pub fn create_region(
 ) -> Answer
     ensures { Performs (create_region mem.old d name start length page order) mem.new result }
 {
-    if !soundness::is_sound(mem, d) {
-        return reply::reply(d, Status::InternalError, 0);
-    }
-    create::create(mem, d, name, start, length, page, order)
+    let done = create::create(mem, &mut d, name, start, length, page, order);
+    reply::answer(d, done)
 }
 
 // The id of the region with a name: no two have it. Ident: 3.
 pub fn ident_region(mem: &[u32], d: Manager, name: u32) -> Answer
     ensures { Performs (ident_region mem.now d name) mem.now result }
 {
-    if !soundness::is_sound(mem, d) {
-        return reply::reply(d, Status::InternalError, 0);
-    }
-    if name == 0 {
-        return reply::reply(d, Status::InvalidName, 0);
-    }
-    let slot = objects::region_named(d, name);
-    if Manager::SLOTS <= slot {
-        return reply::reply(d, Status::InvalidName, 0);
-    }
-    reply::reply(d, Status::Successful, slots::region_id(d, slot))
+    reply::answer(d, ident(mem, &d, name))
+}
+
+#[tactic(auto, unfolding(manager::specs::Regions::ident_region, manager::specs::Result::checked))]
+fn ident(mem: &[u32], d: &Manager, name: u32) -> Result<u32, Status>
+    ensures { ident_region mem.now d.now name ≡ concluded mem.now d.now result }
+{
+    ensure(soundness::is_sound(mem, *d), Status::InternalError)?;
+    ensure(name != 0, Status::InvalidName)?;
+    let slot = slots::named(d, name).ok_or(Status::InvalidName)?;
+    Ok(slots::id_at(d, slot))
 }
 
 // Deletes a region of which nothing is held; no word of the memory changes. Delete: 4, 12.
-pub fn delete_region(mem: &[u32], d: Manager, id: u32) -> Answer
+pub fn delete_region(mem: &[u32], mut d: Manager, id: u32) -> Answer
     ensures { Performs (delete_region mem.now d id) mem.now result }
 {
-    if !soundness::is_sound(mem, d) {
-        return reply::reply(d, Status::InternalError, 0);
-    }
-    let r = objects::region_of(d, id);
-    if r.name == 0 {
-        return reply::reply(d, Status::InvalidId, 0);
-    }
-    let l = map::layout_of(r);
-    if !map::one_free(mem, l) {
-        return reply::reply(d, Status::ResourceInUse, 0);
-    }
-    let e = slots::without(d, id, r.generation);
-    reply::reply(e, Status::Successful, 0)
+    let done = delete(mem, &mut d, id);
+    reply::answer(d, done)
+}
+
+#[tactic(auto, using(crate::proofs::Reading::reading), unfolding(manager::specs::Regions::delete_region, manager::specs::Result::checked))]
+fn delete(mem: &[u32], d: &mut Manager, id: u32) -> Result<u32, Status>
+    ensures { delete_region mem.now d.old id ≡ concluded mem.now d.new result }
+{
+    ensure(soundness::is_sound(mem, *d), Status::InternalError)?;
+    let r = slots::find(d, id).ok_or(Status::InvalidId)?;
+    ensure(map::one_free(mem, map::layout_of(r)), Status::ResourceInUse)?;
+    *d = objects::with_region(*d, objects::slot_of(id), Region::emptied(r.generation + 1));
+    Ok(0)
 }
 
 // Count, largest and total bytes of the free segments and of the held ones. Information: 4.
 pub fn region_information(mem: &[u32], d: Manager, id: u32) -> Answer
     ensures { Performs (region_information mem.now d id) mem.now result }
 {
-    if !soundness::is_sound(mem, d) {
-        return reply::reply(d, Status::InternalError, 0);
+    let done = information(mem, &d, id);
+    let mut a = reply::answer(d, done.map(|_| 0));
+    if let Ok(told) = done {
+        a.information = told;
     }
-    let r = objects::region_of(d, id);
-    if r.name == 0 {
-        return reply::reply(d, Status::InvalidId, 0);
-    }
-    let l = map::layout_of(r);
-    let map = map::map_words(mem, l);
-    let information = tally::tally(map, r.page);
-    let notices = reply::no_notices();
-    Answer {
-        status: Status::Successful,
-        value: 0,
-        information,
-        notices,
-        manager: d,
-    }
+    a
+}
+
+#[tactic(auto, using(crate::proofs::Reading::reading), unfolding(manager::specs::Regions::region_information, manager::specs::Result::checked))]
+fn information(mem: &[u32], d: &Manager, id: u32) -> Result<Information, Status>
+    ensures { region_information mem.now d.now id ≡ told mem.now d.now result }
+{
+    ensure(soundness::is_sound(mem, *d), Status::InternalError)?;
+    let r = slots::find(d, id).ok_or(Status::InvalidId)?;
+    let words = map::map_words(mem, map::layout_of(r));
+    Ok(tally::of_map(words, r.page))
 }

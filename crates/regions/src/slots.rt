@@ -1,36 +1,37 @@
-// The slots of regions: what is in one has the slot's generation, which rises when it is emptied.
-ghost use Rattle.std.specs.Prelude.{◌≡◌, ◌+◌, ◌≤◌, ◌<◌};
-ghost use Rattle.manager.specs.Record.{slots, generations, emptied_region, slot_of, with_region};
-ghost use Rattle.manager.specs.Regions.{region_generation, region_id};
-ghost use Rattle.regions.specs.Entered.{of_generation};
+// (for now) what objects will have
+ghost use Rattle.std.specs.Prelude.{◌≡◌, ◌+◌, ◌≤◌, ◌<◌, ltb, cond};
+ghost use Rattle.std.specs.declared.option.Option.TheVariants.{None, Some};
+ghost use Rattle.manager.specs.Record.{slots, generations, region_of, with_region};
+ghost use Rattle.manager.specs.Region.{dead};
+ghost use Rattle.manager.specs.Regions.{region_generation, region_id, region_named, unspent_region};
 
 use manager::{Manager, Region};
 
-// The id of what is in a slot. It fits.
-pub(crate) fn region_id(d: Manager, slot: usize) -> u32
-    requires { (slot < slots) × (region_generation d slot ≤ generations) }
-    ensures { result ≡ region_id d slot }
+pub(crate) fn id_at(d: &Manager, slot: usize) -> u32
+    requires { (slot < slots) × (region_generation d.now slot ≤ generations) }
+    ensures { result ≡ region_id d.now slot }
 {
     let x = d.regions[slot];
     objects::id_of(slot as u32, x.generation) as u32
 }
 
-// The record with a new region in a slot.
-pub(crate) fn with_new(d: Manager, slot: usize, r: Region) -> Manager
-    requires { slot < slots }
-    ensures { result ≡ with_region d slot (of_generation (region_generation d slot) r) }
+pub(crate) fn find(d: &Manager, id: u32) -> Option<Region>
+    ensures { result ≡ cond (dead (region_of d.now id)) None (Some (region_of d.now id)) }
 {
-    let old = d.regions[slot];
-    let mut new = r;
-    new.generation = old.generation;
-    objects::with_region(d, slot, new)
+    let r = objects::region_of(*d, id);
+    if r.name == 0 { None } else { Some(r) }
 }
 
-// The record with the slot of an id emptied, which was of a generation.
-pub(crate) fn without(d: Manager, id: u32, generation: u32) -> Manager
-    requires { generation < generations }
-    ensures { result ≡ with_region d (slot_of id) (emptied_region (generation + 1)) }
+pub(crate) fn named(d: &Manager, name: u32) -> Option<usize>
+    ensures { result ≡ cond (ltb (region_named d.now name) slots) (Some (region_named d.now name)) None }
 {
-    let none = Region::emptied(generation + 1);
-    objects::with_region(d, objects::slot_of(id), none)
+    let i = objects::region_named(*d, name);
+    if i < Manager::SLOTS { Some(i) } else { None }
+}
+
+pub(crate) fn unspent(d: &Manager) -> Option<usize>
+    ensures { result ≡ cond (ltb (unspent_region d.now) slots) (Some (unspent_region d.now)) None }
+{
+    let i = objects::unspent_region(*d);
+    if i < Manager::SLOTS { Some(i) } else { None }
 }

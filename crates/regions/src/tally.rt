@@ -1,85 +1,62 @@
 // How many segments a region has, and how large they are.
-ghost use Rattle.std.specs.Prelude.{◌≡◌, true, ◌+◌, ◌≤◌, max, length};
+ghost use Rattle.std.specs.Prelude.{◌≡◌, true, ◌≤◌, length};
 ghost use Rattle.manager.specs.Map.{tiled, decode, free_sizes, held_sizes};
 ghost use Rattle.manager.specs.Regions.{information_of};
-ghost use Rattle.regions.specs.Count.{counted, with_free, with_held, Small};
+ghost use Rattle.regions.specs.Count.{tally_of, with_segment, Small};
 
 use manager::Information;
 use map::Segments;
 
-fn larger(a: u32, b: u32) -> u32
-    ensures { result ≡ max a b }
-{
-    if a <= b { b } else { a }
+// Segments, all free ones or all held ones: how many, the pages of the largest, and all pages.
+#[derive(Clone, Copy, Default)]
+struct Tally {
+    count: u32,
+    largest: u32,
+    total: u32,
 }
 
-// One free segment more.
-fn add_free(t: Information, pages: u32) -> Information
-    requires { (t.free_count ≤ 16384) × (t.free_total ≤ 16384) × (pages ≤ 16384) }
-    ensures { result ≡ with_free t pages }
-{
-    let most = larger(t.free_largest, pages);
-    Information {
-        free_count: t.free_count + 1,
-        free_largest: most,
-        free_total: t.free_total + pages,
-        held_count: t.held_count,
-        held_largest: t.held_largest,
-        held_total: t.held_total,
+impl Tally {
+    // One segment more.
+    fn add(&mut self, pages: u32)
+        requires { (self.old.count ≤ 16384) × (self.old.total ≤ 16384) × (pages ≤ 16384) }
+        ensures { self.new ≡ with_segment self.old pages }
+    {
+        self.count += 1;
+        self.largest = self.largest.max(pages);
+        self.total += pages;
     }
 }
 
-// One held segment more.
-fn add_held(t: Information, pages: u32) -> Information
-    requires { (t.held_count ≤ 16384) × (t.held_total ≤ 16384) × (pages ≤ 16384) }
-    ensures { result ≡ with_held t pages }
-{
-    let most = larger(t.held_largest, pages);
-    Information {
-        free_count: t.free_count,
-        free_largest: t.free_largest,
-        free_total: t.free_total,
-        held_count: t.held_count + 1,
-        held_largest: most,
-        held_total: t.held_total + pages,
-    }
-}
-
-// The segments of a map, counted and in pages.
-fn count(map: &[u32]) -> Information
+// The free segments of a map, and the held ones.
+fn count(map: &[u32]) -> (Tally, Tally)
     requires { (tiled map.now ≡ true) × (length map.now ≤ 16384) }
-    ensures { (result ≡ counted (decode map.now)) × Small result }
+    ensures free { (result.0 ≡ tally_of (free_sizes (decode map.now))) × Small result.0 }
+    ensures held { (result.1 ≡ tally_of (held_sizes (decode map.now))) × Small result.1 }
 {
-    let mut t = Information {
-        free_count: 0,
-        free_largest: 0,
-        free_total: 0,
-        held_count: 0,
-        held_largest: 0,
-        held_total: 0,
-    };
+    let mut free = Tally::default();
+    let mut held = Tally::default();
     for s in Segments::of(map) {
-        t = if s.held {
-            add_held(t, s.pages)
+        if s.held {
+            held.add(s.pages);
         } else {
-            add_free(t, s.pages)
-        };
+            free.add(s.pages);
+        }
     }
-    t
+    (free, held)
 }
 
-// The same in bytes.
-pub(crate) fn tally(map: &[u32], page: u32) -> Information
+// Of a map of pages of this size: the segments, and their bytes.
+pub(crate) fn of_map(map: &[u32], page: u32) -> Information
     requires { (tiled map.now ≡ true) × (length map.now ≤ 16384) × (page ≤ 4096) }
     ensures { result ≡ information_of page (free_sizes (decode map.now)) (held_sizes (decode map.now)) }
 {
-    let t = count(map);
+    let (free, held) = count(map);
     Information {
-        free_count: t.free_count,
-        free_largest: t.free_largest * page,
-        free_total: t.free_total * page,
-        held_count: t.held_count,
-        held_largest: t.held_largest * page,
-        held_total: t.held_total * page,
+        free_count: free.count,
+        free_largest: free.largest * page,
+        free_total: free.total * page,
+        held_count: held.count,
+        held_largest: held.largest * page,
+        held_total: held.total * page,
     }
 }

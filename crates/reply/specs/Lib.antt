@@ -1,1 +1,2 @@
 pub mod Notices
+pub mod Outcomes

@@ -1,11 +1,9 @@
--- The record and the notices that serving or a tick leaves, and the successful answer with them. Assumes nothing.
-use Rattle.std.specs.Prelude.{ℕ, ◌≡◌, List, length, take}
-use Rattle.manager.specs.Record.{tasks, no_notice, no_information}
+-- The record and the notices that serving or a tick leaves. Assumes nothing.
+use Rattle.std.specs.Prelude.{ℕ, ◌+◌, ◌≡◌, List, length, set, take}
+use Rattle.manager.specs.Record.{tasks, no_notice}
 use Rattle.manager.specs.Result.{pad}
 use Rattle.manager.specs.declared.Manager.{Manager}
 use Rattle.manager.specs.declared.Notice.{Notice}
-use Rattle.manager.specs.declared.Answer.{Answer}
-use Rattle.manager.specs.declared.Status.TheVariants.{Successful}
 use Rattle.reply.specs.declared.Noticed.{Noticed}
 
 pub record Notices (d : Manager) (ns : List Notice) (n : Noticed) : Type 0 where
@@ -17,5 +15,10 @@ pub record Notices (d : Manager) (ns : List Notice) (n : Noticed) : Type 0 where
 abbrev pub told : Noticed → List Notice
 told n = take n.count n.notices
 
-abbrev pub answer_with : Noticed → ℕ → Answer
-answer_with n v = record { status = Successful; value = v; information = no_information; notices = n.notices; manager = n.manager }
+-- no place behind them is used
+abbrev pub Padded : Noticed → Type 0
+Padded n = Notices n.manager (told n) n
+
+-- with one notice more, behind the others
+abbrev pub with_notice : Noticed → Notice → Noticed
+with_notice n x = record { manager = n.manager; notices = set n.notices n.count x; count = n.count + 1 }

@@ -1,10 +1,12 @@
-// Answers without information: without notices, and with those that serving or a tick leaves.
+// Answers: what a directive came to, as its caller gets it. Each check of a directive is passed by `?`, and the functions here are the one
+// place where a refusal becomes an answer.
 #![tactic(auto)]
 
-ghost use Rattle.std.specs.Prelude.{◌≡◌, [], replicate};
-ghost use Rattle.manager.specs.Record.{tasks, no_notice, no_information};
+ghost use Rattle.std.specs.Prelude.{◌≡◌, ◌<◌, cond, [], replicate, Ok, Err};
+ghost use Rattle.manager.specs.Record.{tasks, no_notice};
 ghost use Rattle.manager.specs.Result.{answer_of, replied};
-ghost use Rattle.reply.specs.Notices.{Notices, answer_with};
+ghost use Rattle.reply.specs.Notices.{Notices, with_notice};
+ghost use Rattle.reply.specs.Outcomes.{concluded, answer_with};
 
 use manager::{Answer, Information, Manager, Notice, Status};
 
@@ -16,14 +18,82 @@ pub struct Noticed {
     pub count: usize,
 }
 
-// A record before anybody is told anything.
-pub fn nobody_told(d: Manager) -> Noticed
-    ensures { Notices d [] result }
+// Why a directive is refused: the status, and the value beside it, which is 0 but for a resize that finds no room.
+#[derive(Clone, Copy)]
+pub struct Refusal {
+    pub status: Status,
+    pub value: u32,
+}
+
+impl From<Status> for Refusal {
+    ghost from_gives = { λ s r. r ≡ record { status = s; value = 0 } };
+
+    fn from(status: Status) -> Refusal {
+        Refusal { status, value: 0 }
+    }
+}
+
+// A check of a directive: its status, where it fails.
+pub fn ensure(holds: bool, status: Status) -> Result<(), Status>
+    ensures { result ≡ cond holds (Ok tt) (Err status) }
 {
-    Noticed {
-        manager: d,
+    if holds { Ok(()) } else { Err(status) }
+}
+
+// The answer over a record of what a directive came to: its value, or the status that refuses it.
+pub fn answer(d: Manager, done: Result<u32, Status>) -> Answer
+    ensures { result ≡ answer_of (concluded [] d done) }
+{
+    let (status, value) = match done {
+        Ok(value) => (Status::Successful, value),
+        Err(status) => (status, 0),
+    };
+    Answer {
+        status,
+        value,
+        information: Information::default(),
         notices: no_notices(),
-        count: 0,
+        manager: d,
+    }
+}
+
+impl Noticed {
+    // A record before anybody is told anything.
+    pub fn nobody(d: Manager) -> Noticed
+        ensures { Notices d [] result }
+    {
+        Noticed {
+            manager: d,
+            notices: no_notices(),
+            count: 0,
+        }
+    }
+
+    // One notice more, behind the others.
+    pub fn tell(&mut self, n: Notice)
+        requires { self.old.count < tasks }
+        ensures { self.new ≡ with_notice self.old n }
+    {
+        let at = self.count;
+        self.notices[at] = n;
+        self.count = at + 1;
+    }
+
+    // The answer over the record and its notices of what a directive came to.
+    pub fn answer(&self, done: Result<u32, Refusal>) -> Answer
+        ensures { result ≡ answer_with self.now done }
+    {
+        let (status, value) = match done {
+            Ok(value) => (Status::Successful, value),
+            Err(r) => (r.status, r.value),
+        };
+        Answer {
+            status,
+            value,
+            information: Information::default(),
+            notices: self.notices,
+            manager: self.manager,
+        }
     }
 }
 
@@ -31,55 +101,5 @@ pub fn nobody_told(d: Manager) -> Noticed
 pub fn no_notices() -> [Notice; Manager::TASKS]
     ensures { result ≡ replicate tasks no_notice }
 {
-    let none = Notice {
-        task: 0,
-        status: Status::Successful,
-        address: 0,
-    };
-    [none; Manager::TASKS]
-}
-
-// The six values of a call that gives none.
-fn no_information() -> Information
-    ensures { result ≡ no_information }
-{
-    Information {
-        free_count: 0,
-        free_largest: 0,
-        free_total: 0,
-        held_count: 0,
-        held_largest: 0,
-        held_total: 0,
-    }
-}
-
-// An answer of a status and a value. What it says of the memory is nothing: it is the same answer over any memory.
-pub fn reply(d: Manager, status: Status, value: u32) -> Answer
-    ensures { result ≡ answer_of (replied [] d status value) }
-{
-    let information = no_information();
-    let notices = no_notices();
-    Answer {
-        status,
-        value,
-        information,
-        notices,
-        manager: d,
-    }
-}
-
-// The successful answer with a record and its notices, and a value.
-pub fn with_notices(n: Noticed, value: u32) -> Answer
-    ensures { result ≡ answer_with n value }
-{
-    let information = no_information();
-    let notices = n.notices;
-    let manager = n.manager;
-    Answer {
-        status: Status::Successful,
-        value,
-        information,
-        notices,
-        manager,
-    }
+    [Notice::default(); Manager::TASKS]
 }

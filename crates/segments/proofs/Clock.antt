@@ -1,5 +1,4 @@
--- The tick's exits: 25 where the records are not sound; nobody sent away, and nobody served; and else every region's queue served, with the
--- record as the tick leaves it. Every waiter of it asks for something, and there are places for the notices of all who still wait.
+-- The record as a tick leaves it: every waiter of it asks for something, and there are places for the notices of all who still wait.
 -- Assumes nothing.
 use Prim.Native.Nat.{ℕ, suc, ◌+◌, ◌-◌, ◌≤◌}
 use mathlib.Core.Path.{◌≡◌, refl, sym, ap, ◌∙◌}
@@ -26,9 +25,9 @@ use Rattle.manager.proofs.Laws.Appended.{by_case, and_both, every_behind, count_
 use Rattle.manager.proofs.Laws.Result.{performs_replied}
 use Rattle.manager.proofs.Laws.Sites.{sound_sites, sites_queue}
 use Rattle.objects.proofs.Laws.{unmapped}
-use Rattle.reply.specs.Notices.{Notices, answer_with}
+use Rattle.reply.specs.Notices.{Notices}
 use Rattle.reply.specs.declared.Noticed.{Noticed}
-use Rattle.reply.proofs.Laws.{notices_told, performs_noticed}
+use Rattle.manager.proofs.Laws.Queue.{stay_length, length_pad}
 use Rattle.segments.specs.Serving.{asks, Asking, used, Ready, Serves}
 use Rattle.segments.proofs.Serve.{sound_asking, ready_told}
 
@@ -63,49 +62,19 @@ tick_fits d n =
     let s = staying d.waiters in
     omega (arith, leave_stay d.waiters, count_append t s (replicate (tasks - length s) no_waiter), count_none t no_waiter refl (tasks - length s), count_most t s)
 
--- ---- the exits
+tick_places : (d : Manager) → length d.waiters ≡ tasks → length (after_tick d).waiters ≡ tasks
+unfolding after_tick
+tick_places d n = length_pad tasks (staying d.waiters) (omega (arith, stay_length d.waiters))
 
-none_left : {A : Type 0} (l : List A) → length l ≡ 0 → l ≡ []
-none_left [] e = refl
-none_left (x ∷ l) e = absurd (omega arith)
+-- ---- what serving needs
 
-module _ (m : List ℕ) (d : Manager) (b : Bool) (eb : b ≡ sound m d) where
-  pub tick_unsound : b ≡ false → tick m d ≡ refused m d InternalError
-  unfolding tick checked
-  tick_unsound h = rw (← eb, h)
+module _ (m : List ℕ) (d : Manager) (ok : sound m d ≡ true) (t : Noticed) (x : Notices (after_tick d) (leaving d.waiters) t) where
+  pub tick_sites : length d.regions ≡ slots → Sites m t.manager
+  unfolding after_tick
+  tick_sites n = rw x.manager (sites_queue m d _ (sound_sites m d ok n))
 
-  module _ (ok : b ≡ true) (t : Noticed) (x : Notices (after_tick d) (leaving d.waiters) t) where
-    -- nobody was sent away
-    pub tick_nobody : t.count ≡ 0 → (a : Answer) → a ≡ answer_with t 0 → Performs (tick m d) m a
-    unfolding tick checked
-    tick_nobody e a f =
-        let z : leaving d.waiters ≡ [] = none_left (leaving d.waiters) (sym x.count ∙ e) in
-        rw (← eb, ok, z) (performs_noticed m (after_tick d) [] t (rw z at x) 0 a f)
-
-    -- what serving needs
-    pub tick_sites : length d.regions ≡ slots → Sites m t.manager
-    unfolding after_tick
-    tick_sites n = rw x.manager (sites_queue m d _ (sound_sites m d (sym eb ∙ ok) n))
-
-    pub tick_ready : length d.waiters ≡ tasks → Ready t
-    tick_ready n =
-        ready_told (after_tick d) (leaving d.waiters) t x (rw x.manager (tick_asks d (sound_asking m d b eb ok)))
-        (omega (arith, x.count, ap (λ (q : Manager). used q.waiters) x.manager, tick_fits d n))
-
-    -- somebody was
-    after_some : (ns : List Notice) → (length ns ≡ 0 → ⊥) → serve_after ns m (after_tick d) ≡ serve_all m (after_tick d)
-    after_some [] z = absurd (z refl)
-    after_some (n ∷ ns) z = refl
-
-    pub tick_served : (t.count ≡ 0 → ⊥) → (out : List ℕ) (n : Noticed) → Serves t (serve_all m t.manager) out n → (a : Answer) → a ≡ answer_with n 0
-        → Performs (tick m d) out a
-    unfolding tick checked
-    tick_served z out n v a e =
-        let ns = leaving d.waiters in
-        let s = serve_all m (after_tick d) in
-        let q = after_some ns (λ y. z (x.count ∙ y)) in
-        let o : Notices s.manager (ns ++ s.notices) n = rw (x.manager, notices_told (after_tick d) ns t x) at v.told in
-        let w : out ≡ s.memory = rw x.manager at v.memory in
-        rw (← eb, ok, q, ← w) (performs_noticed out s.manager (ns ++ s.notices) n o 0 a e)
-
-pub ruleset ticking = (unmapped, performs_replied, tick_unsound, tick_nobody, tick_sites, tick_ready, tick_served, not-true, not-false)
+  pub tick_ready : length d.waiters ≡ tasks → Ready t
+  tick_ready n =
+      ready_told (after_tick d) (leaving d.waiters) t x (rw x.manager (tick_asks d (sound_asking m d ok)))
+      (rw x.manager (tick_places d n))
+      (omega (arith, x.count, ap (λ (q : Manager). used q.waiters) x.manager, tick_fits d n))

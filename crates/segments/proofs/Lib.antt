@@ -9,9 +9,6 @@ pub mod Order
 pub mod Lend
 pub mod Serve
 pub mod Rounds
-pub mod Verdicts
-pub mod Address
-pub mod Get
-pub mod Return
-pub mod Resize
+pub mod Live
 pub mod Clock
+pub mod Getting

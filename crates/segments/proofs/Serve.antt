@@ -20,7 +20,7 @@ use Rattle.manager.proofs.Laws.Queue.{dequeue_every, count_remove, length_remove
 use Rattle.manager.proofs.Laws.Appended.{every_imp, by_case, count_most}
 use Rattle.manager.proofs.Laws.Notices.{first_waits}
 use Rattle.manager.specs.Kind.{on_place}
-use Rattle.manager.specs.Serve.{quiet, granted, telling, serve_up_to, serve, from_served}
+use Rattle.manager.specs.Serve.{Served, quiet, granted, telling, serve_up_to, serve, from_served}
 use Rattle.manager.specs.Sound.{sound, sound_place, sound_waiter}
 use Rattle.manager.specs.Sound.{Sited}
 use Rattle.manager.proofs.Laws.Sound.{sound_queue_lem}
@@ -31,16 +31,14 @@ use Rattle.manager.specs.declared.Notice.{Notice}
 use Rattle.manager.specs.declared.Need.{Need}
 use Rattle.objects.proofs.Laws.{unmapped}
 use Rattle.objects.proofs.Fill.{Filling, fill_from, fill_put, fill_count, fill_end}
-use Rattle.manager.specs.Result.{Performs}
-use Rattle.manager.specs.declared.Answer.{Answer}
-use Rattle.reply.specs.Notices.{Notices, told, answer_with}
+use Rattle.std.specs.Prelude.{Ok}
+use Rattle.reply.specs.Notices.{Notices, told}
+use Rattle.reply.specs.Outcomes.{finished}
 use Rattle.reply.specs.declared.Noticed.{Noticed}
-use Rattle.reply.proofs.Laws.{notices_told, performs_noticed}
+use Rattle.reply.proofs.Laws.{notices_told}
 use Rattle.segments.specs.Lending.{Takes}
 use Rattle.segments.proofs.Lend.{taken_address, none_taken}
-use Rattle.segments.specs.Serving.{asks, Asking, on_turn, need_first, turn_of, Turns, used, Ready, Serves}
-use Rattle.segments.specs.declared.serving.Turn.{Turn}
-use Rattle.segments.specs.declared.serving.Turn.TheVariants.{Stop, Serve}
+use Rattle.segments.specs.Serving.{asks, Asking, on_turn, need_first, turn_of, Turns, used, Ready, Fresh, Serves}
 
 -- ---- the first waiter asks for a page
 
@@ -70,8 +68,8 @@ place_asks m d w e =
     and_first (leb 1 w.size) _ u4
     ))
 
-pub sound_asking : (m : List ℕ) (d : Manager) (b : Bool) → b ≡ sound m d → b ≡ true → Asking d
-sound_asking m d b e h = every_imp (sound_place m d) asks (place_asks m d) d.waiters (sound_every m d (sound_queue_lem m d (sym e ∙ h)))
+pub sound_asking : (m : List ℕ) (d : Manager) → sound m d ≡ true → Asking d
+sound_asking m d h = every_imp (sound_place m d) asks (place_asks m d) d.waiters (sound_every m d (sound_queue_lem m d h))
 
 -- one waiter less
 pub asking_less : (d : Manager) (i : ℕ) → Asking d → Asking (dequeue d i)
@@ -89,7 +87,7 @@ same_region d i id = refl
 
 module _ (m : List ℕ) (d : Manager) (id : ℕ) (r : Region) (s : Sited m r) (er : r ≡ region_of d id) (i : ℕ) (q : i ≡ first_of id d.waiters) where
   -- nobody waits
-  pub turn_none : tasks ≤ i → Turns m d id r m Stop
+  pub turn_none : tasks ≤ i → Turns m d id r m None
   unfolding turn_of
   turn_none h = record { turn = rw (← q, le-ltb i tasks h); memory = refl; sited = s }
 
@@ -106,7 +104,7 @@ module _ (m : List ℕ) (d : Manager) (id : ℕ) (r : Region) (s : Sited m r) (e
     placed_is = t.place ∙ rw (er, need_first_lem)
 
     -- the first finds no room
-    pub turn_no : p ≡ None → Turns m d id r out Stop
+    pub turn_no : p ≡ None → Turns m d id r out None
     unfolding turn_of
     turn_no e =
         record {
@@ -115,7 +113,7 @@ module _ (m : List ℕ) (d : Manager) (id : ℕ) (r : Region) (s : Sited m r) (e
           sited = t.sited;
         }
 
-    pub turn_yes : (j : ℕ) → p ≡ Some j → (a : ℕ) → a ≡ address_of r j → Turns m d id r out (Serve i (granted (get_or d.waiters i no_waiter) a))
+    pub turn_yes : (j : ℕ) → p ≡ Some j → (a : ℕ) → a ≡ address_of r j → Turns m d id r out (Some (i, granted (get_or d.waiters i no_waiter) a))
     unfolding turn_of
     turn_yes j e a ea =
         record {
@@ -135,22 +133,13 @@ module _ (f : ℕ) (m : List ℕ) (d : Manager) (id : ℕ) where
     where
       go : (b : Bool) (p : Option ℕ) →
           cond b (on_place p (λ j. telling (granted (get_or d.waiters (first_of id d.waiters) no_waiter) (address_of (region_of d id) j)) (serve_up_to f (taken m (region_of d id) (need_first d id)) (dequeue d (first_of id d.waiters)) id)) (quiet m d)) (quiet m d)
-          ≡ on_turn (cond b (on_place p (λ j. Serve (first_of id d.waiters) (granted (get_or d.waiters (first_of id d.waiters) no_waiter) (address_of (region_of d id) j))) Stop) Stop)
+          ≡ on_turn (cond b (on_place p (λ j. Some (first_of id d.waiters, granted (get_or d.waiters (first_of id d.waiters) no_waiter) (address_of (region_of d id) j))) None) None)
           (λ i n. telling n (serve_up_to f (taken m (region_of d id) (need_first d id)) (dequeue d i) id)) (quiet m d)
       go true (Some j) = refl
       go true None = refl
       go false p = refl
 
 -- ---- places for the notices
-
--- nobody waits where no place is used
-none_used : (id : ℕ) (ws : List Waiter) → used ws ≡ 0 → length ws ≤ first_of id ws
-unfolding count index_of
-none_used id [] e = omega arith
-none_used id (w ∷ ws) e =
-    by_case (eqb w.task 0)
-    (λ b. cond (not b) (suc (used ws)) (used ws) ≡ 0 → suc (length ws) ≤ cond (not b && eqb w.region id) 0 (suc (first_of id ws)))
-    (λ _ f. omega (arith, none_used id ws f)) (λ _ f. absurd (omega arith)) e
 
 -- one leaves: a place less is used
 used_less : (d : Manager) (id i : ℕ) → length d.waiters ≡ tasks → i ≡ first_of id d.waiters → i < tasks → used (dequeue d i).waiters + 1 ≡ used d.waiters
@@ -161,23 +150,30 @@ used_less d id i n e h =
     rw e (omega (arith, rw w at c))
 
 -- notices that are told, with places for all who wait
-pub ready_told : (d : Manager) (ns : List Notice) (n : Noticed) → Notices d ns n → Asking n.manager → n.count + used n.manager.waiters ≤ tasks → Ready n
-ready_told d ns n x a f =
+pub ready_told : (d : Manager) (ns : List Notice) (n : Noticed) → Notices d ns n → Asking n.manager → length n.manager.waiters ≡ tasks
+    → n.count + used n.manager.waiters ≤ tasks → Ready n
+ready_told d ns n x a l f =
     let t = notices_told d ns n x in
-    record { notices = record { manager = refl; notices = rw t x.notices; count = rw t x.count }; asking = a; fits = f }
+    record { notices = record { manager = refl; notices = rw t x.notices; count = rw t x.count }; asking = a; places = l; fits = f }
 
 -- a turn that serves is of the first waiter
-turn_place : (m : List ℕ) (d : Manager) (id i : ℕ) (n : Notice) → turn_of m d id ≡ Serve i n → (i ≡ first_of id d.waiters) × (i < tasks)
+turn_place : (m : List ℕ) (d : Manager) (id : ℕ) (t : ℕ × Notice) → turn_of m d id ≡ Some t → (t.0 ≡ first_of id d.waiters) × (t.0 < tasks)
 unfolding turn_of
-turn_place m d id i n e =
+turn_place m d id t e =
     go (ltb (first_of id d.waiters) tasks) refl (placed m (region_of d id) (need_first d id)) e
   where
     go : (b : Bool) → ltb (first_of id d.waiters) tasks ≡ b → (g : Option ℕ)
-        → cond b (on_place g (λ p. Serve (first_of id d.waiters) (granted (get_or d.waiters (first_of id d.waiters) no_waiter) (address_of (region_of d id) p))) Stop) Stop ≡ Serve i n
-        → (i ≡ first_of id d.waiters) × (i < tasks)
-    go true l (Some p) f = let q : i ≡ first_of id d.waiters = cc in (q, omega (arith, ltb-true (first_of id d.waiters) tasks l))
-    go true l None f = absurd (let z : ◌≡◌ {A = ℕ} 0 1 = cc in omega arith)
-    go false l g f = absurd (let z : ◌≡◌ {A = ℕ} 0 1 = cc in omega arith)
+        → cond b (on_place g (λ p. Some (first_of id d.waiters, granted (get_or d.waiters (first_of id d.waiters) no_waiter) (address_of (region_of d id) p))) None) None ≡ Some t
+        → (t.0 ≡ first_of id d.waiters) × (t.0 < tasks)
+    go true l (Some p) f = let q : t.0 ≡ first_of id d.waiters = grind arith in (q, omega (arith, ltb-true (first_of id d.waiters) tasks l))
+    go true l None f = grind arith
+    go false l g f = grind arith
+
+-- a turn that serves nobody is the last
+turn_last : (f : ℕ) (m : List ℕ) (d : Manager) (id : ℕ) → turn_of m d id ≡ None → serve_up_to f m d id ≡ quiet m d
+unfolding serve_up_to
+turn_last zero m d id e = refl
+turn_last (suc f) m d id e = up_turn f m d id ∙ rw e
 
 -- ---- the loop
 
@@ -194,10 +190,10 @@ pub record Serving (m₀ : List ℕ) (id : ℕ) (r : Region) (d₀ : Manager) (b
   pub manager : (serve_up_to (tasks + k - n) m d id).manager ≡ (serve m₀ d₀ id).manager
   pub told : Filling no_notice tasks ns n (serve_up_to (tasks + k - n) m d id).notices (before ++ (serve m₀ d₀ id).notices)
 
-pub serve_start : (m : List ℕ) (id : ℕ) (r : Region) (so : Noticed) → Sited m r → r ≡ region_of so.manager id → Ready so → length so.manager.waiters ≡ tasks
+pub serve_start : (m : List ℕ) (id : ℕ) (r : Region) (so : Noticed) → Sited m r → r ≡ region_of so.manager id → Ready so
     → Serving m id r so.manager (told so) so.count m so.manager so.notices so.count
 unfolding serve
-serve_start m id r so s er a n =
+serve_start m id r so s er a =
     let f : tasks + so.count - so.count ≡ tasks = omega arith in
     record {
       from = omega arith;
@@ -205,87 +201,70 @@ serve_start m id r so s er a n =
       sited = s;
       region = er;
       asking = a.asking;
-      places = n;
+      places = a.places;
       fits = a.fits;
       memory = rw f;
       manager = rw f;
       told = rw f (fill_from no_notice tasks so.notices so.count (told so) a.notices.notices a.notices.count (omega (arith, a.fits)) _);
     }
 
--- all places are taken: nobody waits
-serve_nobody : (f : ℕ) (m : List ℕ) (d : Manager) (id : ℕ) → tasks ≤ first_of id d.waiters → serve_up_to f m d id ≡ quiet m d
-unfolding serve_up_to
-serve_nobody zero m d id h = refl
-serve_nobody (suc f) m d id h = rw (le-ltb (first_of id d.waiters) tasks h)
-
-module _ (m₀ : List ℕ) (id : ℕ) (r : Region) (d₀ : Manager) (ns₀ : List Notice) (k : ℕ) (m : List ℕ) (d : Manager) (ns : List Notice) (n : ℕ)
-    (v : Serving m₀ id r d₀ (take k ns₀) k m d ns n) where
-  abbrev from : Noticed
-  from = record { manager = d₀; notices = ns₀; count = k }
-
-  abbrev Done : List ℕ → Type 0
-  Done out = Serves from (serve m₀ d₀ id) out (record { manager = d; notices = ns; count = n }) × Sited out r
-
-  serve_finish : (out : List ℕ) → out ≡ m → serve_up_to (tasks + k - n) m d id ≡ quiet m d → Done out
-  serve_finish out x e =
-      let a : m ≡ (serve m₀ d₀ id).memory = rw e at v.memory in
-      let b : d ≡ (serve m₀ d₀ id).manager = rw e at v.manager in
-      let t : Filling no_notice tasks ns n [] (take k ns₀ ++ (serve m₀ d₀ id).notices) = rw e at v.told in
-      let x' : Notices (serve m₀ d₀ id).manager (take k ns₀ ++ (serve m₀ d₀ id).notices) (record { manager = d; notices = ns; count = n }) =
-      record { manager = b; notices = fill_end no_notice tasks ns n _ t; count = fill_count no_notice tasks ns n _ t } in (
-        record { memory = x ∙ a; told = x'; ready = ready_told _ _ _ x' v.asking v.fits },
-        rw x v.sited,
+module _ (m₀ : List ℕ) (id : ℕ) (r : Region) (from : Noticed) (m : List ℕ) (n : Noticed)
+    (v : Serving m₀ id r from.manager (told from) from.count m n.manager n.notices n.count) (out : List ℕ) (t : Option (ℕ × Notice)) (u : Turns m n.manager id r out t) where
+  -- the last turn
+  pub serve_stop : t ≡ None → Serves from (serve m₀ from.manager id) out n × Sited out r
+  serve_stop x =
+      let e = turn_last (tasks + from.count - n.count) m n.manager id (sym u.turn ∙ x) in
+      let b : n.manager ≡ (serve m₀ from.manager id).manager = rw e at v.manager in
+      let f : Filling no_notice tasks n.notices n.count [] (told from ++ (serve m₀ from.manager id).notices) = rw e at v.told in
+      let y : Notices (serve m₀ from.manager id).manager (told from ++ (serve m₀ from.manager id).notices) n =
+      record { manager = b; notices = fill_end no_notice tasks n.notices n.count _ f; count = fill_count no_notice tasks n.notices n.count _ f } in (
+        record { memory = u.memory ∙ rw x (rw e at v.memory); told = y; ready = ready_told _ _ n y v.asking v.places v.fits },
+        u.sited,
       )
 
-  pub serve_full : tasks ≤ n → Done m
-  serve_full h =
-      serve_finish m refl (serve_nobody _ m d id (omega (arith, v.places, none_used id d.waiters (omega (arith, v.fits)))))
+  module _ (w : ℕ × Notice) (e : t ≡ Some w) where
+    place : (w.0 ≡ first_of id n.manager.waiters) × (w.0 < tasks)
+    place = turn_place m n.manager id w (sym u.turn ∙ e)
 
-  module _ (lt : n < tasks) (out : List ℕ) (t : Turn) (u : Turns m d id r out t) where
-    pub serve_stop : t ≡ Stop → Done out
-    serve_stop e =
-        let z : tasks + k - n ≡ suc (tasks + k - (n + 1)) = omega arith in
-        serve_finish out (u.memory ∙ rw e) (rw z (up_turn (tasks + k - (n + 1)) m d id ∙ rw (← u.turn, e)))
+    -- there is a place for the notice
+    pub serve_room : n.count < tasks
+    serve_room = omega (arith, v.fits, used_less n.manager id w.0 v.places place.0 place.1)
 
-    pub serve_more : (i : ℕ) (notice : Notice) → t ≡ Serve i notice → length out ≡ length m → (d' : Manager) → d' ≡ dequeue d i
-        → Serving m₀ id r d₀ (take k ns₀) k out d' (set ns n notice) (n + 1)
-    serve_more i notice e len d' x =
-        let z : tasks + k - n ≡ suc (tasks + k - (n + 1)) = omega arith in
-        let o : out ≡ taken m (region_of d id) (need_first d id) = u.memory ∙ rw e in
-        let y : serve_up_to (tasks + k - n) m d id ≡ telling notice (serve_up_to (tasks + k - (n + 1)) out d' id) =
-        rw (z, x, o) (up_turn (tasks + k - (n + 1)) m d id ∙ rw (← u.turn, e)) in
-        let w = turn_place m d id i notice (sym u.turn ∙ e) in
+    pub serve_more : length out ≡ length m → (d : Manager) → d ≡ dequeue n.manager w.0
+        → Serving m₀ id r from.manager (told from) from.count out d (set n.notices n.count w.1) (n.count + 1)
+    serve_more len d x =
+        let k = from.count in
+        let z : tasks + k - n.count ≡ suc (tasks + k - (n.count + 1)) = omega (arith, serve_room) in
+        let o : out ≡ taken m (region_of n.manager id) (need_first n.manager id) = u.memory ∙ rw e in
+        let y : serve_up_to (tasks + k - n.count) m n.manager id ≡ telling w.1 (serve_up_to (tasks + k - (n.count + 1)) out d id) =
+        rw (z, x, o) (up_turn (tasks + k - (n.count + 1)) m n.manager id ∙ rw (← u.turn, e)) in
         record {
           from = omega (arith, v.from);
           size = len ∙ v.size;
           sited = u.sited;
-          region = v.region ∙ rw (x, same_region d i id);
-          asking = rw x (asking_less d i v.asking);
-          places = ap (λ (q : Manager). length q.waiters) x ∙ places_same d i ∙ v.places;
-          fits = omega (arith, v.fits, ap (λ (q : Manager). used q.waiters) x, used_less d id i v.places w.0 w.1);
+          region = v.region ∙ rw (x, same_region n.manager w.0 id);
+          asking = rw x (asking_less n.manager w.0 v.asking);
+          places = ap (λ (q : Manager). length q.waiters) x ∙ places_same n.manager w.0 ∙ v.places;
+          fits = omega (arith, v.fits, ap (λ (q : Manager). used q.waiters) x, used_less n.manager id w.0 v.places place.0 place.1);
           memory = rw y at v.memory;
           manager = rw y at v.manager;
-          told = fill_put no_notice tasks ns n _ _ _ lt (rw y at v.told);
+          told = fill_put no_notice tasks n.notices n.count _ _ _ serve_room (rw y at v.told);
         }
 
-pub ruleset serving = (unmapped, serve_start, serve_full, serve_stop, serve_more)
+    -- and one less waits
+    pub serve_less : (d : Manager) → d ≡ dequeue n.manager w.0 → used d.waiters < used n.manager.waiters
+    serve_less d x = omega (arith, ap (λ (q : Manager). used q.waiters) x, used_less n.manager id w.0 v.places place.0 place.1)
 
 -- ---- serving before which nobody was told
 
-module _ (d : Manager) (t : Noticed) (e : Notices d [] t) where
-  pub nobody_ready : Asking d → length d.waiters ≡ tasks → Ready t
-  nobody_ready a n =
-      ready_told d [] t e (rw e.manager a) (omega (arith, e.count, ap (λ (q : Manager). used q.waiters) e.manager, count_most (λ (w : Waiter). not (eqb w.task 0)) d.waiters))
+pub fresh_ready : (m : List ℕ) (t : Noticed) → sound m t.manager ≡ true → Fresh t → Ready t
+fresh_ready m t ok f =
+    ready_told t.manager [] t f.nobody (sound_asking m t.manager ok) f.places
+    (omega (arith, f.nobody.count, count_most (λ (w : Waiter). not (eqb w.task 0)) t.manager.waiters))
 
-  pub nobody_region : (r : Region) (id : ℕ) → r ≡ region_of d id → r ≡ region_of t.manager id
-  nobody_region r id x = x ∙ rw e.manager
-
--- the answer with what serving leaves
-pub served_performs : (m : List ℕ) (d : Manager) (id : ℕ) (r : Region) (t : Noticed) → Notices d [] t → (last : List ℕ) (n : Noticed)
-    → Serves t (serve m t.manager id) last n × Sited last r → (v : ℕ) (a : Answer) → a ≡ answer_with n v → Performs (from_served v (serve m d id)) last a
-served_performs m d id r t e last n x v a f =
-    let o : Notices (serve m d id).manager (serve m d id).notices n = rw (e.manager, notices_told d [] t e) at x.0.told in
-    let w : last ≡ (serve m d id).memory = rw e.manager at x.0.memory in
-    rw (← w) (performs_noticed last (serve m d id).manager (serve m d id).notices n o v a f)
-
-pub ruleset answering = (unmapped, nobody_ready, nobody_region, served_performs)
+-- what is left then
+pub served_left : (before : Noticed) (s : Served) (m : List ℕ) (n : Noticed) → Notices before.manager [] before → Serves before s m n → (v : ℕ)
+    → from_served v s ≡ finished m n (Ok v)
+served_left before s m n e x v =
+    let o : Notices s.manager s.notices n = rw (notices_told before.manager [] before e) at x.told in
+    rw (x.memory, o.manager, notices_told s.manager s.notices n o)

@@ -1,6 +1,6 @@
 -- What serving a region's queue needs and leaves. Assumes nothing.
-use Rattle.std.specs.Prelude.{ℕ, ◌+◌, ◌≤◌, ◌≡◌, Bool, true, cond, not, ◌||◌, List, ◌++◌, eqb, leb, ltb, get_or}
-use Rattle.manager.specs.Record.{tasks, no_waiter, region_of}
+use Rattle.std.specs.Prelude.{Option, None, Some, ℕ, ◌+◌, ◌≤◌, ◌≡◌, Bool, true, cond, not, ◌||◌, List, [], ◌++◌, eqb, leb, ltb, get_or, length}
+use Rattle.manager.specs.Record.{slots, tasks, no_waiter, region_of}
 use Rattle.manager.specs.Lists.{every, count}
 use Rattle.manager.specs.Region.{address_of, need_of, placed, taken}
 use Rattle.manager.specs.Queue.{first_of}
@@ -12,10 +12,8 @@ use Rattle.manager.specs.declared.Region.{Region}
 use Rattle.manager.specs.declared.Waiter.{Waiter}
 use Rattle.manager.specs.declared.Need.{Need}
 use Rattle.manager.specs.declared.Notice.{Notice}
-use Rattle.reply.specs.Notices.{Notices, told}
+use Rattle.reply.specs.Notices.{Notices, Padded, told}
 use Rattle.reply.specs.declared.Noticed.{Noticed}
-use Rattle.segments.specs.declared.serving.Turn.{Turn}
-use Rattle.segments.specs.declared.serving.Turn.TheVariants.{Stop, Serve}
 
 -- a waiter asks for something
 abbrev pub asks : Waiter → Bool
@@ -24,10 +22,10 @@ asks w = eqb w.task 0 || leb 1 w.size
 abbrev pub Asking : Manager → Type 0
 Asking d = every asks d.waiters ≡ true
 
--- by what a turn comes to
-abbrev pub on_turn : {A : Type 0} → Turn → (ℕ → Notice → A) → A → A
-on_turn Stop f z = z
-on_turn (Serve i n) f z = f i n
+-- by what a turn comes to: the waiter at a place of the queue gets its notice, or nobody can be served
+abbrev pub on_turn : {A : Type 0} → Option (ℕ × Notice) → (ℕ → Notice → A) → A → A
+on_turn None f z = z
+on_turn (Some t) f z = f t.0 t.1
 
 -- the turn of the first waiter of a region, and the memory after it
 abbrev pub need_first : Manager → ℕ → Need
@@ -35,14 +33,14 @@ need_first d id =
     let w = get_or d.waiters (first_of id d.waiters) no_waiter in
     need_of (region_of d id) w.size w.alignment
 
-unfoldable pub turn_of : List ℕ → Manager → ℕ → Turn
+unfoldable pub turn_of : List ℕ → Manager → ℕ → Option (ℕ × Notice)
 turn_of m d id =
     let i = first_of id d.waiters in
     cond (ltb i tasks)
-    (on_place (placed m (region_of d id) (need_first d id)) (λ p. Serve i (granted (get_or d.waiters i no_waiter) (address_of (region_of d id) p))) Stop)
-    Stop
+    (on_place (placed m (region_of d id) (need_first d id)) (λ p. Some (i, granted (get_or d.waiters i no_waiter) (address_of (region_of d id) p))) None)
+    None
 
-pub record Turns (m : List ℕ) (d : Manager) (id : ℕ) (r : Region) (out : List ℕ) (t : Turn) : Type 0 where
+pub record Turns (m : List ℕ) (d : Manager) (id : ℕ) (r : Region) (out : List ℕ) (t : Option (ℕ × Notice)) : Type 0 where
   pub turn : t ≡ turn_of m d id
   pub memory : out ≡ on_turn t (λ i n. taken m (region_of d id) (need_first d id)) m
   pub sited : Sited out r
@@ -51,11 +49,19 @@ pub record Turns (m : List ℕ) (d : Manager) (id : ℕ) (r : Region) (out : Lis
 abbrev pub used : List Waiter → ℕ
 used ws = count (λ w. not (eqb w.task 0)) ws
 
--- notices so far, and their record: every waiter asks for something, and behind the notices there is a place for each who waits
+-- notices so far, and their record: every waiter asks for something, the queue has its places, and behind the notices there is a place for each
+-- who waits
 pub record Ready (n : Noticed) : Type 0 where
-  pub notices : Notices n.manager (told n) n
+  pub notices : Padded n
   pub asking : Asking n.manager
+  pub places : length n.manager.waiters ≡ tasks
   pub fits : n.count + used n.manager.waiters ≤ tasks
+
+-- nobody was told anything, and the record has its places
+pub record Fresh (n : Noticed) : Type 0 where
+  pub nobody : Notices n.manager [] n
+  pub places : length n.manager.waiters ≡ tasks
+  pub slots : length n.manager.regions ≡ slots
 
 -- the memory and the record are those of the definition, and so are the notices, behind those so far
 pub record Serves (before : Noticed) (s : Served) (m : List ℕ) (n : Noticed) : Type 0 where

@@ -1,55 +1,65 @@
-// Checks that look at no word of the memory: they come to a verdict.
-ghost use Rattle.std.specs.Prelude.{◌≡◌};
+// Checks of more than one line, over sound records.
+ghost use Rattle.std.specs.Prelude.{◌≡◌, true, IfOk};
 ghost use Rattle.manager.specs.Regions.{wait_checks};
+ghost use Rattle.manager.specs.Sound.{sound};
+ghost use Rattle.segments.specs.Held.{held_told, Holds};
 ghost use Rattle.segments.specs.Verdicts.{verdict_of, ask_checks};
 
+use crate::slots;
 use arith::Layout;
 use manager::{Manager, Need, Region, Status, Wait};
-
-#[derive(Clone, Copy)]
-pub(crate) enum Verdict {
-    Good,
-    Bad(Status),
-}
+use reply::ensure;
 
 // Get of a region: an alignment that its kind does not know 11, any other that is not allowed 8, what it could not serve with nothing held 8.
-pub(crate) fn may_ask(r: Region, l: Layout, n: Need, alignment: u32) -> Verdict
+#[tactic(auto, unfolding(crate::specs::Verdicts::verdict_of))]
+pub(crate) fn may_ask(r: Region, l: Layout, n: Need, alignment: u32) -> Result<(), Status>
     ensures { result ≡ verdict_of (ask_checks r l n alignment) }
 {
-    let order = r.order;
-    if !map::aligns(order, alignment) {
-        return Verdict::Bad(Status::NotDefined);
-    }
-    if !map::is_alignment(r.page, alignment) {
-        return Verdict::Bad(Status::InvalidSize);
-    }
-    if !map::servable(order, l, n) {
-        return Verdict::Bad(Status::InvalidSize);
-    }
-    Verdict::Good
+    ensure(map::aligns(r.order, alignment), Status::NotDefined)?;
+    ensure(map::is_alignment(r.page, alignment), Status::InvalidSize)?;
+    ensure(map::servable(r.order, l, n), Status::InvalidSize)
 }
 
 // Get that may wait: 10, 19, 14. Without waiting, task and priority aren't read.
-pub(crate) fn may_wait(d: Manager, wait: Wait, task: u32, priority: u32) -> Verdict
-    ensures { result ≡ verdict_of (wait_checks d wait task priority) }
+#[tactic(auto, unfolding(crate::specs::Verdicts::verdict_of))]
+pub(crate) fn may_wait(
+    d: &Manager,
+    wait: Wait,
+    task: u32,
+    priority: u32,
+) -> Result<(), Status>
+    ensures { result ≡ verdict_of (wait_checks d.now wait task priority) }
 {
     let Wait::Yes = wait else {
-        return Verdict::Good;
+        return Ok(());
     };
-    if task == 0 {
-        return Verdict::Bad(Status::InvalidNumber);
-    }
-    if Manager::TASKS < task as usize {
-        return Verdict::Bad(Status::InvalidNumber);
-    }
-    if priority == 0 {
-        return Verdict::Bad(Status::InvalidPriority);
-    }
-    if 255 < priority {
-        return Verdict::Bad(Status::InvalidPriority);
-    }
-    if queue::waiting(d, task) {
-        return Verdict::Bad(Status::IncorrectState);
-    }
-    Verdict::Good
+    ensure((1..=Manager::TASKS as u32).contains(&task), Status::InvalidNumber)?;
+    ensure((1..=255).contains(&priority), Status::InvalidPriority)?;
+    ensure(!queue::waiting(*d, task), Status::IncorrectState)
+}
+
+// A held segment: its region, with that one's layout, and its pages.
+#[derive(Clone, Copy)]
+pub(crate) struct Held {
+    pub(crate) region: Region,
+    pub(crate) layout: Layout,
+    pub(crate) pages: u32,
+}
+
+// The held segment at an address: 4, 9.
+#[tactic(auto, using(crate::proofs::Live::held_is))]
+pub(crate) fn held_at(mem: &[u32], d: &Manager, id: u32, address: u32) -> Result<Held, Status>
+    requires { sound mem.now d.now ≡ true }
+    ensures told { result ≡ held_told mem.now d.now id address }
+    ensures holds { IfOk result (Holds mem.now d.now id address) }
+{
+    let region = slots::find(d, id).ok_or(Status::InvalidId)?;
+    let layout = map::layout_of(region);
+    let pages = map::held_word_at(mem, layout, region.page, address);
+    ensure(pages != 0, Status::InvalidAddress)?;
+    Ok(Held {
+        region,
+        layout,
+        pages,
+    })
 }

@@ -1,26 +1,30 @@
 // The directives on the segments of a region, and the clock tick: rules 11.4 to 11.7 and 11.9. Each answers 25 first, where the records are
-// not sound, and then makes its checks in their order. Every function here is total: any record, memory and numbers have their answer.
+// not sound, and then makes its checks in their order. Every public function is total: any record, memory and numbers have their answer.
 #![tactic(auto)]
 
-mod allocation;
 mod checks;
 mod halves;
 mod kinds;
 mod lending;
 mod pages;
 mod serving;
+mod slots;
 
+ghost use Rattle.std.specs.Prelude.{◌≡◌};
 ghost use Rattle.manager.specs.Result.{Performs};
 ghost use Rattle.manager.specs.Regions.{get_segment, return_segment, segment_size, resize_segment, tick};
+ghost use Rattle.reply.specs.Notices.{Padded};
+ghost use Rattle.reply.specs.Outcomes.{concluded, finished};
+ghost use Rattle.segments.specs.Serving.{Fresh};
 
-use checks::Verdict;
 use manager::{Answer, Manager, Status, Wait, Waiter};
+use reply::{ensure, Noticed, Refusal};
 
 // Get: size 0 (8), 4, an alignment by halves 11, any other that is not allowed 8, what the region with nothing held could not serve 8; if
 // waiting is allowed 10, 19, 14; then the search. The value is the segment's address.
 pub fn get_segment(
     mem: &mut [u32],
-    d: Manager,
+    mut d: Manager,
     id: u32,
     size: u32,
     alignment: u32,
@@ -31,24 +35,6 @@ pub fn get_segment(
 ) -> Answer
     ensures { Performs (get_segment mem.old d id size alignment wait task priority ticks) mem.new result }
 {
-    if !soundness::is_sound(mem, d) {
-        return reply::reply(d, Status::InternalError, 0);
-    }
-    if size == 0 {
-        return reply::reply(d, Status::InvalidSize, 0);
-    }
-    let r = objects::region_of(d, id);
-    if r.name == 0 {
-        return reply::reply(d, Status::InvalidId, 0);
-    }
-    let l = map::layout_of(r);
-    let n = map::need_of(r, size, alignment);
-    if let Verdict::Bad(s) = checks::may_ask(r, l, n, alignment) {
-        return reply::reply(d, s, 0);
-    }
-    if let Verdict::Bad(s) = checks::may_wait(d, wait, task, priority) {
-        return reply::reply(d, s, 0);
-    }
     let w = Waiter {
         task,
         region: id,
@@ -57,45 +43,70 @@ pub fn get_segment(
         priority,
         ticks,
     };
-    allocation::take_or_wait(mem, d, r, l, n, wait, w)
+    let done = get(mem, &mut d, w, wait);
+    reply::answer(d, done)
+}
+
+// What w asks for. Where there is no room, and w may wait, the record has it waiting: that, too, is no success.
+#[tactic(auto, unfolding(manager::specs::Regions::get_segment, manager::specs::Result::checked, crate::specs::Verdicts::verdict_of))]
+fn get(mem: &mut [u32], d: &mut Manager, w: Waiter, wait: Wait) -> Result<u32, Status>
+    ensures { get_segment mem.old d.old w.region w.size w.alignment wait w.task w.priority w.ticks ≡ concluded mem.new d.new result }
+{
+    ensure(soundness::is_sound(mem, *d), Status::InternalError)?;
+    ensure(w.size != 0, Status::InvalidSize)?;
+    let r = slots::find(d, w.region).ok_or(Status::InvalidId)?;
+    let l = map::layout_of(r);
+    let n = map::need_of(r, w.size, w.alignment);
+    checks::may_ask(r, l, n, w.alignment)?;
+    checks::may_wait(d, wait, w.task, w.priority)?;
+    if let Some(p) = lending::take_pages(mem, r, l, n) {
+        return Ok(serving::address_of(r, p));
+    }
+    match wait {
+        Wait::No => Err(Status::Unsatisfied),
+        Wait::Yes => {
+            *d = queue::enqueue(*d, w);
+            Err(Status::Waiting)
+        }
+    }
 }
 
 // Return: 4, 9. The segment is freed and the region's queue served; the notices say who got what.
 pub fn return_segment(mem: &mut [u32], d: Manager, id: u32, address: u32) -> Answer
     ensures { Performs (return_segment mem.old d id address) mem.new result }
 {
-    if !soundness::is_sound(mem, d) {
-        return reply::reply(d, Status::InternalError, 0);
-    }
-    let r = objects::region_of(d, id);
-    if r.name == 0 {
-        return reply::reply(d, Status::InvalidId, 0);
-    }
-    let l = map::layout_of(r);
-    let pages = map::held_word_at(mem, l, r.page, address);
-    if pages == 0 {
-        return reply::reply(d, Status::InvalidAddress, 0);
-    }
-    allocation::release_and_serve(mem, d, id, r, l, address)
+    let mut told = Noticed::nobody(d);
+    let done = give_back(mem, &mut told, id, address);
+    told.answer(done)
+}
+
+#[tactic(auto, unfolding(manager::specs::Regions::return_segment, manager::specs::Result::checked))]
+fn give_back(mem: &mut [u32], told: &mut Noticed, id: u32, address: u32) -> Result<u32, Refusal>
+    requires { Fresh told.old }
+    ensures left { return_segment mem.old told.old.manager id address ≡ finished mem.new told.new result }
+    ensures padded { Padded told.new }
+{
+    ensure(soundness::is_sound(mem, told.manager), Status::InternalError)?;
+    let s = checks::held_at(mem, &told.manager, id, address)?;
+    lending::release_pages(mem, s.region, s.layout, address);
+    serving::serve(mem, told, id, s.region, s.layout);
+    Ok(0)
 }
 
 // Size: 4, 9. The value is the length of the held segment; no word of the memory changes.
 pub fn segment_size(mem: &[u32], d: Manager, id: u32, address: u32) -> Answer
     ensures { Performs (segment_size mem.now d id address) mem.now result }
 {
-    if !soundness::is_sound(mem, d) {
-        return reply::reply(d, Status::InternalError, 0);
-    }
-    let r = objects::region_of(d, id);
-    if r.name == 0 {
-        return reply::reply(d, Status::InvalidId, 0);
-    }
-    let l = map::layout_of(r);
-    let pages = map::held_word_at(mem, l, r.page, address);
-    if pages == 0 {
-        return reply::reply(d, Status::InvalidAddress, 0);
-    }
-    reply::reply(d, Status::Successful, pages * r.page)
+    reply::answer(d, measure(mem, &d, id, address))
+}
+
+#[tactic(auto, unfolding(manager::specs::Regions::segment_size, manager::specs::Result::checked))]
+fn measure(mem: &[u32], d: &Manager, id: u32, address: u32) -> Result<u32, Status>
+    ensures { segment_size mem.now d.now id address ≡ concluded mem.now d.now result }
+{
+    ensure(soundness::is_sound(mem, *d), Status::InternalError)?;
+    let s = checks::held_at(mem, d, id, address)?;
+    Ok(s.pages * s.region.page)
 }
 
 // Resize: size 0 (8), 4, 9, 13. The segment has its new size and the region's queue is served, also where the page count stays; the
@@ -103,24 +114,35 @@ pub fn segment_size(mem: &[u32], d: Manager, id: u32, address: u32) -> Answer
 pub fn resize_segment(mem: &mut [u32], d: Manager, id: u32, address: u32, size: u32) -> Answer
     ensures { Performs (resize_segment mem.old d id address size) mem.new result }
 {
-    if !soundness::is_sound(mem, d) {
-        return reply::reply(d, Status::InternalError, 0);
+    let mut told = Noticed::nobody(d);
+    let done = resize(mem, &mut told, id, address, size);
+    told.answer(done)
+}
+
+#[tactic(auto, unfolding(manager::specs::Regions::resize_segment, manager::specs::Result::checked))]
+fn resize(
+    mem: &mut [u32],
+    told: &mut Noticed,
+    id: u32,
+    address: u32,
+    size: u32,
+) -> Result<u32, Refusal>
+    requires { Fresh told.old }
+    ensures left { resize_segment mem.old told.old.manager id address size ≡ finished mem.new told.new result }
+    ensures padded { Padded told.new }
+{
+    ensure(soundness::is_sound(mem, told.manager), Status::InternalError)?;
+    ensure(size != 0, Status::InvalidSize)?;
+    let s = checks::held_at(mem, &told.manager, id, address)?;
+    let value = s.pages * s.region.page;
+    let k = map::pages_asked(s.region, size);
+    if !lending::can_have(mem, s.region, s.layout, address, k) {
+        let status = Status::Unsatisfied;
+        return Err(Refusal { status, value });
     }
-    if size == 0 {
-        return reply::reply(d, Status::InvalidSize, 0);
-    }
-    let r = objects::region_of(d, id);
-    if r.name == 0 {
-        return reply::reply(d, Status::InvalidId, 0);
-    }
-    let l = map::layout_of(r);
-    let pages = map::held_word_at(mem, l, r.page, address);
-    if pages == 0 {
-        return reply::reply(d, Status::InvalidAddress, 0);
-    }
-    let old = pages * r.page;
-    let k = map::pages_asked(r, size);
-    allocation::resize_and_serve(mem, d, id, r, l, address, k, old)
+    lending::resize_pages(mem, s.region, s.layout, address, k);
+    serving::serve(mem, told, id, s.region, s.layout);
+    Ok(value)
 }
 
 // Tick: each waiter with ticks left loses one; at 0 it leaves with status 6. No check of its own. Where anyone left, the queue of every
@@ -128,13 +150,21 @@ pub fn resize_segment(mem: &mut [u32], d: Manager, id: u32, address: u32, size: 
 pub fn tick(mem: &mut [u32], d: Manager) -> Answer
     ensures { Performs (tick mem.old d) mem.new result }
 {
-    if !soundness::is_sound(mem, d) {
-        return reply::reply(d, Status::InternalError, 0);
+    let mut told = Noticed::nobody(d);
+    let done = pass(mem, &mut told);
+    told.answer(done)
+}
+
+#[tactic(auto, unfolding(manager::specs::Regions::tick, manager::specs::Result::checked))]
+fn pass(mem: &mut [u32], told: &mut Noticed) -> Result<u32, Refusal>
+    requires { Fresh told.old }
+    ensures left { tick mem.old told.old.manager ≡ finished mem.new told.new result }
+    ensures padded { Padded told.new }
+{
+    ensure(soundness::is_sound(mem, told.manager), Status::InternalError)?;
+    *told = queue::after_tick(told.manager);
+    if told.count != 0 {
+        serving::serve_all(mem, told);
     }
-    let told = queue::after_tick(d);
-    if told.count == 0 {
-        return reply::with_notices(told, 0);
-    }
-    let n = serving::serve_all(mem, told);
-    reply::with_notices(n, 0)
+    Ok(0)
 }

@@ -1,31 +1,16 @@
--- `link_all` meets its contract: what is left to chain gives the whole. Assumes nothing.
-use borrow.Author.Rules.{rules}
-use Rattle.partitions.proofs.Making.{linking}
+-- `link_all`: what is left to chain gives the whole. Assumes nothing.
+use Rattle.std.proofs.Common.{arith, sym, ◌∙◌}
+use Rattle.partitions.proofs.Making.{linked_more, linked_all}
 use Rattle.partitions.proofs.create.link_all.Goals as goal
+use Rattle.partitions.proofs.create.link_all.Goals.{then-k-count, else-k-count, then-k-gt0, else-k-gt0}
 
-pub nonzero_div-left : goal.nonzero_div-left
-nonzero_div-left c = search (rules, linking)
-
-pub loop-left-init : goal.loop-left-init
-loop-left-init c = search (rules, linking)
-
-pub overflow_sub-left : goal.overflow_sub-left
-overflow_sub-left c = search (rules, linking)
-
-pub next_address-next-requires : goal.next_address-next-requires
-next_address-next-requires c = search (rules, linking)
-
-pub set_links-requires : goal.set_links-requires
-set_links-requires c = search (rules, linking)
-
-pub loop-left-smaller : goal.loop-left-smaller
-loop-left-smaller c = search (rules, linking)
-
-pub loop-left-preserved : goal.loop-left-preserved
-loop-left-preserved c = search (rules, linking)
-
-pub shape_of-mem : goal.shape_of-mem
-shape_of-mem c = search (rules, linking)
+pub loop-k-preserved : goal.loop-k-preserved
+loop-k-preserved c =
+    linked_more _ _ _ c.loop-k-test.true _ _
+    (elim c.if-k-count.branch [ then-k-count w ↦ grind arith | else-k-count w ↦ grind arith ])
+    (elim c.if-k-gt0.branch [ then-k-gt0 w ↦ grind arith | else-k-gt0 w ↦ grind arith ])
+    _ c.set_links.ensures
+    ∙ c.loop-k.invariant
 
 pub returns : goal.returns
-returns c = search (rules, linking)
+returns c = sym (linked_all _ _ _ c.loop-k-test.false) ∙ c.loop-k.invariant

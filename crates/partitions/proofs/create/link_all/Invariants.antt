@@ -1,8 +1,7 @@
-use Rattle.partitions.proofs.Making.{Chaining}
+use Rattle.std.proofs.Common.{◌-◌, ◌≡◌}
+use Rattle.manager.specs.Partition.{buffers, link_all}
 use Rattle.partitions.proofs.create.link_all.Given as goal
 
-abbrev pub invariant-loop-left : goal.invariant-loop-left
-invariant-loop-left l = Chaining l.initial.mem l.p l.mem l.left l.at l.before
-
-abbrev pub decreases-loop-left : goal.decreases-loop-left
-decreases-loop-left l = l.left
+-- what is left to chain gives the whole
+abbrev pub invariant-loop-k : goal.invariant-loop-k
+invariant-loop-k l = link_all (buffers l.p - l.k) l.mem l.p l.k ≡ link_all (buffers l.p) l.initial.mem l.p 0

@@ -1,46 +1,27 @@
--- `serve` meets its contract: each turn is one of the definition, and each end is where the definition ends. Assumes nothing.
-use Rattle.segments.proofs.Serve.{serving, serve_full, serve_stop}
-use borrow.Author.Rules.{rules}
+-- `serve`: each turn is one of the definition, and the last turn is where the definition ends. Assumes nothing.
+use Rattle.std.proofs.Common.{rules, ap, ◌∙◌}
+use Rattle.objects.proofs.Laws.{unmapped}
+use Rattle.segments.proofs.Serve.{serve_start, serve_stop, serve_room, serve_more, serve_less}
 use Rattle.segments.proofs.serving.serve.Goals as goal
 
-pub loop-t-init : goal.loop-t-init
-loop-t-init c = search (rules, serving)
+pub loop-i-init : goal.loop-i-init
+loop-i-init c = serve_start _ _ _ _ c.requires.0 c.requires.1 c.requires.3
 
 pub try_first-requires : goal.try_first-requires
-try_first-requires c = search (rules, serving)
+try_first-requires c = (c.loop-i.invariant.sited, c.loop-i.invariant.region, c.requires.2, c.loop-i.invariant.asking)
 
-pub enum_told-1 : goal.enum_told-1
-enum_told-1 c = search (rules, serving)
+pub tell-requires : goal.tell-requires
+tell-requires c = serve_room _ _ _ _ _ c.loop-i.told c.loop-i.invariant _ _ c.try_first.ensures _ c.in-Some.is
 
-pub enum_known-i : goal.enum_known-i
-enum_known-i c = search (rules, serving)
+pub loop-i-smaller : goal.loop-i-smaller
+loop-i-smaller c =
+    rw c.tell.ensures
+    (serve_less _ _ _ _ _ c.loop-i.told c.loop-i.invariant _ _ c.try_first.ensures _ c.in-Some.is _ c.dequeue-told.ensures)
 
-pub dequeue-t-requires : goal.dequeue-t-requires
-dequeue-t-requires c = search (rules, serving)
+pub loop-i-preserved : goal.loop-i-preserved
+loop-i-preserved c =
+    rw c.tell.ensures
+    (serve_more _ _ _ _ _ c.loop-i.told c.loop-i.invariant _ _ c.try_first.ensures _ c.in-Some.is c.try_first.auto.mem _ c.dequeue-told.ensures)
 
-pub offset_bounds-t-n : goal.offset_bounds-t-n
-offset_bounds-t-n c = search (rules, serving)
-
-pub bounds-t-n : goal.bounds-t-n
-bounds-t-n c = search (rules, serving)
-
-pub overflow_add-t : goal.overflow_add-t
-overflow_add-t c = search (rules, serving)
-
-pub loop-t-smaller : goal.loop-t-smaller
-loop-t-smaller c = search (rules, serving)
-
-pub loop-t-preserved : goal.loop-t-preserved
-loop-t-preserved c = search (rules, serving)
-
-pub shape_of-mem-after-loop-t : goal.shape_of-mem-after-loop-t
-shape_of-mem-after-loop-t c = search (rules, serving)
-
-pub returns-after-loop-t : goal.returns-after-loop-t
-returns-after-loop-t c = serve_full _ _ _ _ _ _ _ _ _ _ c.loop-t.invariant c.loop-t-test.false
-
-pub shape_of-mem-in-Stop : goal.shape_of-mem-in-Stop
-shape_of-mem-in-Stop c = search (rules, serving)
-
-pub returns-in-Stop : goal.returns-in-Stop
-returns-in-Stop c = serve_stop _ _ _ _ _ _ _ _ _ _ c.loop-t.invariant c.loop-t-test.true _ _ c.try_first.ensures c.in-Stop.is
+pub returns : goal.returns
+returns c = serve_stop _ _ _ _ _ c.loop-i.told c.loop-i.invariant _ _ c.try_first.ensures c.in_default.is

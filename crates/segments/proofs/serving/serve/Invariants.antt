@@ -1,11 +1,12 @@
-use Prim.Native.Nat.{◌-◌}
 use Rattle.reply.specs.Notices.{told}
-use Rattle.manager.specs.Record.{tasks}
+use Rattle.segments.specs.Serving.{used}
 use Rattle.segments.proofs.Serve.{Serving}
 use Rattle.segments.proofs.serving.serve.Given as goal
 
-abbrev pub invariant-loop-t : goal.invariant-loop-t
-invariant-loop-t l = Serving l.initial.mem l.id l.r l.initial.t.manager (told l.initial.t) l.initial.t.count l.mem l.t.manager l.t.notices l.t.count
+abbrev pub invariant-loop-i : goal.invariant-loop-i
+invariant-loop-i l =
+    let from = l.initial.told in
+    Serving l.initial.mem l.id l.r from.manager (told from) from.count l.mem l.told.manager l.told.notices l.told.count
 
-abbrev pub decreases-loop-t : goal.decreases-loop-t
-decreases-loop-t l = tasks - l.t.count
+abbrev pub decreases-loop-i : goal.decreases-loop-i
+decreases-loop-i l = used l.told.manager.waiters

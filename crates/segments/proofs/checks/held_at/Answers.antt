@@ -1,0 +1,10 @@
+-- `held_at`: the segment is of a live region. Assumes nothing.
+use Rattle.std.proofs.Common.{arith, ◌≢◌}
+use Rattle.segments.proofs.Live.{found, holds}
+use Rattle.segments.proofs.checks.held_at.Goals as goal
+
+pub returns-clause-holds : goal.returns-clause-holds
+returns-clause-holds c =
+    let f = found c.args.d.now c.args.id _ c.find.ensures _ c.in_ok-region.ensures.ok_part in
+    let n : c.held_word_at-pages.result ≢ 0 = grind arith in
+    holds c.args.mem.now c.args.d.now c.requires c.args.id f.1 _ _ f.0 _ c.layout_of-layout.ensures _ c.held_word_at-pages.ensures n
