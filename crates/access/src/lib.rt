@@ -11,8 +11,6 @@ use manager::{Answer, Manager, Region, Status};
 use reply::ensure;
 use std::ops::Range;
 
-mod slots;
-
 // The words of the held segment at an address, as a part of the memory; an empty part where the records, the id or the address are
 // refused.
 #[tactic(auto, unfolding(manager::specs::Access::read_segment))]
@@ -32,7 +30,7 @@ fn held_words(mem: &[u32], d: &Manager, id: u32, address: u32) -> Result<Range<u
     ensures within { IfOk result (λ w. (w.start ≤ w.end) × (w.end ≤ length mem.now)) }
 {
     ensure(soundness::is_sound(mem, *d), Status::InternalError)?;
-    let r = slots::find(d, id).ok_or(Status::InvalidId)?;
+    let r = objects::find::<Region>(d, id).ok_or(Status::InvalidId)?;
     let pages = map::held_word_at(mem, map::layout_of(r), r.page, address);
     ensure(pages != 0, Status::InvalidAddress)?;
     let from = (address / 4) as usize;

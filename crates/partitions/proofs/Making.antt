@@ -26,7 +26,6 @@ use Rattle.manager.proofs.Laws.Distinct.{same_or_not}
 use Rattle.manager.proofs.Laws.Partition.Created.{link_length, before_address}
 use Rattle.manager.specs.declared.Partition.{Partition}
 
-
 -- ONE BUFFER OF THE CHAIN: what is left of `link_all` behind it is what was left at it
 turn : (left : ℕ) (m : List ℕ) (p : Partition) (k : ℕ)
     → link_all left (link m (buffer_at p k) (cond (eqb left 0) 0 (buffer_at p (k + 1))) (cond (eqb k 0) 0 (buffer_at p (k - 1)))) p (k + 1) ≡ link_all (suc left) m p k
@@ -77,17 +76,9 @@ pub generation_is_small : (m : List ℕ) (d : Manager) → sound m d ≡ true �
 generation_is_small m d ok i =
     by_case (ltb i (length d.partitions)) (λ b. partition_generation d i ≤ generations)
     (λ e.
-      let p = get_or d.partitions i no_partition in
-      generation_most p.name p.generation
-      (partition_generation_lem m p (every_at (sound_partition m) d.partitions i no_partition (sound_partitions m d ok) (ltb-true i (length d.partitions) e))))
+    let p = get_or d.partitions i no_partition in
+    generation_most p.name p.generation
+    (partition_generation_lem m p (every_at (sound_partition m) d.partitions i no_partition (sound_partitions m d ok) (ltb-true i (length d.partitions) e))))
     (λ e.
-      let z : get_or d.partitions i no_partition ≡ no_partition = get_or_past d.partitions i no_partition (ltb-false i (length d.partitions) e) in
-      rw (partition_generation, z) (omega arith))
-
-cases : (b : Bool) (i s : ℕ) → cond b (Some i) None ≡ Some s → (b ≡ true) × (s ≡ i)
-cases true i s e = (refl, grind arith)
-cases false i s e = grind arith
-
--- a slot that a search found
-pub slot_told : (o : Option ℕ) (n i : ℕ) → o ≡ cond (ltb i n) (Some i) None → (s : ℕ) → o ≡ Some s → s < n
-slot_told o n i q s p = let h = cases (ltb i n) i s (sym q ∙ p) in rw h.1 (ltb-true i n h.0)
+    let z : get_or d.partitions i no_partition ≡ no_partition = get_or_past d.partitions i no_partition (ltb-false i (length d.partitions) e) in
+    rw (partition_generation, z) (omega arith))

@@ -4,8 +4,8 @@ ghost use Rattle.manager.specs.Partition.{gotten, returned};
 ghost use Rattle.manager.specs.Partitions.{get_buffer, return_buffer};
 ghost use Rattle.reply.specs.Outcomes.{concluded};
 
-use crate::slots;
 use manager::{Manager, Partition, Status};
+use objects::Slot;
 use reply::ensure;
 
 // The partition without its front buffer; with no buffer left, both kept ends are 0.
@@ -41,11 +41,11 @@ pub(crate) fn get(mem: &mut [u32], d: &mut Manager, id: u32) -> Result<u32, Stat
     ensures { get_buffer mem.old d.old id ≡ concluded mem.new d.new result }
 {
     ensure(soundness::is_sound(mem, *d), Status::InternalError)?;
-    let p = slots::find(d, id).ok_or(Status::InvalidId)?;
+    let p = objects::find::<Partition>(d, id).ok_or(Status::InvalidId)?;
     ensure(p.free != 0, Status::Unsatisfied)?;
     let q = gotten(mem, p);
     chain::after_get(mem, p);
-    *d = objects::with_partition(*d, objects::slot_of(id), q);
+    *d = Partition::with(*d, objects::slot_of(id), q);
     Ok(p.front)
 }
 
@@ -60,11 +60,11 @@ pub(crate) fn give_back(
     ensures { return_buffer mem.old d.old id address ≡ concluded mem.new d.new result }
 {
     ensure(soundness::is_sound(mem, *d), Status::InternalError)?;
-    let p = slots::find(d, id).ok_or(Status::InvalidId)?;
+    let p = objects::find::<Partition>(d, id).ok_or(Status::InvalidId)?;
     ensure(chain::is_buffer(p, address), Status::InvalidAddress)?;
     ensure(!chain::is_free(mem, p, address), Status::InvalidAddress)?;
     let q = returned(p, address);
     chain::after_return(mem, p, address);
-    *d = objects::with_partition(*d, objects::slot_of(id), q);
+    *d = Partition::with(*d, objects::slot_of(id), q);
     Ok(0)
 }

@@ -4,8 +4,8 @@ ghost use Rattle.manager.specs.Partition.{buffers, link_all};
 ghost use Rattle.manager.specs.Partitions.{new_partition, create_partition};
 ghost use Rattle.reply.specs.Outcomes.{concluded};
 
-use crate::slots;
 use manager::{Area, Manager, Partition, Status};
+use objects::Slot;
 use reply::ensure;
 
 // All buffers, chained by address.
@@ -55,17 +55,26 @@ pub(crate) fn create(
 {
     ensure(soundness::is_sound(mem, *d), Status::InternalError)?;
     ensure(name != 0, Status::InvalidName)?;
-    ensure(slots::named(d, name).is_none(), Status::InvalidName)?;
+    ensure(
+        objects::named::<Partition>(d, name).is_none(),
+        Status::InvalidName,
+    )?;
     ensure(start != 0, Status::InvalidAddress)?;
     ensure(start % 4 == 0, Status::InvalidAddress)?;
-    ensure(!objects::past_memory(mem.len(), start, length), Status::InvalidAddress)?;
+    ensure(
+        !objects::past_memory(mem.len(), start, length),
+        Status::InvalidAddress,
+    )?;
     ensure((8..=length).contains(&size), Status::InvalidSize)?;
     ensure(size % 4 == 0, Status::InvalidSize)?;
-    ensure(!objects::overlaps(*d, Area { start, length }), Status::InvalidAddress)?;
-    let slot = slots::unspent(d).ok_or(Status::TooMany)?;
+    ensure(
+        !objects::overlaps(d, Area { start, length }),
+        Status::InvalidAddress,
+    )?;
+    let slot = objects::unspent::<Partition>(d).ok_or(Status::TooMany)?;
     let p = new_partition(d.partitions[slot].generation, name, start, length, size);
     link_all(mem, p);
-    let id = slots::id_at(d, slot);
-    *d = objects::with_partition(*d, slot, p);
+    let id = objects::id_at::<Partition>(d, slot);
+    *d = Partition::with(*d, slot, p);
     Ok(id)
 }

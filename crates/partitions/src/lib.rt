@@ -4,7 +4,6 @@
 
 mod buffers;
 mod create;
-mod slots;
 
 ghost use Rattle.std.specs.Prelude.{◌≡◌};
 ghost use Rattle.manager.specs.Result.{Performs};
@@ -12,6 +11,7 @@ ghost use Rattle.manager.specs.Partitions.{create_partition, ident_partition, de
 ghost use Rattle.reply.specs.Outcomes.{concluded};
 
 use manager::{Answer, Manager, Partition, Status};
+use objects::Slot;
 use reply::ensure;
 
 // Makes a partition of the area, all its buffers free; the value is its id.
@@ -42,8 +42,8 @@ fn ident(mem: &[u32], d: &Manager, name: u32) -> Result<u32, Status>
 {
     ensure(soundness::is_sound(mem, *d), Status::InternalError)?;
     ensure(name != 0, Status::InvalidName)?;
-    let slot = slots::named(d, name).ok_or(Status::InvalidName)?;
-    Ok(slots::id_at(d, slot))
+    let slot = objects::named::<Partition>(d, name).ok_or(Status::InvalidName)?;
+    Ok(objects::id_at::<Partition>(d, slot))
 }
 
 // Deletes a partition whose buffers are all free; no word of the memory changes. Delete: 4, 12.
@@ -59,9 +59,13 @@ fn delete(mem: &[u32], d: &mut Manager, id: u32) -> Result<u32, Status>
     ensures { delete_partition mem.now d.old id ≡ concluded mem.now d.new result }
 {
     ensure(soundness::is_sound(mem, *d), Status::InternalError)?;
-    let p = slots::find(d, id).ok_or(Status::InvalidId)?;
+    let p = objects::find::<Partition>(d, id).ok_or(Status::InvalidId)?;
     ensure(p.free == p.length / p.size, Status::ResourceInUse)?;
-    *d = objects::with_partition(*d, objects::slot_of(id), Partition::emptied(p.generation + 1));
+    *d = Partition::with(
+        *d,
+        objects::slot_of(id),
+        Partition::emptied(p.generation + 1),
+    );
     Ok(0)
 }
 

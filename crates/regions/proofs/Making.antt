@@ -52,15 +52,7 @@ pub generation_is_small : (m : List ℕ) (d : Manager) → sound m d ≡ true �
 generation_is_small m d ok i =
     by_case (ltb i (length d.regions)) (λ b. region_generation d i ≤ generations)
     (λ e.
-      let r = get_or d.regions i no_region in
-      generation_most r.name r.generation
-      (region_generation_lem m r (every_at (sound_region m) d.regions i no_region (sound_regions m d ok) (ltb-true i (length d.regions) e))))
+    let r = get_or d.regions i no_region in
+    generation_most r.name r.generation
+    (region_generation_lem m r (every_at (sound_region m) d.regions i no_region (sound_regions m d ok) (ltb-true i (length d.regions) e))))
     (λ e. let z : get_or d.regions i no_region ≡ no_region = get_or_past d.regions i no_region (ltb-false i (length d.regions) e) in rw (region_generation, z) (omega arith))
-
-cases : (b : Bool) (i s : ℕ) → cond b (Some i) None ≡ Some s → (b ≡ true) × (s ≡ i)
-cases true i s e = (refl, grind arith)
-cases false i s e = grind arith
-
--- a slot that a search found
-pub slot_told : (o : Option ℕ) (n i : ℕ) → o ≡ cond (ltb i n) (Some i) None → (s : ℕ) → o ≡ Some s → s < n
-slot_told o n i q s p = let h = cases (ltb i n) i s (sym q ∙ p) in rw h.1 (ltb-true i n h.0)

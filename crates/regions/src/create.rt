@@ -7,9 +7,9 @@ ghost use Rattle.manager.specs.Regions.{new_region, create_region};
 ghost use Rattle.manager.specs.Sound.{Laid};
 ghost use Rattle.reply.specs.Outcomes.{concluded};
 
-use crate::slots;
 use arith::Layout;
 use manager::{Area, Manager, Order, Region, Status};
+use objects::Slot;
 use reply::ensure;
 
 // The record of a new region, before it has a slot: its page size is rounded up to a multiple of 8.
@@ -63,18 +63,27 @@ pub(crate) fn create(
 {
     ensure(soundness::is_sound(mem, *d), Status::InternalError)?;
     ensure(name != 0, Status::InvalidName)?;
-    ensure(slots::named(d, name).is_none(), Status::InvalidName)?;
+    ensure(
+        objects::named::<Region>(d, name).is_none(),
+        Status::InvalidName,
+    )?;
     ensure(start != 0, Status::InvalidAddress)?;
-    ensure(!objects::past_memory(mem.len(), start, length), Status::InvalidAddress)?;
+    ensure(
+        !objects::past_memory(mem.len(), start, length),
+        Status::InvalidAddress,
+    )?;
     ensure((1..=4096).contains(&page), Status::InvalidSize)?;
     let mut r = new_region(name, start, length, page, order);
     let l = map::layout_of(r);
     ensure(l.pages != 0, Status::InvalidSize)?;
-    ensure(!objects::overlaps(*d, Area { start, length }), Status::InvalidAddress)?;
-    let slot = slots::unspent(d).ok_or(Status::TooMany)?;
+    ensure(
+        !objects::overlaps(d, Area { start, length }),
+        Status::InvalidAddress,
+    )?;
+    let slot = objects::unspent::<Region>(d).ok_or(Status::TooMany)?;
     r.generation = d.regions[slot].generation;
     clear_map(mem, r, l);
-    let id = slots::id_at(d, slot);
-    *d = objects::with_region(*d, slot, r);
+    let id = objects::id_at::<Region>(d, slot);
+    *d = Region::with(*d, slot, r);
     Ok(id)
 }

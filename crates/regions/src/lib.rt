@@ -3,7 +3,6 @@
 #![tactic(auto)]
 
 mod create;
-mod slots;
 mod tally;
 
 ghost use Rattle.std.specs.Prelude.{◌≡◌};
@@ -13,6 +12,7 @@ ghost use Rattle.regions.specs.Told.{told};
 ghost use Rattle.reply.specs.Outcomes.{concluded};
 
 use manager::{Answer, Information, Manager, Order, Region, Status};
+use objects::Slot;
 use reply::ensure;
 
 // Makes a region of the area, all its pages free; the value is its id.
@@ -44,8 +44,8 @@ fn ident(mem: &[u32], d: &Manager, name: u32) -> Result<u32, Status>
 {
     ensure(soundness::is_sound(mem, *d), Status::InternalError)?;
     ensure(name != 0, Status::InvalidName)?;
-    let slot = slots::named(d, name).ok_or(Status::InvalidName)?;
-    Ok(slots::id_at(d, slot))
+    let slot = objects::named::<Region>(d, name).ok_or(Status::InvalidName)?;
+    Ok(objects::id_at::<Region>(d, slot))
 }
 
 // Deletes a region of which nothing is held; no word of the memory changes. Delete: 4, 12.
@@ -61,9 +61,9 @@ fn delete(mem: &[u32], d: &mut Manager, id: u32) -> Result<u32, Status>
     ensures { delete_region mem.now d.old id ≡ concluded mem.now d.new result }
 {
     ensure(soundness::is_sound(mem, *d), Status::InternalError)?;
-    let r = slots::find(d, id).ok_or(Status::InvalidId)?;
+    let r = objects::find::<Region>(d, id).ok_or(Status::InvalidId)?;
     ensure(map::one_free(mem, map::layout_of(r)), Status::ResourceInUse)?;
-    *d = objects::with_region(*d, objects::slot_of(id), Region::emptied(r.generation + 1));
+    *d = Region::with(*d, objects::slot_of(id), Region::emptied(r.generation + 1));
     Ok(0)
 }
 
@@ -84,7 +84,7 @@ fn information(mem: &[u32], d: &Manager, id: u32) -> Result<Information, Status>
     ensures { region_information mem.now d.now id ≡ told mem.now d.now result }
 {
     ensure(soundness::is_sound(mem, *d), Status::InternalError)?;
-    let r = slots::find(d, id).ok_or(Status::InvalidId)?;
+    let r = objects::find::<Region>(d, id).ok_or(Status::InvalidId)?;
     let words = map::map_words(mem, map::layout_of(r));
     Ok(tally::of_map(words, r.page))
 }

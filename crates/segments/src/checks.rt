@@ -5,7 +5,6 @@ ghost use Rattle.manager.specs.Sound.{sound};
 ghost use Rattle.segments.specs.Held.{held_told, Holds};
 ghost use Rattle.segments.specs.Verdicts.{verdict_of, ask_checks};
 
-use crate::slots;
 use arith::Layout;
 use manager::{Manager, Need, Region, Status, Wait};
 use reply::ensure;
@@ -22,20 +21,18 @@ pub(crate) fn may_ask(r: Region, l: Layout, n: Need, alignment: u32) -> Result<(
 
 // Get that may wait: 10, 19, 14. Without waiting, task and priority aren't read.
 #[tactic(auto, unfolding(crate::specs::Verdicts::verdict_of))]
-pub(crate) fn may_wait(
-    d: &Manager,
-    wait: Wait,
-    task: u32,
-    priority: u32,
-) -> Result<(), Status>
+pub(crate) fn may_wait(d: &Manager, wait: Wait, task: u32, priority: u32) -> Result<(), Status>
     ensures { result ≡ verdict_of (wait_checks d.now wait task priority) }
 {
     let Wait::Yes = wait else {
         return Ok(());
     };
-    ensure((1..=Manager::TASKS as u32).contains(&task), Status::InvalidNumber)?;
+    ensure(
+        (1..=Manager::TASKS as u32).contains(&task),
+        Status::InvalidNumber,
+    )?;
     ensure((1..=255).contains(&priority), Status::InvalidPriority)?;
-    ensure(!queue::waiting(*d, task), Status::IncorrectState)
+    ensure(!queue::waiting(d, task), Status::IncorrectState)
 }
 
 // A held segment: its region, with that one's layout, and its pages.
@@ -53,7 +50,7 @@ pub(crate) fn held_at(mem: &[u32], d: &Manager, id: u32, address: u32) -> Result
     ensures told { result ≡ held_told mem.now d.now id address }
     ensures holds { IfOk result (Holds mem.now d.now id address) }
 {
-    let region = slots::find(d, id).ok_or(Status::InvalidId)?;
+    let region = objects::find::<Region>(d, id).ok_or(Status::InvalidId)?;
     let layout = map::layout_of(region);
     let pages = map::held_word_at(mem, layout, region.page, address);
     ensure(pages != 0, Status::InvalidAddress)?;

@@ -8,7 +8,6 @@ mod kinds;
 mod lending;
 mod pages;
 mod serving;
-mod slots;
 
 ghost use Rattle.std.specs.Prelude.{◌≡◌};
 ghost use Rattle.manager.specs.Result.{Performs};
@@ -17,8 +16,8 @@ ghost use Rattle.reply.specs.Notices.{Padded};
 ghost use Rattle.reply.specs.Outcomes.{concluded, finished};
 ghost use Rattle.segments.specs.Serving.{Fresh};
 
-use manager::{Answer, Manager, Status, Wait, Waiter};
-use reply::{ensure, Noticed, Refusal};
+use manager::{Answer, Manager, Region, Status, Wait, Waiter};
+use reply::{Noticed, Refusal, ensure};
 
 // Get: size 0 (8), 4, an alignment by halves 11, any other that is not allowed 8, what the region with nothing held could not serve 8; if
 // waiting is allowed 10, 19, 14; then the search. The value is the segment's address.
@@ -54,7 +53,7 @@ fn get(mem: &mut [u32], d: &mut Manager, w: Waiter, wait: Wait) -> Result<u32, S
 {
     ensure(soundness::is_sound(mem, *d), Status::InternalError)?;
     ensure(w.size != 0, Status::InvalidSize)?;
-    let r = slots::find(d, w.region).ok_or(Status::InvalidId)?;
+    let r = objects::find::<Region>(d, w.region).ok_or(Status::InvalidId)?;
     let l = map::layout_of(r);
     let n = map::need_of(r, w.size, w.alignment);
     checks::may_ask(r, l, n, w.alignment)?;
@@ -86,7 +85,10 @@ fn give_back(mem: &mut [u32], told: &mut Noticed, id: u32, address: u32) -> Resu
     ensures left { return_segment mem.old told.old.manager id address ≡ finished mem.new told.new result }
     ensures padded { Padded told.new }
 {
-    ensure(soundness::is_sound(mem, told.manager), Status::InternalError)?;
+    ensure(
+        soundness::is_sound(mem, told.manager),
+        Status::InternalError,
+    )?;
     let s = checks::held_at(mem, &told.manager, id, address)?;
     lending::release_pages(mem, s.region, s.layout, address);
     serving::serve(mem, told, id, s.region, s.layout);
@@ -131,7 +133,10 @@ fn resize(
     ensures left { resize_segment mem.old told.old.manager id address size ≡ finished mem.new told.new result }
     ensures padded { Padded told.new }
 {
-    ensure(soundness::is_sound(mem, told.manager), Status::InternalError)?;
+    ensure(
+        soundness::is_sound(mem, told.manager),
+        Status::InternalError,
+    )?;
     ensure(size != 0, Status::InvalidSize)?;
     let s = checks::held_at(mem, &told.manager, id, address)?;
     let value = s.pages * s.region.page;
@@ -161,7 +166,10 @@ fn pass(mem: &mut [u32], told: &mut Noticed) -> Result<u32, Refusal>
     ensures left { tick mem.old told.old.manager ≡ finished mem.new told.new result }
     ensures padded { Padded told.new }
 {
-    ensure(soundness::is_sound(mem, told.manager), Status::InternalError)?;
+    ensure(
+        soundness::is_sound(mem, told.manager),
+        Status::InternalError,
+    )?;
     *told = queue::after_tick(told.manager);
     if told.count != 0 {
         serving::serve_all(mem, told);

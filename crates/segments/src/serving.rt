@@ -20,20 +20,11 @@ pub(crate) fn address_of(r: Region, p: usize) -> u32
 }
 
 // The first waiter of the region is tried: where there is room, its place in the queue, and its notice.
-fn try_first(
-    mem: &mut [u32],
-    d: &Manager,
-    id: u32,
-    r: Region,
-    l: Layout,
-) -> Option<(usize, Notice)>
+fn try_first(mem: &mut [u32], d: &Manager, id: u32, r: Region, l: Layout) -> Option<(usize, Notice)>
     requires { (Sited mem.old r) × (r ≡ region_of d.now id) × (l ≡ layout_of r) × (Asking d.now) }
     ensures { Turns mem.old d.now id r mem.new result }
 {
-    let i = queue::first_of(*d, id);
-    if Manager::TASKS <= i {
-        return None;
-    }
+    let i = queue::first_of(d, id)?;
     let w = d.waiters[i];
     let n = map::need_of(r, w.size, w.alignment);
     let p = lending::take_pages(mem, r, l, n)?;
@@ -66,7 +57,7 @@ fn serve_slot(mem: &mut [u32], told: &mut Noticed, i: usize)
     if r.name == 0 {
         return;
     }
-    let id = objects::id_of(i as u32, r.generation) as u32;
+    let id = objects::id_at::<Region>(&told.manager, i);
     serve(mem, told, id, r, map::layout_of(r));
 }
 

@@ -1,10 +1,14 @@
 -- `ident`: the id of a live region fits. Assumes nothing.
-use Rattle.std.proofs.Common.{arith, true, ◌≡◌}
+use Rattle.std.proofs.Common.{sym, ◌∙◌, arith, true, ◌≡◌}
 use Rattle.manager.specs.Sound.{sound}
-use Rattle.regions.proofs.Making.{generation_is_small, slot_told}
+use Rattle.objects.proofs.Searched.{place_within}
+use Rattle.regions.proofs.Making.{generation_is_small}
 use Rattle.regions.proofs.ident.Goals as goal
 
-pub id_at-requires : goal.id_at-requires
-id_at-requires c =
+pub id_at-requires-clause-within : goal.id_at-requires-clause-within
+id_at-requires-clause-within c = place_within _ _ _ (sym c.in_ok-slot.ensures.ok_part ∙ c.named.ensures)
+
+pub id_at-requires-clause-generation : goal.id_at-requires-clause-generation
+id_at-requires-clause-generation c =
     let s : sound c.args.mem.now c.args.d.now ≡ true = grind arith in
-    (slot_told _ _ _ c.named.ensures _ c.in_ok-slot.ensures.ok_part, generation_is_small _ _ s _)
+    generation_is_small c.args.mem.now c.args.d.now s _

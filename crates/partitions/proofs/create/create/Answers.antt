@@ -1,7 +1,8 @@
 -- `create`: the new partition lies in the memory, and its id fits. Assumes nothing.
-use Rattle.std.proofs.Common.{arith, rules, true, false, ◌≡◌, ◌<◌, ◌≤◌, ◌+◌}
+use Rattle.std.proofs.Common.{sym, ◌∙◌, arith, rules, true, false, ◌≡◌, ◌<◌, ◌≤◌, ◌+◌}
 use Rattle.manager.specs.Sound.{sound}
-use Rattle.partitions.proofs.Making.{area_ends, generation_is_small, slot_told}
+use Rattle.objects.proofs.Searched.{place_within}
+use Rattle.partitions.proofs.Making.{area_ends, generation_is_small}
 use Rattle.partitions.proofs.create.create.Goals as goal
 
 pub new_partition-p-requires : goal.new_partition-p-requires
@@ -16,7 +17,10 @@ link_all-requires c =
     let z : 0 < c.args.size = grind arith in
     rw c.new_partition-p.ensures (z, e)
 
-pub id_at-id-requires : goal.id_at-id-requires
-id_at-id-requires c =
+pub id_at-id-requires-clause-within : goal.id_at-id-requires-clause-within
+id_at-id-requires-clause-within c = place_within _ _ _ (sym c.in_ok-slot.ensures.ok_part ∙ c.unspent.ensures)
+
+pub id_at-id-requires-clause-generation : goal.id_at-id-requires-clause-generation
+id_at-id-requires-clause-generation c =
     let s : sound c.args.mem.now c.args.d.now ≡ true = grind arith in
-    (slot_told _ _ _ c.unspent.ensures _ c.in_ok-slot.ensures.ok_part, generation_is_small _ _ s _)
+    generation_is_small c.args.mem.now c.args.d.now s _

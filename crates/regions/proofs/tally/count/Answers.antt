@@ -1,7 +1,7 @@
 -- `count`: each turn of the walk counts one segment. Assumes nothing.
 use Rattle.std.proofs.Common.{rules, ap, ◌∙◌}
 use Rattle.map.proofs.Walked.{left}
-use Rattle.regions.proofs.Count.{counting, count_start, nothing}
+use Rattle.regions.proofs.Count.{counting, count_start, count_free, count_held, nothing}
 use Rattle.regions.proofs.tally.count.Goals as goal
 
 pub loop-s-init : goal.loop-s-init
@@ -13,13 +13,13 @@ pub add-requires : goal.add-requires
 add-requires c = search (rules, counting)
 
 pub loop-s-preserved-then-s : goal.loop-s-preserved-then-s
-loop-s-preserved-then-s c = search (rules, counting)
+loop-s-preserved-then-s c = count_held _ _ _ _ c.loop-s.invariant c.in-Some.s _ c.in-Some.ensures.steps c.if-s.true _ c.add.ensures
 
 pub add-requires-else-s : goal.add-requires-else-s
 add-requires-else-s c = search (rules, counting)
 
 pub loop-s-preserved : goal.loop-s-preserved
-loop-s-preserved c = search (rules, counting)
+loop-s-preserved c = count_free _ _ _ _ c.loop-s.invariant c.in-Some.s _ c.in-Some.ensures.steps c.if-s.false _ c.add-else-s.ensures
 
 pub returns-clause-free : goal.returns-clause-free
 returns-clause-free c = search (rules, counting)
