@@ -6,6 +6,7 @@ ghost use Rattle.manager.specs.Perform.{perform as Perform·perform};
 
 use manager::{Answer, Call, Manager};
 
+#[tactic(auto, unfolding(manager::specs::Perform::perform))]
 pub fn perform(mem: &mut [u32], d: Manager, call: Call) -> Answer
     ensures { Performs (Perform·perform mem.old d call) mem.new result }
 {

@@ -55,22 +55,16 @@ pub(crate) fn create(
 {
     ensure(soundness::is_sound(mem, *d), Status::InternalError)?;
     ensure(name != 0, Status::InvalidName)?;
-    ensure(
-        objects::named::<Partition>(d, name).is_none(),
-        Status::InvalidName,
-    )?;
+    let taken = objects::named::<Partition>(d, name);
+    ensure(taken.is_none(), Status::InvalidName)?;
     ensure(start != 0, Status::InvalidAddress)?;
     ensure(start % 4 == 0, Status::InvalidAddress)?;
-    ensure(
-        !objects::past_memory(mem.len(), start, length),
-        Status::InvalidAddress,
-    )?;
+    let past = objects::past_memory(mem.len(), start, length);
+    ensure(!past, Status::InvalidAddress)?;
     ensure((8..=length).contains(&size), Status::InvalidSize)?;
     ensure(size % 4 == 0, Status::InvalidSize)?;
-    ensure(
-        !objects::overlaps(d, Area { start, length }),
-        Status::InvalidAddress,
-    )?;
+    let meets = objects::overlaps(d, Area { start, length });
+    ensure(!meets, Status::InvalidAddress)?;
     let slot = objects::unspent::<Partition>(d).ok_or(Status::TooMany)?;
     let p = new_partition(d.partitions[slot].generation, name, start, length, size);
     link_all(mem, p);

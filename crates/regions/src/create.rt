@@ -63,23 +63,17 @@ pub(crate) fn create(
 {
     ensure(soundness::is_sound(mem, *d), Status::InternalError)?;
     ensure(name != 0, Status::InvalidName)?;
-    ensure(
-        objects::named::<Region>(d, name).is_none(),
-        Status::InvalidName,
-    )?;
+    let taken = objects::named::<Region>(d, name);
+    ensure(taken.is_none(), Status::InvalidName)?;
     ensure(start != 0, Status::InvalidAddress)?;
-    ensure(
-        !objects::past_memory(mem.len(), start, length),
-        Status::InvalidAddress,
-    )?;
+    let past = objects::past_memory(mem.len(), start, length);
+    ensure(!past, Status::InvalidAddress)?;
     ensure((1..=4096).contains(&page), Status::InvalidSize)?;
     let mut r = new_region(name, start, length, page, order);
     let l = map::layout_of(r);
     ensure(l.pages != 0, Status::InvalidSize)?;
-    ensure(
-        !objects::overlaps(d, Area { start, length }),
-        Status::InvalidAddress,
-    )?;
+    let meets = objects::overlaps(d, Area { start, length });
+    ensure(!meets, Status::InvalidAddress)?;
     let slot = objects::unspent::<Region>(d).ok_or(Status::TooMany)?;
     r.generation = d.regions[slot].generation;
     clear_map(mem, r, l);

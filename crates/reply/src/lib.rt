@@ -84,7 +84,7 @@ impl Noticed {
         ensures { result ≡ answer_with self.now done }
     {
         let (status, value) = match done {
-            Ok(value) => (Status::Successful, value),
+            Ok(v) => (Status::Successful, v),
             Err(r) => (r.status, r.value),
         };
         Answer {
