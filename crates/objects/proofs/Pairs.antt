@@ -1,5 +1,5 @@
 -- Each object with those behind it, one step after the other; and the areas of both kinds. Assumes nothing.
-use Rattle.std.proofs.Common.{◌≡◌, ℕ, ◌+◌, Bool, true, false, not, ◌&&◌, ◌||◌, List, [], ◌∷◌, ◌++◌, length, eqb, ltb, refl, sym, ap, ◌∙◌, arith}
+use Rattle.std.proofs.Common.{eq-eqb, ne_eqb, ◌≡◌, ℕ, ◌+◌, Bool, true, false, not, ◌&&◌, ◌||◌, List, [], ◌∷◌, ◌++◌, length, eqb, ltb, refl, sym, ap, ◌∙◌, arith}
 use borrow.Author.Tests.{eqb-true, le-ltb}
 use mathlib.Core.Bool.{and-false, and-true}
 use Rattle.manager.specs.declared.Area.{Area}
@@ -10,6 +10,7 @@ use Rattle.manager.specs.Region.{area_of, region_areas, partition_areas, overlap
 use Rattle.manager.specs.Sound.{other_name}
 use Rattle.manager.proofs.Laws.Lists.{and_first, and_second}
 use Rattle.objects.specs.Areas.{nowhere}
+use Rattle.objects.specs.Slots.{shared}
 
 module _ {A : Type 0} where
   -- none passes a test that all fail
@@ -67,19 +68,30 @@ module _ {A : Type 0} where
 
   -- names that differ are names that are not shared
   module _ (name : A → ℕ) where
-    abbrev pub shared : A → A → Bool
-    shared x y = not (eqb (name x) 0) && eqb (name x) (name y)
-
     other : (b e : Bool) → not (not b && e) ≡ (b || not e)
     other true e = refl
     other false e = refl
 
-    pub names_shared : (l : List A) → pairwise (λ x y. not (shared x y)) l ≡ pairwise (other_name name) l
+    pub names_shared : (l : List A) → pairwise (λ x y. not (shared name x y)) l ≡ pairwise (other_name name) l
     unfolding pairwise
     names_shared [] = refl
     names_shared (x ∷ l) =
-        rw (every_same (λ y. not (shared x y)) (other_name name x) (λ y. other (eqb (name x) 0) (eqb (name x) (name y))) l)
+        rw (every_same (λ y. not (shared name x y)) (other_name name x) (λ y. other (eqb (name x) 0) (eqb (name x) (name y))) l)
         (ap (λ (b : Bool). every (other_name name x) l && b) (names_shared l))
+
+module _ {A : Type 0} (name : A → ℕ) (x : A) (l : List A) where
+  pub unnamed_shares : name x ≡ 0 → any (shared name x) l ≡ false
+  unnamed_shares e = none_any (shared name x) (λ y. rw (eq-eqb (name x) 0 e) refl) l
+
+  pub named_shares : (name x ≡ 0 → ⊥) → any (λ y. eqb (name x) (name y)) l ≡ any (shared name x) l
+  unfolding any
+  named_shares n = go l
+    where
+      go : (k : List A) → any (λ y. eqb (name x) (name y)) k ≡ any (shared name x) k
+      go [] = refl
+      go (y ∷ k) = rw (ne_eqb (name x) 0 n) (ap (λ (b : Bool). eqb (name x) (name y) || b) (go k))
+
+pub ruleset sharing = (unnamed_shares, named_shares)
 
 -- an area that is nowhere meets none
 pub nowhere_meets : (a : Area) → nowhere a ≡ true → (b : Area) → overlap a b ≡ false

@@ -1,9 +1,9 @@
 // What is found in the slots of a kind.
 ghost use Rattle.std.specs.Prelude.{◌≡◌, ◌<◌, ◌≤◌, eqb, get_or};
 ghost use Rattle.manager.specs.Record.{slots, generations, unspent, object_of, id_of};
-ghost use Rattle.manager.specs.Lists.{index_of, pairwise};
+ghost use Rattle.manager.specs.Lists.{any, index_of, pairwise};
 ghost use Rattle.manager.specs.Sound.{other_name, sound_names};
-ghost use Rattle.objects.specs.Slots.{live, below};
+ghost use Rattle.objects.specs.Slots.{live, below, shared};
 
 use crate::slot::Slot;
 use crate::{id_of, slot_of};
@@ -40,13 +40,28 @@ pub fn id_at<T: Slot>(d: &Manager, slot: usize) -> u32
     id_of(slot as u32, T::slots(d)[slot].generation()) as u32
 }
 
+// Whether one of some objects has a name.
+fn has_name<T: Slot>(all: &[T], name: u32) -> bool
+    ensures { result ≡ any (λ x. eqb name (T.name x)) all.now }
+{
+    all.iter().any(|x| name == x.name())
+}
+
+// Whether an object has a name, and one of others the same.
+#[tactic(auto, using(crate::proofs::Pairs::sharing))]
+fn shares_name<T: Slot>(x: &T, others: &[T]) -> bool
+    ensures { result ≡ any (shared T.name x.now) others.now }
+{
+    x.name() != 0 && has_name(others, x.name())
+}
+
 // Whether none of some objects has a name that one before it has.
 fn differ<T: Slot>(all: &[T]) -> bool
     ensures { result ≡ pairwise (other_name T.name) all.now }
 {
     let mut rest = all;
     while let Some((x, behind)) = rest.split_first() {
-        if behind.iter().any(|y| x.shares_name(y)) {
+        if shares_name(x, behind) {
             return false;
         }
         rest = behind;

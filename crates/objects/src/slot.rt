@@ -1,5 +1,5 @@
 // What regions and partitions have in common: each is an object that is kept in a slot of the record.
-ghost use Rattle.std.specs.Prelude.{◌≡◌, ℕ, ◌&&◌, not, eqb, List, length, refl};
+ghost use Rattle.std.specs.Prelude.{◌≡◌, ℕ, List, length, refl};
 ghost use Rattle.manager.specs.Record.{slots, has_id, unspent, emptied_region, emptied_partition, with_region, with_partition};
 ghost use Rattle.manager.specs.Region.{area_of};
 ghost use Rattle.manager.specs.declared.Area.{Area};
@@ -60,13 +60,6 @@ pub trait Slot: Copy {
         ensures { result ≡ unspent (name self.now) (generation self.now) }
     {
         self.name() == 0 && self.generation() < Manager::GENERATIONS
-    }
-
-    // Whether this has a name, and another the same.
-    final fn shares_name(&self, other: &Self) -> bool
-        ensures { result ≡ (not (eqb (name self.now) 0) && eqb (name self.now) (name other.now)) }
-    {
-        self.name() != 0 && self.name() == other.name()
     }
 }
 

@@ -1,6 +1,6 @@
 use Rattle.std.proofs.Common.{◌≡◌, not, length}
 use Rattle.manager.specs.Lists.{pairwise}
-use Rattle.objects.proofs.Pairs.{shared}
+use Rattle.objects.specs.Slots.{shared}
 use Rattle.objects.proofs.found.differ.Given as goal
 
 abbrev pub invariant-loop-x : goal.invariant-loop-x
