@@ -1,5 +1,6 @@
 // The directives for C and Rust to call: include/steepleclay.h says how, and `firmware_c` has the symbols. The caller keeps the manager record
 // as words (`state`), lends the memory, and gets the answer in words. A gauge is kept in words of its own.
+// The C interface needs this form: choices are numbers, and what the caller keeps, lends and gets are words, passed one by one.
 #![tactic(auto)]
 
 mod answer;

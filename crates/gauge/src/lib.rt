@@ -22,7 +22,7 @@ pub enum Alarm {
     Outside(f64, f64),
 }
 
-// What a reading answers, with the gauge after it.
+// What a reading answers, with the gauge after it. No Result: the theorems (`answers`, `unchanged`) say what a refusal leaves in it.
 #[derive(Clone, Copy)]
 pub struct Reading {
     pub gauge: Gauge,
