@@ -80,10 +80,8 @@ fn join(map: &mut [u32], half: usize)
     ensures { map.new ≡ draw (join (decode (take half map.old)) (decode (drop half map.old))) }
 {
     let size = half as u32 * 2;
-    if map[0] == size {
-        if map[half] == size {
-            map[0] = size * 2;
-            map[half] = 0;
-        }
+    if map[0] == size && map[half] == size {
+        map[0] = size * 2;
+        map[half] = 0;
     }
 }
