@@ -48,6 +48,8 @@ module _ (m : List ℕ) (a n₀ at₀ : ℕ) where
     pub seek_none : n ≤ 0 → false ≡ meets m a n₀ at₀
     seek_none h = meet_none m a n at h ∙ v.rest
 
+pub ruleset seeking = (seek_start, seek_found, seek_next, seek_none)
+
 -- the stores
 module _ (m : List ℕ) (p : Partition) where
   pub get_last : next_of m p.front ≡ 0 → link m p.front 0 0 ≡ after_get m p

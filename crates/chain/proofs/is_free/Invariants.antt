@@ -1,6 +1,8 @@
-use Prim.Native.Nat.{◌-◌}
 use Rattle.chain.proofs.Laws.{Seeking}
 use Rattle.chain.proofs.is_free.Given as goal
 
-abbrev pub invariant-loop : goal.invariant-loop
-invariant-loop l = Seeking l.mem l.a l.fn.p.free l.fn.p.front (l.end - l.counter) l.at
+abbrev pub invariant-loop-left : goal.invariant-loop-left
+invariant-loop-left l = Seeking l.mem l.a l.initial.left l.initial.at l.left l.at
+
+abbrev pub decreases-loop-left : goal.decreases-loop-left
+decreases-loop-left l = l.left
