@@ -1,16 +1,15 @@
 -- Why a held segment can be read and written in place: it lies in the memory, words copied over the front of a part are a run of stores
 -- into the whole, and each exit of the code is one of the definition. Assumes nothing.
-use Prim.Native.Nat.{ℕ, ◌+◌, ◌-◌, ◌*◌, ◌/◌, ◌%◌, ◌^◌, ◌≤◌, ◌<◌}
+use Prim.Native.Nat.{ℕ, ◌+◌, ◌*◌, ◌/◌, ◌%◌, ◌^◌, ◌≤◌, ◌<◌}
 use mathlib.Core.Path.{◌≡◌, refl, sym, ap, subst⁻¹, ◌∙◌}
 use mathlib.Core.Bool.{Bool, true, false, cond}
-use mathlib.Core.List.{List, [], ◌∷◌, ◌++◌, append_assoc, append-nil}
+use mathlib.Core.List.{List, ◌∷◌, ◌++◌, append_assoc}
 use native.Mathlib.Omega.{arith}
-use native.Mathlib.Numerals.{add-one}
 use native.Mathlib.Nat.{add-mul, div-add-mod', le_of_lt, lt_of_le_of_lt, mul-le-mul_left, mul-le-mul_right, mul-lt-mul_of_pos_right, pos_of_ne-zero}
 use borrow.Author.Tests.{eqb-true, eqb-false}
-use lib.ListN.{length, take, drop, set, get_or, length-drop, drop_of_length-le}
+use lib.ListN.{length, take, drop}
 use lib.Pow.{pow_pos, pow-add}
-use lib.Seq.{sets, sets-eq, drop-cons, drop-drop, take_all}
+use lib.Seq.{sets, sets-eq, drop-drop}
 use Rattle.arith.proofs.Laws.Layout.{count_end}
 use Rattle.manager.specs.Access.{words_in}
 use borrow.Rule.Slice.PartMut.{put_mid}
@@ -22,17 +21,11 @@ use Rattle.manager.specs.Record.{region_of}
 use Rattle.map.specs.Word.{held_word_at}
 use Rattle.map.proofs.Word.{held_told}
 use Rattle.manager.specs.Region.{dead, kind, layout_of, pages_of, first_page_of, address_of, page_at, starts_page, segments, held_at}
-use Rattle.manager.specs.Result.{Result, Performs, answer_of, checked, refused, replied, done}
-use Rattle.manager.proofs.Laws.Result.{performs_by, performs_reply}
 use Rattle.manager.specs.Sound.{sound}
 use Rattle.manager.specs.Sound.{Sited}
 use Rattle.manager.proofs.Laws.Sound.{sited, sized_segments, total_segments}
-use Rattle.arith.specs.declared.Layout.{Layout}
-use Rattle.manager.specs.declared.Answer.{Answer}
 use Rattle.manager.specs.declared.Manager.{Manager}
 use Rattle.manager.specs.declared.Region.{Region}
-use Rattle.manager.specs.declared.Status.{Status}
-use Rattle.manager.specs.declared.Status.TheVariants.{Successful, InvalidId, InvalidSize, InvalidAddress, InternalError}
 
 -- the product of two numbers of k bits has at most k + k
 pub below : (k : ℕ) {a b : ℕ} → a < 2 ^ k → b < 2 ^ k → a * b < 2 ^ (k + k)

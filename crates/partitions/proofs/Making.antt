@@ -1,12 +1,11 @@
 -- Making a partition: what each step of the code shows, over plain variables. The loop that chains the buffers has done so up to
 -- number k, and what is left of `link_all` from there gives the whole. Assumes nothing.
-use Prim.Native.Nat.{ℕ, zero, suc, ◌+◌, ◌-◌, ◌*◌, ◌/◌, ◌%◌, ◌≤◌, ◌<◌}
-use mathlib.Core.Path.{◌≡◌, refl, ap, sym, ◌∙◌}
-use mathlib.Core.Bool.{Bool, true, false, cond}
+use Prim.Native.Nat.{ℕ, zero, suc, ◌+◌, ◌-◌, ◌*◌, ◌≤◌, ◌<◌}
+use mathlib.Core.Path.{◌≡◌, refl, ◌∙◌}
+use mathlib.Core.Bool.{true, false, cond}
 use mathlib.Core.List.{List}
 use mathlib.Core.Logic.{⊎_elim}
 use native.Mathlib.Omega.{arith}
-use native.Mathlib.Nat.{div-mul-le_self, mul-le-mul_right, lt-div-mul-add}
 use lib.ListN.{length, get_or}
 use Rattle.manager.specs.Record.{generations, no_partition}
 use Rattle.manager.specs.Sound.{sound, sound_partition}
@@ -17,13 +16,10 @@ use Rattle.manager.proofs.Laws.Sound.{sound_partitions, generation_most}
 use Rattle.manager.proofs.Laws.Partition.Live.{partition_generation_lem, sound_most}
 use Rattle.manager.specs.declared.Manager.{Manager}
 use Rattle.std.proofs.lemmas.List.{get_or_past}
-use Rattle.std.specs.declared.option.Option.{Option}
-use Rattle.std.specs.declared.option.Option.TheVariants.{None, Some}
 use lib.Dec.{eqb, ltb}
 use borrow.Author.Tests.{eq-eqb, ne_eqb, lt-ltb, le-ltb, ltb-true, ltb-false}
 use Rattle.manager.specs.Partition.{buffers, buffer_at, link, link_all}
 use Rattle.manager.proofs.Laws.Distinct.{same_or_not}
-use Rattle.manager.proofs.Laws.Partition.Created.{link_length, before_address}
 use Rattle.manager.specs.declared.Partition.{Partition}
 
 -- ONE BUFFER OF THE CHAIN: what is left of `link_all` behind it is what was left at it

@@ -5,7 +5,6 @@ use mathlib.Core.Bool.{true, false}
 use mathlib.Core.List.{List}
 use native.Mathlib.Omega.{arith}
 use native.Mathlib.Nat.{div-le_self}
-use lib.ListN.{length}
 use borrow.Author.Tests.{eqb-false}
 use Rattle.manager.specs.Record.{generations, partition_of}
 use Rattle.manager.specs.Sound.{sound, live_partition}

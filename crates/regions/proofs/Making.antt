@@ -1,16 +1,15 @@
 -- What the checks of create leave: the new region lies in the memory, and its slot has a generation. Assumes nothing.
-use Prim.Native.Nat.{ℕ, ◌+◌, ◌*◌, ◌≤◌, ◌<◌}
-use mathlib.Core.Path.{◌≡◌, refl, sym, ◌∙◌}
-use mathlib.Core.Bool.{Bool, true, false, cond, ◌||◌}
+use Prim.Native.Nat.{ℕ, ◌+◌, ◌*◌, ◌≤◌}
+use mathlib.Core.Path.{◌≡◌}
+use mathlib.Core.Bool.{true, false}
 use mathlib.Core.List.{List}
 use native.Mathlib.Omega.{arith}
-use native.Mathlib.Nat.{pos_of_ne-zero}
 use lib.ListN.{length, get_or}
-use lib.Dec.{eqb, ltb}
+use lib.Dec.{ltb}
 use borrow.Author.Tests.{ltb-true, ltb-false}
 use Rattle.arith.specs.Round.{round_up}
 use Rattle.arith.proofs.Laws.Round.{round_ge, round_least}
-use Rattle.manager.specs.Region.{layout_of, pages_of, opened}
+use Rattle.manager.specs.Region.{pages_of}
 use Rattle.manager.specs.Regions.{new_region}
 use Rattle.manager.specs.Sound.{sound, sound_region, Laid}
 use Rattle.manager.proofs.Laws.Sound.{sound_words, sound_regions, generation_most, region_generation_lem}
@@ -19,8 +18,6 @@ use Rattle.manager.specs.declared.Region.{Region}
 use Rattle.manager.specs.declared.Order.{Order}
 use Rattle.manager.specs.Record.{generations, no_region}
 use Rattle.manager.specs.Regions.{region_generation}
-use Rattle.std.specs.declared.option.Option.{Option}
-use Rattle.std.specs.declared.option.Option.TheVariants.{None, Some}
 use Rattle.manager.proofs.Laws.Appended.{by_case}
 use Rattle.manager.proofs.Laws.Lists.{every_at}
 use Rattle.std.proofs.lemmas.List.{get_or_past}

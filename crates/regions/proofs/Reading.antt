@@ -1,23 +1,19 @@
 -- What the checks of delete and information leave: the region that an id names is a live one of sound records. Assumes nothing.
 use Prim.Native.Nat.{ℕ, ◌≤◌, ◌<◌}
-use mathlib.Core.Path.{◌≡◌, refl, sym, ◌∙◌}
-use mathlib.Core.Bool.{Bool, true, false, not, cond}
+use mathlib.Core.Path.{◌≡◌, refl, sym}
+use mathlib.Core.Bool.{true, false, not}
 use mathlib.Core.List.{List}
 use native.Mathlib.Omega.{arith}
 use lib.ListN.{length}
 use borrow.Author.Tests.{eqb-false}
-use Rattle.manager.specs.Record.{slots, generations, region_of}
+use Rattle.manager.specs.Record.{generations, region_of}
 use Rattle.manager.specs.Map.{tiled}
-use Rattle.manager.specs.Region.{dead, layout_of, words_at, map_words, any_held}
+use Rattle.manager.specs.Region.{dead, layout_of, words_at, any_held}
 use Rattle.map.specs.Word.{one_free}
 use Rattle.map.proofs.Word.{free_of}
-use Rattle.objects.proofs.Laws.{unmapped}
-use Rattle.manager.specs.Regions.{region_generation}
-use Rattle.manager.specs.Sound.{sound, sound_region, Sited}
-use Rattle.manager.proofs.Laws.Sound.{generation_live, region_generation_lem, region_most, sound_slot, tiled_map, live_sited, map_long, pages_few}
-use Rattle.arith.specs.declared.Layout.{Layout}
+use Rattle.manager.specs.Sound.{sound, Sited}
+use Rattle.manager.proofs.Laws.Sound.{generation_live, region_generation_lem, sound_slot, tiled_map, live_sited, map_long, pages_few}
 use Rattle.manager.specs.declared.Manager.{Manager}
-use Rattle.manager.specs.declared.Region.{Region}
 
 module _ (m : List ℕ) (d : Manager) (ok : sound m d ≡ true) (id : ℕ) (f : dead (region_of d id) ≡ false) where
   -- its generation can rise

@@ -1,5 +1,5 @@
 -- The record and the notices that serving or a tick leaves. Assumes nothing.
-use Rattle.std.specs.Prelude.{ℕ, ◌+◌, ◌≡◌, List, length, set, take}
+use Rattle.std.specs.Prelude.{◌+◌, ◌≡◌, List, length, set, take}
 use Rattle.manager.specs.Record.{tasks, no_notice}
 use Rattle.manager.specs.Result.{pad}
 use Rattle.manager.specs.declared.Manager.{Manager}

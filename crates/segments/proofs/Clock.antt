@@ -1,34 +1,25 @@
 -- The record as a tick leaves it: every waiter of it asks for something, and there are places for the notices of all who still wait.
 -- Assumes nothing.
 use Prim.Native.Nat.{ℕ, suc, ◌+◌, ◌-◌, ◌≤◌}
-use mathlib.Core.Path.{◌≡◌, refl, sym, ap, ◌∙◌}
-use mathlib.Core.Bool.{Bool, true, false, cond, not}
-use mathlib.Core.List.{List, [], ◌∷◌, ◌++◌}
+use mathlib.Core.Path.{◌≡◌, refl, ap, ◌∙◌}
+use mathlib.Core.Bool.{Bool, true, cond, not}
+use mathlib.Core.List.{List, [], ◌∷◌}
 use native.Mathlib.Omega.{arith}
 use lib.ListN.{length, replicate}
 use lib.Dec.{eqb}
-use borrow.Author.Tests.{not-true, not-false}
 use Rattle.manager.specs.Record.{slots, tasks, no_waiter}
 use Rattle.manager.specs.Lists.{every}
-use Rattle.manager.specs.Result.{Performs, checked, refused}
 use Rattle.manager.specs.Queue.{staying, leaving, aged, expired, after_tick}
-use Rattle.manager.specs.Serve.{serve_all, serve_after}
-use Rattle.manager.specs.Regions.{tick}
 use Rattle.manager.specs.Sound.{sound, Sites}
 use Rattle.manager.specs.declared.Manager.{Manager}
 use Rattle.manager.specs.declared.Waiter.{Waiter}
-use Rattle.manager.specs.declared.Notice.{Notice}
-use Rattle.manager.specs.declared.Answer.{Answer}
-use Rattle.manager.specs.declared.Status.TheVariants.{InternalError}
 use Rattle.manager.proofs.Laws.Lists.{and_first, and_second}
 use Rattle.manager.proofs.Laws.Appended.{by_case, and_both, every_behind, count_append, count_none, count_most}
-use Rattle.manager.proofs.Laws.Result.{performs_replied}
 use Rattle.manager.proofs.Laws.Sites.{sound_sites, sites_queue}
-use Rattle.objects.proofs.Laws.{unmapped}
 use Rattle.reply.specs.Notices.{Notices}
 use Rattle.reply.specs.declared.Noticed.{Noticed}
 use Rattle.manager.proofs.Laws.Queue.{stay_length, length_pad}
-use Rattle.segments.specs.Serving.{asks, Asking, used, Ready, Serves}
+use Rattle.segments.specs.Serving.{asks, Asking, used, Ready}
 use Rattle.segments.proofs.Serve.{sound_asking, ready_told}
 
 -- ---- the queue after a tick

@@ -1,6 +1,6 @@
 -- Get, past the checks of its size and its id: the checks by the region and those of a wait come to their verdicts, then the pages are taken,
 -- or the answer is 13, or the task waits. Assumes nothing.
-use Rattle.std.specs.Prelude.{Ok, Err, Option, None, Some}
+use Rattle.std.specs.Prelude.{Ok, Err, Option, None}
 use Rattle.std.specs.declared.result.Result.{Result}
 use Prim.Native.Nat.{ℕ, ◌≤◌}
 use mathlib.Core.Path.{◌≡◌, refl, sym, ap, ◌∙◌}

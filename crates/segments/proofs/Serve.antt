@@ -4,15 +4,14 @@
 use Rattle.std.specs.Prelude.{Option, None, Some}
 use Prim.Native.Nat.{ℕ, zero, suc, ◌+◌, ◌-◌, ◌≤◌, ◌<◌}
 use mathlib.Core.Path.{◌≡◌, refl, sym, ap, ◌∙◌}
-use mathlib.Core.Bool.{Bool, true, false, cond, not, ◌&&◌, ◌||◌}
-use mathlib.Core.List.{List, [], ◌∷◌, ◌++◌}
+use mathlib.Core.Bool.{Bool, true, false, cond, not, ◌||◌}
+use mathlib.Core.List.{List, [], ◌++◌}
 use native.Mathlib.Omega.{arith}
-use lib.ListN.{length, get_or, set, take}
+use lib.ListN.{length, get_or, set}
 use lib.Dec.{eqb, leb, ltb}
 use borrow.Author.Tests.{lt-ltb, le-ltb, ltb-true, leb-true, not-true}
 use Rattle.manager.proofs.Laws.Region as region
 use Rattle.manager.specs.Record.{tasks, no_waiter, no_notice, region_of}
-use Rattle.manager.specs.Lists.{count, index_of}
 use Rattle.manager.proofs.Laws.Lists.{and_first, and_second, every_at, index_passes}
 use Rattle.manager.specs.Region.{any_held, address_of, pages_asked, need_of, placed, taken}
 use Rattle.manager.specs.Queue.{first_of, waits_for, dequeue}

@@ -1,5 +1,5 @@
 -- `create`: the new partition lies in the memory, and its id fits. Assumes nothing.
-use Rattle.std.proofs.Common.{sym, ◌∙◌, arith, rules, true, false, ◌≡◌, ◌<◌, ◌≤◌, ◌+◌}
+use Rattle.std.proofs.Common.{sym, ◌∙◌, arith, true, ◌≡◌, ◌<◌, ◌+◌}
 use Rattle.manager.specs.Sound.{sound}
 use Rattle.objects.proofs.Searched.{place_within}
 use Rattle.partitions.proofs.Making.{area_ends, generation_is_small}

@@ -1,5 +1,5 @@
 -- `create`: the new region lies in the memory, and its id fits. Assumes nothing.
-use Rattle.std.proofs.Common.{sym, ◌∙◌, arith, rules, true, false, ◌≡◌}
+use Rattle.std.proofs.Common.{sym, ◌∙◌, arith, true, ◌≡◌}
 use Rattle.manager.specs.Sound.{sound}
 use Rattle.objects.proofs.Searched.{place_within}
 use Rattle.regions.proofs.Making.{new_laid, generation_is_small}

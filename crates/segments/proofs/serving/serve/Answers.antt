@@ -1,6 +1,4 @@
 -- `serve`: each turn is one of the definition, and the last turn is where the definition ends. Assumes nothing.
-use Rattle.std.proofs.Common.{rules, ap, ◌∙◌}
-use Rattle.objects.proofs.Laws.{unmapped}
 use Rattle.segments.proofs.Serve.{serve_start, serve_stop, serve_room, serve_more, serve_less}
 use Rattle.segments.proofs.serving.serve.Goals as goal
 

@@ -1,5 +1,5 @@
 -- `serve_slot`: an empty slot serves nobody, and a live one is served under its id. Assumes nothing.
-use Rattle.std.proofs.Common.{rules, refl}
+use Rattle.std.proofs.Common.{refl}
 use Rattle.segments.proofs.Rounds.{slot_none, slot_sited, slot_region, slot_served}
 use Rattle.segments.proofs.serving.serve_slot.Goals as goal
 

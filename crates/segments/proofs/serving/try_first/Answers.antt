@@ -2,7 +2,6 @@
 use Rattle.std.proofs.Common.{rules, refl, sym, ◌∙◌}
 use Rattle.objects.proofs.Laws.{unmapped}
 use Rattle.objects.proofs.Searched.{place_missing, place_found, place_within}
-use Rattle.segments.proofs.Lend.{taken_address}
 use Rattle.segments.proofs.Serve.{turn_none, turn_asks, turn_no, turn_yes}
 use Rattle.segments.proofs.serving.try_first.Goals as goal
 
