@@ -65,7 +65,8 @@ pub(crate) fn create(
     ensure(size % 4 == 0, Status::InvalidSize)?;
     let meets = objects::overlaps(d, Area { start, length });
     ensure(!meets, Status::InvalidAddress)?;
-    let slot = objects::unspent::<Partition>(d).ok_or(Status::TooMany)?;
+    let vacant = objects::unspent::<Partition>(d);
+    let slot = vacant.ok_or(Status::TooMany)?;
     let p = new_partition(d.partitions[slot].generation, name, start, length, size);
     link_all(mem, p);
     let id = objects::id_at::<Partition>(d, slot);

@@ -18,7 +18,7 @@ link_all-requires c =
     rw c.new_partition-p.ensures (z, e)
 
 pub id_at-id-requires-clause-within : goal.id_at-id-requires-clause-within
-id_at-id-requires-clause-within c = place_within _ _ _ (sym c.in_ok-slot.ensures.ok_part ∙ c.unspent.ensures)
+id_at-id-requires-clause-within c = place_within _ _ _ (sym c.in_ok-slot.ensures.ok_part ∙ c.unspent-vacant.ensures)
 
 pub id_at-id-requires-clause-generation : goal.id_at-id-requires-clause-generation
 id_at-id-requires-clause-generation c =
