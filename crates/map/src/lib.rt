@@ -16,7 +16,8 @@ use arith::Layout;
 use manager::{Need, Order, Region};
 pub use walk::{Segment, Segments};
 
-// Whether a region of an order is one by halves; else it is of pages.
+// Whether a region of an order is one by halves; else it is of pages. The functions below ask it, each at its one step that differs: an
+// order is known at run time, and a type for each kind, with these functions as its methods, would be chosen by the same question.
 pub fn by_halves(o: Order) -> bool
     ensures { result ≡ by_halves o }
 {
@@ -141,8 +142,8 @@ pub fn any_held(map: &[u32]) -> bool
     map.iter().any(|word| word % 2 == 1)
 }
 
-// The pages that word p of a map says, where it is marked as held; else 0. In a sound map that is the held segment which starts there,
-// and no other word has to be read.
+// The pages that word p of a map says, where it is marked as held; else 0: a marked word may say no page, so that an `Option` would have
+// its number tested all the same. In a sound map that is the held segment which starts there, and no other word has to be read.
 pub fn held_word(map: &[u32], p: usize) -> u32
     ensures { result ≡ held_word map.now p }
 {

@@ -36,6 +36,7 @@ pub fn ident_partition(mem: &[u32], d: Manager, name: u32) -> Answer
     reply::answer(d, ident(mem, &d, name))
 }
 
+// Its checks. One function for regions and partitions would require what each proves here of its kind's generations, and be no shorter.
 #[tactic(auto, unfolding(manager::specs::Partitions::ident_partition, manager::specs::Result::checked))]
 fn ident(mem: &[u32], d: &Manager, name: u32) -> Result<u32, Status>
     ensures { ident_partition mem.now d.now name ≡ concluded mem.now d.now result }

@@ -134,23 +134,18 @@ fn expired(w: Waiter) -> Notice
 pub fn after_tick(d: Manager) -> Noticed
     ensures { Notices (after_tick d) (leaving d.waiters) result }
 {
-    // No heap: the places of both arrays are counted, and those that stay unused are all zeros in the record and in the answer.
+    // No heap: the places of the array are counted, and those that stay unused are all zeros in the record.
     let mut kept = [Waiter::default(); Manager::TASKS];
-    let mut told = reply::no_notices();
+    let mut told = Noticed::nobody(d);
     let mut k: usize = 0;
-    let mut n: usize = 0;
     for x in &d.waiters {
         if times_out(*x) {
-            told[n] = expired(*x);
-            n += 1;
+            told.tell(expired(*x));
         } else {
             kept[k] = aged(*x);
             k += 1;
         }
     }
-    Noticed {
-        manager: Manager { waiters: kept, ..d },
-        notices: told,
-        count: n,
-    }
+    told.manager.waiters = kept;
+    told
 }

@@ -10,7 +10,7 @@ ghost use Rattle.reply.specs.Outcomes.{concluded, answer_with};
 
 use manager::{Answer, Information, Manager, Notice, Status};
 
-// The manager record, and the notices that serving or a tick leaves: so many, and unused places are zero.
+// The manager record, and the notices that serving or a tick leaves: so many, and unused places are zero. No heap: an array and a count.
 #[derive(Clone, Copy)]
 pub struct Noticed {
     pub manager: Manager,

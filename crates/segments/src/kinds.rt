@@ -1,5 +1,6 @@
-// The stores in a map by the kind of its region: of pages, or by halves. No other function of the crate asks which it is. These functions
-// have exactly the map's words, and need them sound.
+// The stores in a map by the kind of its region: of pages, or by halves. No other function of the crate asks which it is: an order is
+// known at run time, and a type for each kind would have to be chosen by the same question. These functions have exactly the map's words,
+// and need them sound.
 ghost use Rattle.std.specs.Prelude.{◌≡◌, true, ◌≤◌};
 ghost use Rattle.manager.specs.Kind.{allocate};
 ghost use Rattle.manager.specs.Map.{decode, draw};
