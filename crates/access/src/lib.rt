@@ -19,7 +19,7 @@ pub fn read_segment<'a>(mem: &'a [u32], d: Manager, id: u32, address: u32) -> &'
 {
     match held_words(mem, &d, id, address) {
         Ok(words) => &mem[words],
-        Err(_) => &[],
+        Err(_) => &mem[..0],
     }
 }
 

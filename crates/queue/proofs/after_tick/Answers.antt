@@ -10,13 +10,13 @@ loop-x-preserved c =
     let v = c.loop-x.invariant in
     elim c.if-times_out.branch [
       | then-times_out w ↦ (
-          rw (w.kept-is, w.told-is, w.k-is, w.tell.ensures) (tick_leave _ _ _ _ _ _ v.0 c.loop-x-test.true (eqb-true _ _ (sym c.times_out.ensures ∙ w.if-times_out.true)) _ w.expired.ensures),
-          rw (w.told-is, w.tell.ensures) v.1,
-        )
+        rw (w.kept-is, w.told-is, w.k-is, w.tell.ensures) (tick_leave _ _ _ _ _ _ v.0 c.loop-x-test.true (eqb-true _ _ (sym c.times_out.ensures ∙ w.if-times_out.true)) _ w.expired.ensures),
+        rw (w.told-is, w.tell.ensures) v.1,
+      )
       | else-times_out w ↦ (
-          rw (w.kept-is, w.told-is, w.k-is) (tick_stay _ _ _ _ _ _ v.0 c.loop-x-test.true (eqb-false _ _ (sym c.times_out.ensures ∙ w.if-times_out.false)) _ w.aged.ensures),
-          rw w.told-is v.1,
-        )
+        rw (w.kept-is, w.told-is, w.k-is) (tick_stay _ _ _ _ _ _ v.0 c.loop-x-test.true (eqb-false _ _ (sym c.times_out.ensures ∙ w.if-times_out.false)) _ w.aged.ensures),
+        rw w.told-is v.1,
+      )
     ]
 
 pub returns : goal.returns
