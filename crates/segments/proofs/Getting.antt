@@ -25,6 +25,7 @@ use Rattle.manager.specs.declared.Status.{Status}
 use Rattle.segments.specs.Lending.{Takes}
 use Rattle.segments.proofs.Lend.{none_taken}
 use Rattle.segments.specs.Verdicts.{verdict_of, ask_checks}
+use Rattle.segments.specs.declared.site.Site.{Site}
 use Rattle.segments.proofs.Live.{live}
 
 abbrev pub on_verdict : Result (Unit {0}) Status → (Status → Left) → Left → Left
@@ -63,14 +64,18 @@ module _ (m : List ℕ) (d : Manager) (ok : sound m d ≡ true) (w : Waiter) (z 
   pub some_asked : Sited m r × (1 ≤ n.pages)
   some_asked = (region_live, rw en (asked_some m r region_live w.size (pos_of_ne-zero z)))
 
-  module _ (l : Layout) (el : l ≡ layout_of r) (u : Unit {0}) (a : Ok u ≡ verdict_of (ask_checks r l n w.alignment)) where
+  module _ (s : Site) (es : s.region ≡ r) (u : Unit {0}) (a : Ok u ≡ verdict_of (ask_checks s.region s.layout n w.alignment)) where
     all_checks : Gets ≡ checked (ask_checks r (layout_of r) n w.alignment ++ wait_checks d wait w.task w.priority) (refused m d) (Placed m d r n wait w)
     unfolding get_segment checked
     all_checks = let g : dead r ≡ false = rw e.0 e.1 in rw (ok, ne_eqb _ _ z, ← e.0, g, en)
 
     gets : Gets ≡ on_verdict (verdict_of (wait_checks d wait w.task w.priority)) (refused m d) (Placed m d r n wait w)
     gets =
-        let h : verdict_of (ask_checks r (layout_of r) n w.alignment) ≡ Ok tt = ap (λ (x : Layout). verdict_of (ask_checks r x n w.alignment)) (sym el) ∙ sym a in
+        let x : s.layout ≡ layout_of r = s.laid ∙ ap layout_of es in
+        let h : verdict_of (ask_checks r (layout_of r) n w.alignment) ≡ Ok tt =
+        ap (λ (q : Region). verdict_of (ask_checks q (layout_of r) n w.alignment)) (sym es)
+        ∙ ap (λ (l : Layout). verdict_of (ask_checks s.region l n w.alignment)) (sym x)
+        ∙ sym a in
         all_checks
         ∙ checked_first (ask_checks r (layout_of r) n w.alignment) (wait_checks d wait w.task w.priority) (refused m d) (Placed m d r n wait w)
         ∙ rw h (checked_all (wait_checks d wait w.task w.priority) (refused m d) (Placed m d r n wait w))
@@ -79,6 +84,8 @@ module _ (m : List ℕ) (d : Manager) (ok : sound m d ≡ true) (w : Waiter) (z 
     get_refused s g = gets ∙ rw (← g)
 
     -- there is no room
-    pub get_none : (v : Unit {0}) → Ok v ≡ verdict_of (wait_checks d wait w.task w.priority) → (out : List ℕ) (p : Option ℕ) → Takes r n m out p → p ≡ None
+    pub get_none : (v : Unit {0}) → Ok v ≡ verdict_of (wait_checks d wait w.task w.priority) → (out : List ℕ) (p : Option ℕ) → Takes s.region n m out p → p ≡ None
         → Gets ≡ unplaced out d wait w
-    get_none v g out p t q = gets ∙ rw (← g, ← t.place, q, none_taken m r region_live n out p t q)
+    get_none v g out p t q =
+        let y : Takes r n m out p = rw es at t in
+        gets ∙ rw (← g, ← y.place, q, none_taken m r region_live n out p y q)

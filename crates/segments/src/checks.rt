@@ -5,18 +5,24 @@ ghost use Rattle.manager.specs.Sound.{sound};
 ghost use Rattle.segments.specs.Held.{held_told, Holds};
 ghost use Rattle.segments.specs.Verdicts.{verdict_of, ask_checks};
 
-use arith::Layout;
+use crate::site::Site;
 use manager::{Manager, Need, Region, Status, Wait};
 use reply::ensure;
 
 // Get of a region: an alignment that its kind does not know 11, any other that is not allowed 8, what it could not serve with nothing held 8.
 #[tactic(auto, unfolding(crate::specs::Verdicts::verdict_of))]
-pub(crate) fn may_ask(r: Region, l: Layout, n: Need, alignment: u32) -> Result<(), Status>
-    ensures { result ≡ verdict_of (ask_checks r l n alignment) }
+pub(crate) fn may_ask(s: Site, n: Need, alignment: u32) -> Result<(), Status>
+    ensures { result ≡ verdict_of (ask_checks s.region s.layout n alignment) }
 {
-    ensure(map::aligns(r.order, alignment), Status::NotDefined)?;
-    ensure(map::is_alignment(r.page, alignment), Status::InvalidSize)?;
-    ensure(map::servable(r.order, l, n), Status::InvalidSize)
+    ensure(map::aligns(s.region.order, alignment), Status::NotDefined)?;
+    ensure(
+        map::is_alignment(s.region.page, alignment),
+        Status::InvalidSize,
+    )?;
+    ensure(
+        map::servable(s.region.order, s.layout, n),
+        Status::InvalidSize,
+    )
 }
 
 // Get that may wait: 10, 19, 14. Without waiting, task and priority aren't read.
@@ -38,8 +44,7 @@ pub(crate) fn may_wait(d: &Manager, wait: Wait, task: u32, priority: u32) -> Res
 // A held segment: its region, with that one's layout, and its pages.
 #[derive(Clone, Copy)]
 pub(crate) struct Held {
-    pub(crate) region: Region,
-    pub(crate) layout: Layout,
+    pub(crate) site: Site,
     pub(crate) pages: u32,
 }
 
@@ -51,12 +56,8 @@ pub(crate) fn held_at(mem: &[u32], d: &Manager, id: u32, address: u32) -> Result
     ensures holds { IfOk result (Holds mem.now d.now id address) }
 {
     let region = objects::find::<Region>(d, id).ok_or(Status::InvalidId)?;
-    let layout = map::layout_of(region);
-    let pages = map::held_word_at(mem, layout, region.page, address);
+    let site = Site::of(region);
+    let pages = map::held_word_at(mem, site.layout, site.region.page, address);
     ensure(pages != 0, Status::InvalidAddress)?;
-    Ok(Held {
-        region,
-        layout,
-        pages,
-    })
+    Ok(Held { site, pages })
 }

@@ -8,6 +8,7 @@ mod kinds;
 mod lending;
 mod pages;
 mod serving;
+mod site;
 
 ghost use Rattle.std.specs.Prelude.{◌≡◌};
 ghost use Rattle.manager.specs.Result.{Performs};
@@ -18,6 +19,7 @@ ghost use Rattle.segments.specs.Serving.{Fresh};
 
 use manager::{Answer, Manager, Region, Status, Wait, Waiter};
 use reply::{Noticed, Refusal, ensure};
+use site::Site;
 
 // Get: size 0 (8), 4, an alignment by halves 11, any other that is not allowed 8, what the region with nothing held could not serve 8; if
 // waiting is allowed 10, 19, 14; then the search. The value is the segment's address.
@@ -54,11 +56,11 @@ fn get(mem: &mut [u32], d: &mut Manager, w: Waiter, wait: Wait) -> Result<u32, S
     ensure(soundness::is_sound(mem, *d), Status::InternalError)?;
     ensure(w.size != 0, Status::InvalidSize)?;
     let r = objects::find::<Region>(d, w.region).ok_or(Status::InvalidId)?;
-    let l = map::layout_of(r);
     let n = map::need_of(r, w.size, w.alignment);
-    checks::may_ask(r, l, n, w.alignment)?;
+    let s = Site::of(r);
+    checks::may_ask(s, n, w.alignment)?;
     checks::may_wait(d, wait, w.task, w.priority)?;
-    if let Some(p) = lending::take_pages(mem, r, l, n) {
+    if let Some(p) = lending::take_pages(mem, s, n) {
         return Ok(serving::address_of(r, p));
     }
     match wait {
@@ -89,9 +91,9 @@ fn give_back(mem: &mut [u32], told: &mut Noticed, id: u32, address: u32) -> Resu
         soundness::is_sound(mem, told.manager),
         Status::InternalError,
     )?;
-    let s = checks::held_at(mem, &told.manager, id, address)?;
-    lending::release_pages(mem, s.region, s.layout, address);
-    serving::serve(mem, told, id, s.region, s.layout);
+    let h = checks::held_at(mem, &told.manager, id, address)?;
+    lending::release_pages(mem, h.site, address);
+    serving::serve(mem, told, id, h.site);
     Ok(0)
 }
 
@@ -107,8 +109,8 @@ fn measure(mem: &[u32], d: &Manager, id: u32, address: u32) -> Result<u32, Statu
     ensures { segment_size mem.now d.now id address ≡ concluded mem.now d.now result }
 {
     ensure(soundness::is_sound(mem, *d), Status::InternalError)?;
-    let s = checks::held_at(mem, d, id, address)?;
-    Ok(s.pages * s.region.page)
+    let h = checks::held_at(mem, d, id, address)?;
+    Ok(h.pages * h.site.region.page)
 }
 
 // Resize: size 0 (8), 4, 9, 13. The segment has its new size and the region's queue is served, also where the page count stays; the
@@ -138,15 +140,15 @@ fn resize(
         Status::InternalError,
     )?;
     ensure(size != 0, Status::InvalidSize)?;
-    let s = checks::held_at(mem, &told.manager, id, address)?;
-    let value = s.pages * s.region.page;
-    let k = map::pages_asked(s.region, size);
-    if !lending::can_have(mem, s.region, s.layout, address, k) {
+    let h = checks::held_at(mem, &told.manager, id, address)?;
+    let value = h.pages * h.site.region.page;
+    let k = map::pages_asked(h.site.region, size);
+    if !lending::can_have(mem, h.site, address, k) {
         let status = Status::Unsatisfied;
         return Err(Refusal { status, value });
     }
-    lending::resize_pages(mem, s.region, s.layout, address, k);
-    serving::serve(mem, told, id, s.region, s.layout);
+    lending::resize_pages(mem, h.site, address, k);
+    serving::serve(mem, told, id, h.site);
     Ok(value)
 }
 

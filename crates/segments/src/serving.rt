@@ -1,13 +1,13 @@
 // Serving the queue of a region, and of all regions.
 ghost use Rattle.std.specs.Prelude.{◌≡◌, ◌≤◌, ◌<◌};
 ghost use Rattle.manager.specs.Record.{slots, region_of};
-ghost use Rattle.manager.specs.Region.{layout_of, address_of};
+ghost use Rattle.manager.specs.Region.{address_of};
 ghost use Rattle.manager.specs.Serve.{serve, serve_slot, serve_all};
 ghost use Rattle.manager.specs.Sound.{Sited, Sites};
 ghost use Rattle.segments.specs.Serving.{Asking, Ready, Serves, Turns};
 
 use crate::lending;
-use arith::Layout;
+use crate::site::Site;
 use manager::{Manager, Notice, Region, Status};
 use reply::Noticed;
 
@@ -20,29 +20,29 @@ pub(crate) fn address_of(r: Region, p: usize) -> u32
 }
 
 // The first waiter of the region is tried: where there is room, its place in the queue, and its notice.
-fn try_first(mem: &mut [u32], d: &Manager, id: u32, r: Region, l: Layout) -> Option<(usize, Notice)>
-    requires { (Sited mem.old r) × (r ≡ region_of d.now id) × (l ≡ layout_of r) × (Asking d.now) }
-    ensures { Turns mem.old d.now id r mem.new result }
+fn try_first(mem: &mut [u32], d: &Manager, id: u32, s: Site) -> Option<(usize, Notice)>
+    requires { (Sited mem.old s.region) × (s.region ≡ region_of d.now id) × (Asking d.now) }
+    ensures { Turns mem.old d.now id s.region mem.new result }
 {
     let i = queue::first_of(d, id)?;
     let w = d.waiters[i];
-    let n = map::need_of(r, w.size, w.alignment);
-    let p = lending::take_pages(mem, r, l, n)?;
+    let n = map::need_of(s.region, w.size, w.alignment);
+    let p = lending::take_pages(mem, s, n)?;
     let notice = Notice {
         task: w.task,
         status: Status::Successful,
-        address: address_of(r, p),
+        address: address_of(s.region, p),
     };
     Some((i, notice))
 }
 
 // While the first waiter of the region finds room, it leaves the queue with its segment. Behind the notices so far there are places for all
 // who wait.
-pub(crate) fn serve(mem: &mut [u32], told: &mut Noticed, id: u32, r: Region, l: Layout)
-    requires { (Sited mem.old r) × (r ≡ region_of told.old.manager id) × (l ≡ layout_of r) × (Ready told.old) }
-    ensures { (Serves told.old (serve mem.old told.old.manager id) mem.new told.new) × (Sited mem.new r) }
+pub(crate) fn serve(mem: &mut [u32], told: &mut Noticed, id: u32, s: Site)
+    requires { (Sited mem.old s.region) × (s.region ≡ region_of told.old.manager id) × (Ready told.old) }
+    ensures { (Serves told.old (serve mem.old told.old.manager id) mem.new told.new) × (Sited mem.new s.region) }
 {
-    while let Some((i, notice)) = try_first(mem, &told.manager, id, r, l) {
+    while let Some((i, notice)) = try_first(mem, &told.manager, id, s) {
         told.manager = queue::dequeue(told.manager, i);
         told.tell(notice);
     }
@@ -58,7 +58,7 @@ fn serve_slot(mem: &mut [u32], told: &mut Noticed, i: usize)
         return;
     }
     let id = objects::id_at::<Region>(&told.manager, i);
-    serve(mem, told, id, r, map::layout_of(r));
+    serve(mem, told, id, Site::of(r));
 }
 
 // The queues of all regions, one after the other: the lowest slot first.

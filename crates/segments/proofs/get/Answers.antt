@@ -11,7 +11,7 @@ returns-in_err-may_wait c =
     let s : sound a.mem.now a.d.now ≡ true = grind arith in
     let z : a.w.size ≢ 0 = grind arith in
     let f = found a.d.now a.w.region _ c.find.ensures _ c.in_ok-r.ensures.ok_part in
-    let h = get_refused _ _ s a.w z a.wait _ f _ c.need_of-n.ensures _ c.layout_of-l.ensures _ c.in_ok-may_ask.ensures _ c.in_err-may_wait.ensures in
+    let h = get_refused _ _ s a.w z a.wait _ f _ c.need_of-n.ensures c.of-s.result c.of-s.ensures _ c.in_ok-may_ask.ensures _ c.in_err-may_wait.ensures in
     grind (arith, h)
 
 pub take_pages-requires : goal.take_pages-requires
@@ -21,7 +21,7 @@ take_pages-requires c =
     let z : a.w.size ≢ 0 = grind arith in
     let f = found a.d.now a.w.region _ c.find.ensures _ c.in_ok-r.ensures.ok_part in
     let h = some_asked _ _ s a.w z a.wait _ f _ c.need_of-n.ensures in
-    (h.0, c.layout_of-l.ensures, h.1)
+    (rw c.of-s.ensures h.0, h.1)
 
 pub returns-in-No : goal.returns-in-No
 returns-in-No c =
@@ -29,7 +29,7 @@ returns-in-No c =
     let s : sound a.mem.now a.d.now ≡ true = grind arith in
     let z : a.w.size ≢ 0 = grind arith in
     let f = found a.d.now a.w.region _ c.find.ensures _ c.in_ok-r.ensures.ok_part in
-    get_none _ _ s a.w z a.wait _ f _ c.need_of-n.ensures _ c.layout_of-l.ensures _ c.in_ok-may_ask.ensures _ c.in_ok-may_wait.ensures _ _ c.take_pages.ensures c.in_default.is
+    get_none _ _ s a.w z a.wait _ f _ c.need_of-n.ensures c.of-s.result c.of-s.ensures _ c.in_ok-may_ask.ensures _ c.in_ok-may_wait.ensures _ _ c.take_pages.ensures c.in_default.is
     ∙ rw c.in-No.is
 
 pub returns-in-Yes : goal.returns-in-Yes
@@ -38,5 +38,5 @@ returns-in-Yes c =
     let s : sound a.mem.now a.d.now ≡ true = grind arith in
     let z : a.w.size ≢ 0 = grind arith in
     let f = found a.d.now a.w.region _ c.find.ensures _ c.in_ok-r.ensures.ok_part in
-    get_none _ _ s a.w z a.wait _ f _ c.need_of-n.ensures _ c.layout_of-l.ensures _ c.in_ok-may_ask.ensures _ c.in_ok-may_wait.ensures _ _ c.take_pages.ensures c.in_default.is
+    get_none _ _ s a.w z a.wait _ f _ c.need_of-n.ensures c.of-s.result c.of-s.ensures _ c.in_ok-may_ask.ensures _ c.in_ok-may_wait.ensures _ _ c.take_pages.ensures c.in_default.is
     ∙ rw (c.in-Yes.is, c.enqueue.ensures)

@@ -7,5 +7,5 @@ use Rattle.segments.proofs.give_back.Goals as goal
 pub serve-requires : goal.serve-requires
 serve-requires c =
     let s : sound c.args.mem.now c.args.told.now.manager ≡ true = grind arith in
-    let h = c.in_ok-s.ensures.holds in
-    (c.release_pages.ensures.sited, h.region, h.layout, fresh_ready _ _ s c.requires)
+    let h = c.in_ok-h.ensures.holds in
+    (c.release_pages.ensures.sited, h.region, fresh_ready _ _ s c.requires)

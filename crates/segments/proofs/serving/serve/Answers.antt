@@ -3,10 +3,10 @@ use Rattle.segments.proofs.Serve.{serve_start, serve_stop, serve_room, serve_mor
 use Rattle.segments.proofs.serving.serve.Goals as goal
 
 pub loop-i-init : goal.loop-i-init
-loop-i-init c = serve_start _ _ _ _ c.requires.0 c.requires.1 c.requires.3
+loop-i-init c = serve_start _ _ _ _ c.requires.0 c.requires.1 c.requires.2
 
 pub try_first-requires : goal.try_first-requires
-try_first-requires c = (c.loop-i.invariant.sited, c.loop-i.invariant.region, c.requires.2, c.loop-i.invariant.asking)
+try_first-requires c = (c.loop-i.invariant.sited, c.loop-i.invariant.region, c.loop-i.invariant.asking)
 
 pub tell-requires : goal.tell-requires
 tell-requires c = serve_room _ _ _ _ _ c.loop-i.told c.loop-i.invariant _ _ c.try_first.ensures _ c.in-Some.is

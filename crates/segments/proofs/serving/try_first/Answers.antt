@@ -14,8 +14,7 @@ pub take_pages-requires : goal.take_pages-requires
 take_pages-requires c =
     let e = sym c.in_ok-i.was ∙ c.first_of.ensures in (
       c.requires.0,
-      c.requires.2,
-      turn_asks c.args.mem.now c.args.d.now c.args.id c.args.r c.requires.0 c.requires.1 _ (place_found _ _ _ e) c.requires.3 (place_within _ _ _ e) (search (rules, unmapped)) _ _ c.need_of-n.ensures,
+      turn_asks c.args.mem.now c.args.d.now c.args.id c.args.s.region c.requires.0 c.requires.1 _ (place_found _ _ _ e) c.requires.2 (place_within _ _ _ e) (search (rules, unmapped)) _ _ c.need_of-n.ensures,
     )
 
 pub returns-in_err-p : goal.returns-in_err-p
