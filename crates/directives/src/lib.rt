@@ -1,4 +1,4 @@
-// One call, whichever it is.
+// One call, whichever it is. Each arm hands on other arguments: functions in a table would all have to take the same.
 #![tactic(auto)]
 
 ghost use Rattle.manager.specs.Result.{Performs};

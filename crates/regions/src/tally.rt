@@ -1,4 +1,4 @@
-// How many segments a region has, and how large they are.
+// How many segments a region has, and how large they are. The words are lent, so that what is asked of them stands in the clauses.
 ghost use Rattle.std.specs.Prelude.{◌≡◌, true, ◌≤◌, length};
 ghost use Rattle.manager.specs.Map.{tiled, decode, free_sizes, held_sizes};
 ghost use Rattle.manager.specs.Regions.{information_of};

@@ -1,6 +1,7 @@
 // The stores in a map by the kind of its region: of pages, or by halves. No other function of the crate asks which it is: an order is
 // known at run time, and a type for each kind would have to be chosen by the same question. These functions have exactly the map's words,
-// and need them sound.
+// and need them sound. The words are lent and rewritten, here and in both kinds: what is asked of them stands in the clauses, and no type
+// can keep it.
 ghost use Rattle.std.specs.Prelude.{◌≡◌, true, ◌≤◌};
 ghost use Rattle.manager.specs.Kind.{allocate};
 ghost use Rattle.manager.specs.Map.{decode, draw};

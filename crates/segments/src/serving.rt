@@ -1,4 +1,5 @@
-// Serving the queue of a region, and of all regions.
+// Serving the queue of a region, and of all regions. What is asked of the record and its notices speaks of the memory too, which is lent:
+// it stands in the clauses, and no type can keep it.
 ghost use Rattle.std.specs.Prelude.{◌≡◌, ◌≤◌, ◌<◌};
 ghost use Rattle.manager.specs.Record.{slots, region_of};
 ghost use Rattle.manager.specs.Region.{address_of};
@@ -48,7 +49,7 @@ pub(crate) fn serve(mem: &mut [u32], told: &mut Noticed, id: u32, s: Site)
     }
 }
 
-// The queue of the region in a slot; an empty slot has none.
+// The queue of the region in a slot; an empty slot, which the record's form tells by name 0, has none.
 fn serve_slot(mem: &mut [u32], told: &mut Noticed, i: usize)
     requires { (Sites mem.old told.old.manager) × (Ready told.old) × (i < slots) }
     ensures { (Serves told.old (serve_slot mem.old told.old.manager i) mem.new told.new) × (Sites mem.new told.new.manager) }

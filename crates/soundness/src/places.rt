@@ -107,6 +107,7 @@ pub(crate) fn sound_queue(
         if w.task == 0 {
             return unused(&ws[i..]);
         }
+        // An id whose number is no slot's: a test of the index, which is used twice, is as plain as `get`.
         let slot = objects::slot_of(w.region);
         if Manager::SLOTS <= slot {
             return false;
