@@ -114,6 +114,17 @@ waiter_at ws i =
       ticks = get_or ws (i + 5) 0;
     }
 
+abbrev pub information_at : List ℕ → ℕ → Information
+information_at ws i =
+    record {
+      free_count = get_or ws i 0;
+      free_largest = get_or ws (i + 1) 0;
+      free_total = get_or ws (i + 2) 0;
+      held_count = get_or ws (i + 3) 0;
+      held_largest = get_or ws (i + 4) 0;
+      held_total = get_or ws (i + 5) 0;
+    }
+
 -- what the six words of a region say: nothing where its order is none
 abbrev pub region_said : List ℕ → Option Region
 region_said ws = cond (leb (get_or ws 5 0) last_order) (Some (region_at ws 0)) None

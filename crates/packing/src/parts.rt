@@ -1,6 +1,6 @@
 // The parts of a record and of an answer in their words.
 ghost use Rattle.std.specs.Prelude.{refl, Some};
-ghost use Rattle.packing.specs.Packing.{region_words, partition_words, waiter_words, region_said, partition_at, waiter_at, notice_words, information_words};
+ghost use Rattle.packing.specs.Packing.{region_words, partition_words, waiter_words, region_said, partition_at, waiter_at, notice_words, information_words, information_at};
 
 use crate::words::{FromWords, ToWords};
 use crate::{INFORMATION_WORDS, NOTICE_WORDS, PARTITION_WORDS, REGION_WORDS, WAITER_WORDS};
@@ -133,5 +133,28 @@ impl ToWords<INFORMATION_WORDS> for Information {
             self.held_largest,
             self.held_total,
         ]
+    }
+}
+
+impl FromWords<INFORMATION_WORDS> for Information {
+    ghost said = { λ ws. Some (information_at ws 0) };
+
+    fn from_words(words: &[u32; INFORMATION_WORDS]) -> Option<Information> {
+        let [
+            free_count,
+            free_largest,
+            free_total,
+            held_count,
+            held_largest,
+            held_total,
+        ] = *words;
+        Some(Information {
+            free_count,
+            free_largest,
+            free_total,
+            held_count,
+            held_largest,
+            held_total,
+        })
     }
 }

@@ -28,7 +28,7 @@ use Rattle.script.proofs.Computed.{all_upto, both, all_upto_lem}
 use Rattle.script.proofs.Laws.{find_starts, placed, read_row}
 use Rattle.script.proofs.Rows.{Made, made, listed}
 
--- ---- the keys: None has a newline or more than 52 bytes, and every largest number is below 2 ^ 32
+-- ---- the keys: none has a newline or more than 52 bytes, and every largest number is below 2 ^ 32
 
 fine_key : Key → Bool
 fine_key k = cond (plain k.text) (cond (leb (length k.text) 52) (ltb k.most 4294967296) false) false
@@ -53,7 +53,7 @@ fine_row : (k : ℕ) → k < length calls → fine_keys (get_or calls k no_row).
 unfolding all_upto fine_keys fine_key plain
 fine_row k h = all_upto_lem (length calls) (λ j. fine_keys (get_or calls j no_row).keys) refl k h
 
--- ---- the lines: None starts another
+-- ---- the lines: none starts another
 
 -- the lists differ at a place that both have
 apart : List ℕ → List ℕ → Bool
