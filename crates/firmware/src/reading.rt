@@ -5,9 +5,9 @@ ghost use Rattle.std.specs.Float.Ieee.{of_bits};
 ghost use Rattle.firmware.specs.Exported.{notices_at};
 ghost use Rattle.firmware.specs.Reading.{alarm_at, gauge_at, information_at, last_alarm, left, LeavesGauge, Numbers};
 
-use crate::answer::NOTICES_AT;
 use gauge::{Alarm, Gauge, Reading};
 use manager::{Information, Status};
+use packing::{FromWords, INFORMATION_WORDS};
 
 // The bits of infinity and of the sign. What lies above infinity, the sign taken off, are the bits of NaNs.
 const INFINITY: u64 = 0x7ff0_0000_0000_0000;
@@ -51,23 +51,8 @@ pub(crate) fn gauge_at(words: &[u64; 2]) -> Gauge
 pub(crate) fn information_at(answer: &[u32]) -> Option<Information>
     ensures { result ≡ cond (leb notices_at (length answer.now)) (Some (information_at answer.now)) None }
 {
-    let [
-        _,
-        free_count,
-        free_largest,
-        free_total,
-        held_count,
-        held_largest,
-        held_total,
-    ] = *answer.first_chunk::<NOTICES_AT>()?;
-    Some(Information {
-        free_count,
-        free_largest,
-        free_total,
-        held_count,
-        held_largest,
-        held_total,
-    })
+    let (_, rest) = answer.split_first()?;
+    Information::from_words(rest.first_chunk::<INFORMATION_WORDS>()?)
 }
 
 // Leaves what a reading gave: a refused one leaves the words of the gauge.
