@@ -1,5 +1,7 @@
 // The symbols of the library for C: include/steepleclay.h says how they are called. Each is the function of that name in `firmware`, with the
 // same clauses.
+// The C interface needs this form: a crate is a library or an archive for C, and `end_to_end` speaks of the library (docs/DECISIONS.md,
+// 2026-11-26), so each symbol repeats a function of `firmware`.
 #![tactic(auto)]
 
 ghost use Rattle.packing.specs.Packing.{last_order, order_at};

@@ -40,6 +40,7 @@ fn line_number(src: &[u8], p: usize) -> u32
 }
 
 // Runs the calls of a script that is not too long, up to the first bad line.
+// No plainer as a `for`: each call starts where the one before it ended, and that place in the script is what read_call takes.
 fn run_calls(src: &[u8], mem: &mut [u32], out: &mut Writer) -> Result<(), BadLine>
     requires script_fits { length src.now ≤ most_script }
     requires output_fits { Room most_answers out.old }

@@ -8,6 +8,7 @@ ghost use Rattle.run.specs.Writer.{Room, Wrote};
 use manager::{Answer, Information, Manager, Notice};
 
 // A buffer, and how many bytes of it are written.
+// No heap: the caller lends the whole buffer, so how far it is filled stands beside it.
 #[derive(Drop)]
 pub(crate) struct Writer<'a> {
     pub(crate) out: &'a mut [u8],

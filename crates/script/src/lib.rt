@@ -35,6 +35,7 @@ fn find_row<'a>(rows: &'a [Row], bytes: &[u8]) -> Option<&'a Row>
 }
 
 // The numbers of the lines of the keys, from `at` on, put at the start of out; and where the next line starts.
+// No heap: `out` has room for eight, since no call has more keys, and the first keys.len() of it are filled.
 fn read_fields(src: &[u8], at: usize, keys: &[Key], out: &mut [u32; 8]) -> Result<usize, BadLine>
     requires { length keys.now ≤ 8 }
     ensures { fields_of result out.new (length keys.now) ≡ numbers_from src.now [] at (map key_shown keys.now) }
@@ -49,6 +50,7 @@ fn read_fields(src: &[u8], at: usize, keys: &[Key], out: &mut [u32; 8]) -> Resul
 }
 
 // The call at `at`, or none at the end.
+// What may not change: the whole script is lent with a place in it, since places in it are what the theorems on `read_call` speak of.
 pub fn read_call(src: &[u8], at: usize) -> Result<Option<ReadCall>, BadLine>
     ensures { result ≡ read_call src.now at }
 {

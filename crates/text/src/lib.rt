@@ -47,6 +47,7 @@ fn line_end(src: &[u8], at: usize) -> Option<usize>
 }
 
 // The line at `at`, which is the key and a number of at most `most`.
+// What may not change: the whole script is lent with a place in it, since places in it are what `field_at` and its theorems speak of.
 pub fn field(src: &[u8], at: usize, key: &[u8], most: u32) -> Option<Entry>
     ensures { result ≡ field_at src.now at key.now most }
 {
