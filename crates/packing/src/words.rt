@@ -21,6 +21,7 @@ pub trait FromWords<const N: usize>: Copy {
 }
 
 // Writes values into their words.
+// By place: tried with `chunks_exact_mut`, and the proof did not close: when its borrow is over, nothing is known of the words written by it.
 pub fn write_all<T: ToWords<N>, const N: usize>(all: &[T], words: &mut [u32])
     requires { length words.old ≡ length all.now * N }
     ensures { words.new ≡ all_words T.words all.now }
