@@ -34,10 +34,7 @@ pub fn goes_before(o: Order, w: Waiter, x: Waiter) -> bool
 fn order_of(d: &Manager, id: u32) -> Order
     ensures { result ≡ (region_of d.now id).order }
 {
-    match find::<Region>(d, id) {
-        Some(r) => r.order,
-        None => Order::Fifo,
-    }
+    find::<Region>(d, id).map_or(Order::Fifo, |r| r.order)
 }
 
 // The place of the first that w goes before.
