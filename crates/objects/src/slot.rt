@@ -1,5 +1,5 @@
 // What regions and partitions have in common: each is an object that is kept in a slot of the record.
-ghost use Rattle.std.specs.Prelude.{◌≡◌, ℕ, List, length, refl};
+ghost use Rattle.std.specs.Prelude.{◌≡◌, ℕ, List, length, refl, set};
 ghost use Rattle.manager.specs.Record.{slots, has_id, unspent, emptied_region, emptied_partition, with_region, with_partition};
 ghost use Rattle.manager.specs.Region.{area_of};
 ghost use Rattle.manager.specs.declared.Area.{Area};
@@ -63,6 +63,15 @@ pub trait Slot: Copy {
     }
 }
 
+// Another object in a slot; nothing where there is no such slot. This is `with` of each kind, which only names its array.
+fn put<T: Copy>(all: &mut [T], slot: usize, x: T)
+    ensures { all.new ≡ set all.old slot x }
+{
+    if slot < all.len() {
+        all[slot] = x;
+    }
+}
+
 impl Slot for Region {
     ghost name = { λ r. r.name };
 
@@ -87,10 +96,8 @@ impl Slot for Region {
     }
 
     fn area(&self) -> Area {
-        Area {
-            start: self.start,
-            length: self.length,
-        }
+        let Region { start, length, .. } = *self;
+        Area { start, length }
     }
 
     fn emptied(number: u32) -> Region {
@@ -102,9 +109,7 @@ impl Slot for Region {
     }
 
     fn with(mut d: Manager, slot: usize, x: Region) -> Manager {
-        if slot < Manager::SLOTS {
-            d.regions[slot] = x;
-        }
+        put(&mut d.regions, slot, x);
         d
     }
 }
@@ -133,10 +138,8 @@ impl Slot for Partition {
     }
 
     fn area(&self) -> Area {
-        Area {
-            start: self.start,
-            length: self.length,
-        }
+        let Partition { start, length, .. } = *self;
+        Area { start, length }
     }
 
     fn emptied(number: u32) -> Partition {
@@ -148,9 +151,7 @@ impl Slot for Partition {
     }
 
     fn with(mut d: Manager, slot: usize, x: Partition) -> Manager {
-        if slot < Manager::SLOTS {
-            d.partitions[slot] = x;
-        }
+        put(&mut d.partitions, slot, x);
         d
     }
 }
