@@ -56,6 +56,7 @@ fn shares_name<T: Slot>(x: &T, others: &[T]) -> bool
 }
 
 // Whether none of some objects has a name that one before it has.
+// The loop of `disjoint`, with another test. One function over a closure was tried: a caller cannot name its test there, so the proof did not close.
 fn differ<T: Slot>(all: &[T]) -> bool
     ensures { result ≡ pairwise (other_name T.name) all.now }
 {
