@@ -59,7 +59,7 @@ pub fn write_segment(
     reply::answer(d, done)
 }
 
-// The same: 25, 4, 9, and 8 for words that would end past the segment's end.
+// Its checks: 25, 4, 9, and 8 for words that would end past the segment's end.
 #[tactic(auto, using(crate::proofs::Laws::stored), unfolding(manager::specs::Access::write_segment, manager::specs::Result::checked))]
 fn write(
     mem: &mut [u32],

@@ -108,7 +108,8 @@ pub fn is_sound(map: &[u32], o: Order) -> bool
     }
 }
 
-// Whether the words are a sound map of a region of pages. `due` words of the segment that was begun are still to come; `before` is 1 where it is held.
+// Whether the words are a sound map of a region of pages. `due` words of the segment that was begun are still to come; `before` is 1 where
+// the segment before is held, and in front of the first.
 fn is_apart(map: &[u32]) -> bool
     ensures { result ≡ sound_map apart map.now }
 {

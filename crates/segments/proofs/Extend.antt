@@ -6,7 +6,7 @@ use mathlib.Core.Bool.{true, false}
 use mathlib.Core.List.{List, ◌∷◌, ◌++◌}
 use native.Mathlib.Omega.{arith}
 use native.Mathlib.Nat.{add-zero}
-use lib.ListN.{length, get_or, set}
+use lib.ListN.{length, get_or, set, length-set}
 use Rattle.manager.specs.Map.{held, words_of, draw, decode, tiled, sound_map}
 use Rattle.manager.proofs.Laws.Map.{sound_tiled, reread, draw_append, draw_cons}
 use Rattle.manager.proofs.Laws.Apart.{Well, well_sized, well_decoded, well_drawn}
@@ -18,7 +18,7 @@ use Rattle.segments.proofs.Words.{cutting_words}
 use Rattle.segments.proofs.Take.{draw_free}
 use Rattle.segments.proofs.Stands.{Follower, none, kept, joins, Stands, stands, some, post_well, pre_long, word_is, within, held_is, reach_is, change_is, resize_is, grown, behind, alone, takes_in}
 
--- ---- the tests of `extend`
+-- ---- the tests of `reach_at` and `extend`
 
 module _ {p : ℕ} {ws : List ℕ} (at : IsHeldAt apart p ws) where
   here : Stands p ws
@@ -36,53 +36,72 @@ module _ {p : ℕ} {ws : List ℕ} (at : IsHeldAt apart p ws) where
   pub extend_some : 1 ≤ get_or ws p 0 / 2
   extend_some = omega (arith, pages_is, some p ws here)
 
-  at_end : Follower here.post ws (p + here.pages) → length ws ≤ p + here.pages → Extends p ws here.pages ws
-  at_end (none e z) h = alone p ws here at.sound z
-  at_end (kept b m z) h = absurd (omega arith)
+  -- how many pages it could have, by what stands behind it
+  at_end : Follower here.post ws (p + here.pages) → length ws ≤ p + here.pages → lead here.post ≡ 0
+  at_end (none e z) h = z
+  at_end (kept b m z) h = z
   at_end (joins w o b x) h = absurd (omega arith)
 
-  at_held : Follower here.post ws (p + here.pages) → p + here.pages < length ws → (get_or ws (p + here.pages) 0 % 2 ≡ 0 → ⊥) → Extends p ws here.pages ws
-  at_held (none e z) h ne = absurd (omega arith)
-  at_held (kept b m z) h ne = alone p ws here at.sound z
-  at_held (joins w o b x) h ne = absurd (ne (omega arith))
+  at_held : Follower here.post ws (p + here.pages) → (get_or ws (p + here.pages) 0 % 2 ≡ 0 → ⊥) → lead here.post ≡ 0
+  at_held (none e z) ne = z
+  at_held (kept b m z) ne = z
+  at_held (joins w o b x) ne = absurd (ne (omega arith))
 
   at_free : Follower here.post ws (p + here.pages) → p + here.pages < length ws → get_or ws (p + here.pages) 0 % 2 ≡ 0
-      → (p + here.pages + get_or ws (p + here.pages) 0 / 2 ≤ length ws)
-      × Extends p ws (here.pages + get_or ws (p + here.pages) 0 / 2) (set (set ws p ((here.pages + get_or ws (p + here.pages) 0 / 2) * 2 + 1)) (p + here.pages) 0)
+      → (lead here.post ≡ get_or ws (p + here.pages) 0 / 2) × (p + here.pages + get_or ws (p + here.pages) 0 / 2 ≤ length ws)
   at_free (none e z) h m = absurd (omega arith)
   at_free (kept b q z) h m = absurd (omega arith)
-  at_free (joins w o b x) h m = (omega arith, takes_in p ws here (here.pages + get_or ws (p + here.pages) 0 / 2) (omega arith) o x)
+  at_free (joins w o b x) h m = (omega arith, omega arith)
 
-  pub extend_end : length ws ≤ p + get_or ws p 0 / 2 → Extends p ws (get_or ws p 0 / 2) ws
-  extend_end h = rw pages_is (at_end (behind p ws here) (omega (arith, pages_is)))
-
-  pub extend_held : p + get_or ws p 0 / 2 < length ws → (get_or ws (p + get_or ws p 0 / 2) 0 % 2 ≡ 0 → ⊥) → Extends p ws (get_or ws p 0 / 2) ws
-  extend_held h ne = rw pages_is (at_held (behind p ws here) (omega (arith, pages_is)) (rw pages_is at ne))
-
-  pub extend_sum : p + get_or ws p 0 / 2 < length ws → get_or ws (p + get_or ws p 0 / 2) 0 % 2 ≡ 0
-      → p + get_or ws p 0 / 2 + get_or ws (p + get_or ws p 0 / 2) 0 / 2 ≤ length ws
-  extend_sum h m = rw pages_is (at_free (behind p ws here) (omega (arith, pages_is)) (rw pages_is at m)).0
-
-  pub extend_free : p + get_or ws p 0 / 2 < length ws → get_or ws (p + get_or ws p 0 / 2) 0 % 2 ≡ 0
-      → Extends p ws (get_or ws p 0 / 2 + get_or ws (p + get_or ws p 0 / 2) 0 / 2) (set (set ws p ((get_or ws p 0 / 2 + get_or ws (p + get_or ws p 0 / 2) 0 / 2) * 2 + 1)) (p + get_or ws p 0 / 2) 0)
-  extend_free h m = rw pages_is (at_free (behind p ws here) (omega (arith, pages_is)) (rw pages_is at m)).1
-
-pub ruleset extending = (held_within, extend_in, extend_some, extend_sum, extend_end, extend_held, extend_free)
-
--- how many pages it could have
-module _ {p : ℕ} {ws : List ℕ} (at : IsHeldAt apart p ws) where
   pub reach_end : length ws ≤ p + get_or ws p 0 / 2 → get_or ws p 0 / 2 ≡ reach_from p 0 (decode ws)
-  reach_end h = (extend_end at h).pages
+  reach_end h = omega (arith, pages_is, reach_is p ws here, at_end (behind p ws here) (omega (arith, pages_is)))
 
-  module _ (h : p + get_or ws p 0 / 2 < length ws) where
-    pub reach_held : (get_or ws (p + get_or ws p 0 / 2) 0 % 2 ≡ 0 → ⊥) → get_or ws p 0 / 2 ≡ reach_from p 0 (decode ws)
-    reach_held ne = (extend_held at h ne).pages
+  pub reach_held : (get_or ws (p + get_or ws p 0 / 2) 0 % 2 ≡ 0 → ⊥) → get_or ws p 0 / 2 ≡ reach_from p 0 (decode ws)
+  reach_held ne = omega (arith, pages_is, reach_is p ws here, at_held (behind p ws here) (rw pages_is at ne))
 
-    pub reach_free : get_or ws (p + get_or ws p 0 / 2) 0 % 2 ≡ 0
-        → get_or ws p 0 / 2 + get_or ws (p + get_or ws p 0 / 2) 0 / 2 ≡ reach_from p 0 (decode ws)
-    reach_free m = (extend_free at h m).pages
+  module _ (h : p + get_or ws p 0 / 2 < length ws) (m : get_or ws (p + get_or ws p 0 / 2) 0 % 2 ≡ 0) where
+    free_is : (lead here.post ≡ get_or ws (p + here.pages) 0 / 2) × (p + here.pages + get_or ws (p + here.pages) 0 / 2 ≤ length ws)
+    free_is = at_free (behind p ws here) (omega (arith, pages_is)) (rw pages_is at m)
 
-pub ruleset reaching = (held_within, extend_in, extend_some, extend_sum, reach_end, reach_held, reach_free)
+    pub reach_sum : p + get_or ws p 0 / 2 + get_or ws (p + get_or ws p 0 / 2) 0 / 2 ≤ length ws
+    reach_sum = rw pages_is free_is.1
+
+    pub reach_free : get_or ws p 0 / 2 + get_or ws (p + get_or ws p 0 / 2) 0 / 2 ≡ reach_from p 0 (decode ws)
+    reach_free = rw pages_is (omega (arith, reach_is p ws here, free_is.0))
+
+  -- the words with the most that it can have
+  module _ (k : ℕ) (e : k ≡ reach_from p 0 (decode ws)) where
+    k_lead : k ≡ here.pages + lead here.post
+    k_lead = e ∙ reach_is p ws here
+
+    short : Follower here.post ws (p + here.pages) → p + k ≤ length ws
+    short (none a z) = omega (arith, k_lead)
+    short (kept b m z) = omega (arith, k_lead)
+    short (joins w o b x) = omega (arith, k_lead)
+
+    pub extend_room : p + k ≤ length ws
+    extend_room = short (behind p ws here)
+
+    pub extend_next : get_or ws p 0 / 2 < k → (w : ℕ) → p + get_or ws p 0 / 2 < length (set ws p w)
+    extend_next h w = simp length-set (omega (arith, extend_room))
+
+    pub extend_alone : k ≤ get_or ws p 0 / 2 → Extends p ws k ws
+    extend_alone h =
+        let z : lead here.post ≡ 0 = omega (arith, pages_is, k_lead) in
+        let q : k ≡ here.pages = omega (arith, k_lead) in
+        rw q (alone p ws here at.sound z)
+
+    more : Follower here.post ws (p + here.pages) → here.pages < k → Extends p ws k (set (set ws p (k * 2 + 1)) (p + here.pages) 0)
+    more (none a z) h = absurd (omega (arith, k_lead))
+    more (kept b m z) h = absurd (omega (arith, k_lead))
+    more (joins w o b x) h = takes_in p ws here k k_lead o x
+
+    pub extend_more : get_or ws p 0 / 2 < k → Extends p ws k (set (set ws p (k * 2 + 1)) (p + get_or ws p 0 / 2) 0)
+    extend_more h = rw pages_is (more (behind p ws here) (omega (arith, pages_is)))
+
+pub ruleset reaching = (held_within, extend_in, extend_some, reach_sum, reach_end, reach_held, reach_free)
+
+pub ruleset extending = (held_within, extend_in, extend_some, extend_room, extend_next, extend_alone, extend_more)
 
 -- ---- after `extend`
 

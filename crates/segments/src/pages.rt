@@ -74,17 +74,11 @@ fn extend(map: &mut [u32], p: usize) -> u32
     ensures { Extends p map.old result map.new }
 {
     let pages = map[p] / 2;
-    let next = p + pages as usize;
-    if map.len() <= next {
-        return pages;
+    let all = reach_at(map, p);
+    if pages < all {
+        map[p] = all * 2 + 1;
+        map[p + pages as usize] = 0;
     }
-    let w = map[next];
-    if w % 2 != 0 {
-        return pages;
-    }
-    let all = pages + w / 2;
-    map[p] = all * 2 + 1;
-    map[next] = 0;
     all
 }
 

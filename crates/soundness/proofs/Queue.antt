@@ -11,7 +11,7 @@ use lib.Dec.{eqb, leb}
 use lib.ListN.{length, length-drop, take, get_or, set, drop, replicate, length-set, drop_of_length-le}
 use lib.Seq.{take_all, get_or-set_same, get_or-set_other}
 use Rattle.manager.specs.Lists.{every, pairwise, adjacent}
-use Rattle.manager.proofs.Laws.Lists.{and_first, and_second, get_d_any, rest_cons}
+use Rattle.manager.proofs.Laws.Lists.{and_first, and_second, rest_cons}
 use Rattle.manager.proofs.Laws.Ids.{first_slot_lem, object_there, object_none, object_beyond}
 use Rattle.manager.specs.Queue.{by_priority, urgent, goes_before}
 use Rattle.manager.specs.Record.{slots, tasks, slot_of, has_id, no_region, region_of}
@@ -264,19 +264,22 @@ module _ (m : List ℕ) (rs : List Region) (ws : List Waiter) where
           (and-false (leb (get_or ws i z).task tasks)))))
           ∙ here
 
+      pub walk_seat : (n : Facts) (b : Bool) → b ≡ sound_in n (get_or ws i z) → not b ≡ false → (get_or ws i z).task < (tasks + 1)
+      walk_seat n b eb g = omega (arith, leb-true (get_or ws i z).task tasks (and_first (leb (get_or ws i z).task tasks) _ (sym eb ∙ not-false b g)))
+
       -- with the facts of its region, kept or worked out
-      module _ (slot : ℕ) (es : slot ≡ slot_of (get_or ws i z).region) (hs : slot < slots) (y : Region) (n : Facts)
-          (en : n ≡ kept_or f (get_or ws i z).region (facts_of m (get_or ws i z).region (get_or rs slot y))) where
-        looked_up : get_or rs slot y ≡ in_slot rs (get_or ws i z).region
-        looked_up = get_d_any rs slot y no_region (omega (arith, v.slots_in)) ∙ rw es
+      module _ (slot : ℕ) (es : slot ≡ slot_of (get_or ws i z).region) (y : Region) (ey : y ≡ get_or rs slot no_region) (n : Facts)
+          (en : n ≡ kept_or f (get_or ws i z).region (facts_of m (get_or ws i z).region y)) where
+        looked_up : y ≡ in_slot rs (get_or ws i z).region
+        looked_up = ey ∙ rw es
 
         kept_by : (k : Facts) → k ≡ facts_of m k.id (in_slot rs k.id) → (b : Bool) → eqb k.id (get_or ws i z).region ≡ b
-            → cond b k (facts_of m (get_or ws i z).region (get_or rs slot y)) ≡ facts_of m (get_or ws i z).region (in_slot rs (get_or ws i z).region)
+            → cond b k (facts_of m (get_or ws i z).region y) ≡ facts_of m (get_or ws i z).region (in_slot rs (get_or ws i z).region)
         kept_by k q true e = rw (← eqb-true k.id (get_or ws i z).region e) q
         kept_by k q false e = rw looked_up
 
         renewed_by : (o : Option Facts) → ((k : Facts) → o ≡ Some k → k ≡ facts_of m k.id (in_slot rs k.id))
-            → kept_or o (get_or ws i z).region (facts_of m (get_or ws i z).region (get_or rs slot y))
+            → kept_or o (get_or ws i z).region (facts_of m (get_or ws i z).region y)
             ≡ facts_of m (get_or ws i z).region (in_slot rs (get_or ws i z).region)
         renewed_by None q = rw looked_up
         renewed_by (Some k) q = kept_by k (q k refl) (eqb k.id (get_or ws i z).region) refl
@@ -296,9 +299,6 @@ module _ (m : List ℕ) (rs : List Region) (ws : List Waiter) where
               sym (left_unsound m (queue_of rs ws) seen before (get_or ws i z) (drop (i + 1) ws) (waiter_told false (not-true b g))) ∙ here
 
           module _ (g : not b ≡ false) where
-            pub walk_seat : (get_or ws i z).task < (tasks + 1)
-            walk_seat = omega (arith, leb-true (get_or ws i z).task tasks (and_first (leb (get_or ws i z).task tasks) _ (sym eb ∙ not-false b g)))
-
             pub walk_met : get_or seen (get_or ws i z).task false ≡ true → false ≡ w
             walk_met e =
                 sym
@@ -306,7 +306,7 @@ module _ (m : List ℕ) (rs : List Region) (ws : List Waiter) where
                 (rw (ne_eqb (get_or ws i z).task 0 u, e)))
                 ∙ here
 
-            module _ (new : get_or seen (get_or ws i z).task false ≡ false) (t : Bool) (et : t ≡ goes_before (get_or rs slot y).order (get_or ws i z) before) where
+            module _ (new : get_or seen (get_or ws i z).task false ≡ false) (t : Bool) (et : t ≡ goes_before y.order (get_or ws i z) before) where
               order_told : in_order (queue_of rs ws) before (get_or ws i z) ≡ not t
               order_told =
                   let there = found_region m (queue_of rs ws) (get_or ws i z) (sym told ∙ not-false b g) in
@@ -326,7 +326,7 @@ module _ (m : List ℕ) (rs : List Region) (ws : List Waiter) where
                     rest =
                         sym
                         (left_step m (queue_of rs ws) seen before (get_or ws i z) (drop (i + 1) ws) (waiter_told true (not-false b g))
-                        (rw (ne_eqb (get_or ws i z).task 0 u, new)) (order_told ∙ ap not e) u (omega (arith, walk_seat, v.seats)))
+                        (rw (ne_eqb (get_or ws i z).task 0 u, new)) (order_told ∙ ap not e) u (omega (arith, walk_seat n b eb g, v.seats)))
                         ∙ here;
                   }
 

@@ -107,12 +107,11 @@ pub(crate) fn sound_queue(
         if w.task == 0 {
             return unused(&ws[i..]);
         }
-        // An id whose number is no slot's: a test of the index, which is used twice, is as plain as `get`.
-        let slot = objects::slot_of(w.region);
-        if Manager::SLOTS <= slot {
+        // An id whose number is no slot's has no region.
+        let Some(&region) = regions.get(objects::slot_of(w.region)) else {
             return false;
-        }
-        let facts = Facts::kept_or_of(kept, mem, w.region, regions[slot]);
+        };
+        let facts = Facts::kept_or_of(kept, mem, w.region, region);
         if !facts.allows(*w) {
             return false;
         }
@@ -121,7 +120,7 @@ pub(crate) fn sound_queue(
             return false;
         }
         seen[task] = true;
-        if queue::goes_before(regions[slot].order, *w, before) {
+        if queue::goes_before(region.order, *w, before) {
             return false;
         }
         before = *w;

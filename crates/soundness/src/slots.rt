@@ -19,7 +19,7 @@ pub(crate) trait Checked: Slot + PartialEq {
     fn is_live(&self, mem: &[u32]) -> bool
         ensures { result ≡ live mem.now self.now };
 
-    // Then it is the emptied slot of that generation.
+    // A slot without a name equals the emptied one of its generation exactly where it is empty.
     ghost emptied_only: { (x : Self) → Self.name x ≡ 0 → Self.eq x (Self.emptied (Self.generation x)) ≡ empty x };
 }
 
