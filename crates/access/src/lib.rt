@@ -31,8 +31,8 @@ fn held_words(mem: &[u32], d: &Manager, id: u32, address: u32) -> Result<Range<u
 {
     ensure(soundness::is_sound(mem, *d), Status::InternalError)?;
     let r = objects::find::<Region>(d, id).ok_or(Status::InvalidId)?;
-    let pages = map::held_word_at(mem, map::layout_of(r), r.page, address);
-    ensure(pages != 0, Status::InvalidAddress)?;
+    let l = map::layout_of(r);
+    let pages = map::held_word_at(mem, l, r.page, address).ok_or(Status::InvalidAddress)?;
     let from = (address / 4) as usize;
     Ok(from..from + words_of(pages, r.page))
 }

@@ -5,9 +5,10 @@ use mathlib.Core.Path.{◌≡◌, refl, sym, ap, ◌∙◌}
 use mathlib.Core.Bool.{Bool, true, false, cond, not, ◌&&◌}
 use mathlib.Core.List.{List, [], ◌∷◌}
 use native.Mathlib.Omega.{arith}
-use borrow.Author.Tests.{ne_eqb, eqb-true, eqb-false, leb-true, leb-false}
+use borrow.Author.Tests.{eq-eqb, ne_eqb, eqb-true, eqb-false, leb-true, leb-false}
 use lib.Dec.{eqb, leb}
 use lib.ListN.{length, get_or}
+use Rattle.std.specs.Prelude.{Option, None, Some}
 use Rattle.manager.specs.Lists.{any}
 use Rattle.manager.proofs.Laws.Map.{head_parts, rest_parts, no_end, decode_start, decode_skip, size_of_lem, total_cons, total_decoded, sized_decoded, redraw, Sized, sound_tiled, sound_proper}
 use Rattle.manager.proofs.Laws.Kinds.{Keeps, keeps}
@@ -21,8 +22,36 @@ use Rattle.manager.proofs.Laws.Sound.{sited, tiled_map, map_long}
 use Rattle.manager.specs.declared.Manager.{Manager}
 use Rattle.arith.specs.declared.Layout.{Layout}
 use Rattle.manager.specs.declared.Region.{Region}
-use Rattle.map.specs.Word.{held_word, held_word_at, one_free}
+use Rattle.map.specs.Word.{held_word, held_word_at, some_pages, one_free}
+use Rattle.std.proofs.lemmas.Option.{none-some, same_Some}
 use Rattle.map.proofs.Scan.{at_page, pages, held_is, past, word_held, word_hit, word_free}
+
+-- a word that is said or not
+pub said_some : (x : ℕ) → x % 2 ≡ 1 → 1 < x → Some (x / 2) ≡ some_pages (cond (is_held x) (x / 2) 0)
+said_some x h l = rw (eq-eqb (x % 2) 1 h, ne_eqb (x / 2) 0 (λ e. omega arith))
+
+pub said_small : (x : ℕ) → x ≤ 1 → None ≡ some_pages (cond (is_held x) (x / 2) 0)
+said_small x h = go (is_held x)
+  where
+    go : (b : Bool) → None ≡ some_pages (cond b (x / 2) 0)
+    go true = rw (eq-eqb (x / 2) 0 (omega arith))
+    go false = refl
+
+pub said_free : (x : ℕ) → (x % 2 ≡ 1 → ⊥) → None ≡ some_pages (cond (is_held x) (x / 2) 0)
+said_free x h = rw (ne_eqb (x % 2) 1 h)
+
+pub ruleset says_pages = (said_some, said_small, said_free)
+
+-- pages that are said are some
+pub said_is : (n : ℕ) (o : Option ℕ) → o ≡ some_pages n → (k : ℕ) → o ≡ Some k → (k ≡ n) × (n ≡ 0 → ⊥)
+said_is n o q k p = go (eqb n 0) refl (sym q ∙ p)
+  where
+    go : (b : Bool) → eqb n 0 ≡ b → cond b None (Some n) ≡ Some k → (k ≡ n) × (n ≡ 0 → ⊥)
+    go true e x = absurd (none-some k x)
+    go false e x = (sym (same_Some n k x), eqb-false n 0 e)
+
+pub said_none : (n : ℕ) → some_pages n ≡ None → 1 ≤ n → ⊥
+said_none n x l = none-some n (sym x ∙ rw (ne_eqb n 0 (λ e. omega arith)))
 
 none_here : (i k : ℕ) → held_word [] k ≡ at_page pages (i + k) (i + 0) (decode [])
 unfolding at_page decode

@@ -10,7 +10,7 @@ ghost use Rattle.manager.specs.Lists.{any};
 ghost use Rattle.manager.specs.Map.{decode, sound_map, is_held_segment};
 ghost use Rattle.manager.specs.Paged.{apart, room_from};
 ghost use Rattle.manager.specs.Region.{by_halves, kind_of, layout_of, words_at, pages_asked, is_alignment, need_of, servable_at};
-ghost use Rattle.map.specs.Word.{held_word, held_word_at, one_free};
+ghost use Rattle.map.specs.Word.{held_word, held_word_at, some_pages, one_free};
 
 use arith::Layout;
 use manager::{Need, Order, Region};
@@ -143,14 +143,15 @@ pub fn any_held(map: &[u32]) -> bool
     map.iter().any(|word| word % 2 == 1)
 }
 
-// The pages that word p of a map says, where it is marked as held; else 0: a marked word may say no page, so that an `Option` would have
-// its number tested all the same. In a sound map that is the held segment which starts there, and no other word has to be read.
-pub fn held_word(map: &[u32], p: usize) -> u32
-    ensures { result ≡ held_word map.now p }
+// The pages that word p of a map says, where it is marked as held and says one. In a sound map that is the held segment which starts there,
+// and no other word has to be read.
+#[tactic(auto, using(crate::proofs::Word::says_pages))]
+pub fn held_word(map: &[u32], p: usize) -> Option<u32>
+    ensures { result ≡ some_pages (held_word map.now p) }
 {
     match map.get(p) {
-        Some(first) if first % 2 == 1 => first / 2,
-        _ => 0,
+        Some(first) if first % 2 == 1 && 1 < *first => Some(first / 2),
+        _ => None,
     }
 }
 
@@ -162,12 +163,12 @@ pub fn index_at(l: Layout, page: u32, address: u32) -> usize
     p.saturating_sub(l.first) as usize
 }
 
-// The pages of the held segment that starts at an address, as the word of that page says it; 0 where none does.
-pub fn held_word_at(mem: &[u32], l: Layout, page: u32, address: u32) -> u32
-    ensures { result ≡ held_word_at mem.now l page address }
+// The pages of the held segment that starts at an address, as the word of that page says it.
+pub fn held_word_at(mem: &[u32], l: Layout, page: u32, address: u32) -> Option<u32>
+    ensures { result ≡ some_pages (held_word_at mem.now l page address) }
 {
     if page == 0 || address % page != 0 || u64::from(address / page) < l.first {
-        return 0;
+        return None;
     }
     held_word(map_words(mem, l), index_at(l, page, address))
 }

@@ -1,4 +1,5 @@
-// How many segments a region has, and how large they are. The words are lent, so that what is asked of them stands in the clauses.
+// How many segments a region has, and how large they are. The words are lent, and one walk alone reads them: what it asks of them is asked
+// where it begins, and by the function that hands them on to it.
 ghost use Rattle.std.specs.Prelude.{◌≡◌, true, ◌≤◌, length};
 ghost use Rattle.manager.specs.Map.{tiled, decode, free_sizes, held_sizes};
 ghost use Rattle.manager.specs.Regions.{information_of};

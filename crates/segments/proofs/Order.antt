@@ -1,6 +1,6 @@
 -- The stores by the kind of a region, where code has asked which it is: what its own functions need and leave is what the kind's do. Assumes
 -- nothing.
-use Rattle.std.specs.Prelude.{Option, Some}
+use Rattle.std.specs.Prelude.{Option, None, Some}
 use Prim.Native.Nat.{ℕ, ◌+◌, ◌≤◌}
 use mathlib.Core.Path.{◌≡◌, sym, ap, ◌∙◌}
 use mathlib.Core.Bool.{Bool, true, false}
@@ -26,8 +26,8 @@ use Rattle.manager.proofs.Laws.Kinds.{keeps}
 use Rattle.manager.proofs.Laws.Shift.{shifted}
 use Rattle.manager.proofs.Laws.Halves.Shift.{place_shift, take_shift}
 use Rattle.manager.proofs.Laws.Map.{sound_tiled, redraw, total_decoded}
-use Rattle.map.specs.Word.{held_word}
-use Rattle.map.proofs.Word.{one_word}
+use Rattle.map.specs.Word.{held_word, some_pages}
+use Rattle.map.proofs.Word.{one_word, said_is, said_none}
 use Rattle.map.proofs.Order.{kind_halves, kind_pages}
 
 module _ (o : Order) (b : Bool) (e : b ≡ by_halves o) (ws : List ℕ) (ok : sound_map (kind_of o).proper ws ≡ true) where
@@ -57,11 +57,19 @@ module _ (o : Order) (b : Bool) (e : b ≡ by_halves o) (ws : List ℕ) (ok : so
     pub halves_releases : (p : ℕ) (out : List ℕ) → out ≡ draw (release_block (level (length ws)) p 0 (decode ws)) → out ≡ draw ((kind_of o).change p 0 0 (decode ws))
     halves_releases p out x = rw (kind_halves o b e h, tiles) x
 
-    pub halves_have : (p k n : ℕ) → n ≡ held_word ws p → eqb k n ≡ (kind_of o).can_have p k 0 (decode ws)
-    halves_have p k n x =
-        let q : 0 + p ≡ p = omega arith in
-        let z : held_word ws p ≡ held_from p 0 (decode ws) = rw q at (one_word ws 0 p (sound_tiled (kind_of o).proper ws ok)) in
-        ap (eqb k) (x ∙ z) ∙ ap (λ (K : Kind). K.can_have p k 0 (decode ws)) (sym (kind_halves o b e h))
+    module _ (p : ℕ) (w : Option ℕ) (x : w ≡ some_pages (held_word ws p)) where
+      says : held_word ws p ≡ held_from p 0 (decode ws)
+      says =
+          let q : 0 + p ≡ p = omega arith in
+          rw q at (one_word ws 0 p (sound_tiled (kind_of o).proper ws ok))
+
+      pub halves_have : (k n : ℕ) → w ≡ Some n → eqb k n ≡ (kind_of o).can_have p k 0 (decode ws)
+      halves_have k n y =
+          ap (eqb k) ((said_is (held_word ws p) w x n y).0 ∙ says) ∙ ap (λ (K : Kind). K.can_have p k 0 (decode ws)) (sym (kind_halves o b e h))
+
+      -- a held segment is said
+      pub halves_said : (k : ℕ) → w ≡ None → 1 ≤ held_from p 0 (decode ws) → false ≡ (kind_of o).can_have p k 0 (decode ws)
+      halves_said k y l = absurd (said_none (held_word ws p) (sym x ∙ y) (omega (arith, says)))
 
     pub halves_stays : (p k : ℕ) → 1 ≤ k → ws ≡ draw ((kind_of o).change p k 0 (decode ws))
     halves_stays p k l =
@@ -87,4 +95,4 @@ module _ (o : Order) (b : Bool) (e : b ≡ by_halves o) (ws : List ℕ) (ok : so
     pub pages_room : (p k : ℕ) → (kind_of o).can_have p k 0 (decode ws) ≡ true → k ≤ reach_from p 0 (decode ws)
     pages_room p k x = leb-true k (reach_from p 0 (decode ws)) (ap (λ (K : Kind). K.can_have p k 0 (decode ws)) (sym (kind_pages o b e h)) ∙ x)
 
-pub ruleset kinds = (halves_sound, halves_releases, halves_have, halves_stays, pages_sound, pages_changes, pages_have, pages_room)
+pub ruleset kinds = (halves_sound, halves_releases, halves_have, halves_said, halves_stays, pages_sound, pages_changes, pages_have, pages_room)

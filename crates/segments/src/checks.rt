@@ -48,7 +48,7 @@ pub(crate) struct Held {
     pub(crate) pages: u32,
 }
 
-// The held segment at an address: 4, 9.
+// The held segment at an address: 4, 9. The id and the address are two numbers of one call: no value keeps them together behind it.
 #[tactic(auto, using(crate::proofs::Live::held_is))]
 pub(crate) fn held_at(mem: &[u32], d: &Manager, id: u32, address: u32) -> Result<Held, Status>
     requires { sound mem.now d.now ≡ true }
@@ -57,7 +57,7 @@ pub(crate) fn held_at(mem: &[u32], d: &Manager, id: u32, address: u32) -> Result
 {
     let region = objects::find::<Region>(d, id).ok_or(Status::InvalidId)?;
     let site = Site::of(region);
-    let pages = map::held_word_at(mem, site.layout, site.region.page, address);
-    ensure(pages != 0, Status::InvalidAddress)?;
+    let pages = map::held_word_at(mem, site.layout, site.region.page, address)
+        .ok_or(Status::InvalidAddress)?;
     Ok(Held { site, pages })
 }

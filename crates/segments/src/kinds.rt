@@ -44,7 +44,10 @@ pub(crate) fn can_have(map: &[u32], o: Order, p: usize, k: u64) -> bool
     ensures { result ≡ (kind_of o).can_have p k 0 (decode map.now) }
 {
     if map::by_halves(o) {
-        return k == map::held_word(map, p) as u64;
+        let Some(n) = map::held_word(map, p) else {
+            return false;
+        };
+        return k == n as u64;
     }
     k <= pages::reach_at(map, p) as u64
 }

@@ -1,7 +1,7 @@
 // The part of the memory that is a region's map, lent to the stores of `kinds`. Pages are named by address here, and there by the
 // place of their word: these functions need a live region of sound records, of which the memory is lent and rewritten, so that it is asked
 // for in the clauses. Each lends the words by itself: a function that hands out `&mut mem[at..end]` would have to say what its caller
-// leaves there, and be no plainer.
+// leaves there, and be no plainer. A site and an address go separately: they are numbers of one call, and the address is tested here.
 ghost use Rattle.std.specs.Prelude.{◌≡◌, true, ◌≤◌};
 ghost use Rattle.manager.specs.Region.{held_at, can_have};
 ghost use Rattle.manager.specs.Sound.{Sited};

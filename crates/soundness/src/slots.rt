@@ -90,7 +90,8 @@ impl Checked for Partition {
     }
 }
 
-// Whether a slot has a sound generation, and is empty or a sound object.
+// Whether a slot has a sound generation, and is empty or a sound object. An empty slot has name 0: that is the record's form, which callers
+// keep.
 fn sound_slot<T: Checked>(mem: &[u32], x: &T) -> bool
     ensures { result ≡ (sound_generation (T.name x.now) (T.generation x.now) && cond (eqb (T.name x.now) 0) (T.empty x.now) (T.live mem.now x.now)) }
 {
