@@ -57,7 +57,8 @@ pub(crate) fn held_at(mem: &[u32], d: &Manager, id: u32, address: u32) -> Result
 {
     let region = objects::find::<Region>(d, id).ok_or(Status::InvalidId)?;
     let site = Site::of(region);
-    let pages = map::held_word_at(mem, site.layout, site.region.page, address)
-        .ok_or(Status::InvalidAddress)?;
+    let pages = map::held_word_at(mem, site.layout, site.region.page, address).ok_or(
+        Status::InvalidAddress,
+    )?;
     Ok(Held { site, pages })
 }
