@@ -69,9 +69,9 @@ extern "C" {
 #define STEEPLECLAY_RECORD_VERSION 3
 
 /*
- * The stack that a call needs: 15 KB were measured, rounded up here. tests/stack/run measures it:
- * each function is called on a stack filled with a pattern, with fresh, full and damaged records,
- * and the deepest word that was written counts.
+ * The stack that a call needs, rounded up: 9 KB are measured now, and 15 KB were when this number
+ * was chosen. tests/stack/run measures it: each function is called on a stack filled with a
+ * pattern, with fresh, full and damaged records, and the deepest word that was written counts.
  */
 #define SC_STACK_BYTES 16384u
 

@@ -1,15 +1,18 @@
 -- Why a held segment can be read and written in place: it lies in the memory, words copied over the front of a part are a run of stores
 -- into the whole, and each exit of the code is one of the definition. Assumes nothing.
-use Prim.Native.Nat.{ℕ, ◌+◌, ◌*◌, ◌/◌, ◌%◌, ◌^◌, ◌≤◌, ◌<◌}
+use Prim.Native.Nat.{ℕ, zero, suc, min, ◌+◌, ◌*◌, ◌/◌, ◌%◌, ◌^◌, ◌≤◌, ◌<◌}
 use mathlib.Core.Path.{◌≡◌, refl, sym, ap, subst⁻¹, ◌∙◌}
 use mathlib.Core.Bool.{Bool, true, false, cond}
-use mathlib.Core.List.{List, ◌∷◌, ◌++◌, append_assoc}
+use mathlib.Core.List.{List, [], ◌∷◌, ◌++◌, append-nil, append_assoc}
 use native.Mathlib.Omega.{arith}
 use native.Mathlib.Nat.{add-mul, div-add-mod', le_of_lt, lt_of_le_of_lt, mul-le-mul_left, mul-le-mul_right, mul-lt-mul_of_pos_right, pos_of_ne-zero}
 use borrow.Author.Tests.{eqb-true, eqb-false}
-use lib.ListN.{length, take, drop}
+use Rattle.std.proofs.lemmas.Bool.{leb-true, leb-false}
+use lib.Dec.{leb}
+use native.Mathlib.Numerals.{add-one}
+use lib.ListN.{length, get_or, set, take, drop, drop_of_length-le, length-set}
 use lib.Pow.{pow_pos, pow-add}
-use lib.Seq.{sets, sets-eq, drop-drop}
+use lib.Seq.{sets, sets-eq, drop-drop, drop-cons}
 use Rattle.arith.proofs.Laws.Layout.{count_end}
 use Rattle.manager.specs.Access.{words_in}
 use borrow.Rule.Slice.PartMut.{put_mid}
@@ -96,10 +99,45 @@ module _ (m : List ℕ) (d : Manager) (ok : sound m d ≡ true) (id : ℕ) (f : 
   pub held_inside : (held_at m (region_of d id) a ≡ 0 → ⊥) → a / 4 + words_in m d id a ≤ length m
   held_inside n = held_words m (region_of d id) (sited m d id ok f) a (held_at m (region_of d id) a) refl (pos_of_ne-zero n)
 
--- words stored over the part from f on, of as many words
-pub stored : (f k : ℕ) (m w : List ℕ) → k ≡ length w → f + k ≤ length m → put_mid f k m w ≡ sets m f w
-stored f k m w e h =
+-- ---- words copied over the first ones of others: those before k
+
+set_out : (ws : List ℕ) (i x : ℕ) → length ws ≤ i → set ws i x ≡ ws
+set_out [] i x h = refl
+set_out (w ∷ ws) zero x h = absurd (omega (arith, h))
+set_out (w ∷ ws) (suc i) x h = ap (λ (l : List ℕ). w ∷ l) (set_out ws i x (omega arith))
+
+sets_out : (vs ws : List ℕ) (i : ℕ) → length ws ≤ i → sets ws i vs ≡ ws
+sets_out [] ws i h = refl
+sets_out (x ∷ vs) ws i h = rw (set_out ws i x h) (sets_out vs ws (suc i) (omega arith))
+
+pub record Copying (ws from out : List ℕ) (k : ℕ) : Type 0 where
+  pub size : length out ≡ length ws
+  pub rest : sets out k (drop k from) ≡ sets ws 0 from
+
+module _ (ws from : List ℕ) where
+  pub copy_start : Copying ws from ws 0
+  copy_start = record { size = refl; rest = refl }
+
+  module _ (out : List ℕ) (k : ℕ) (v : Copying ws from out k) where
+    pub copy_next : k < length from → (x : ℕ) → x ≡ get_or from k 0 → Copying ws from (set out k x) (k + 1)
+    copy_next h x e = record { size = length-set out k x ∙ v.size; rest = rw (e, add-one) (rw (drop-cons from k 0 h) at v.rest) }
+
+    pub copy_end : min (length ws) (length from) ≤ k → out ≡ sets ws 0 from
+    copy_end h = by_end (leb (length from) k) refl
+      where
+        by_end : (b : Bool) → leb (length from) k ≡ b → out ≡ sets ws 0 from
+        by_end true e = rw (drop_of_length-le from {i = k} (leb-true _ _ e)) at v.rest
+        by_end false e = sym (sets_out (drop k from) out k (omega (arith, v.size, leb-false _ _ e))) ∙ v.rest
+
+pub ruleset copying = (copy_start, copy_next, copy_end)
+
+-- words copied over the part from f on, of as many words, are stored into the whole
+pub stored : (f k : ℕ) (m s w : List ℕ) → length s ≡ length w → k ≡ length w → f + k ≤ length m → put_mid f k m (sets s 0 w) ≡ sets m f w
+stored f k m s w l e h =
     let g : f + length w ≤ length m = omega arith in
-    rw e
+    let z : 0 + length w ≡ length w = omega arith in
+    let all : sets s 0 w ≡ w =
+    sets-eq w s 0 (omega (arith, l)) ∙ ap (λ (i : ℕ). w ++ drop i s) z ∙ ap (λ (r : List ℕ). w ++ r) (drop_of_length-le s {i = length w} (omega (arith, l))) ∙ append-nil w in
+    rw (e, all)
     (ap (λ (l : List ℕ). take f m ++ (w ++ l)) (drop-drop (length w) f m)
     ∙ sym (sets-eq w m f g ∙ append_assoc (take f m) w (drop (f + length w) m)))

@@ -2,6 +2,7 @@
 #![tactic(auto)]
 
 ghost use Rattle.std.specs.Prelude.{◌≡◌, ◌*◌, ◌/◌, ◌≤◌, length, IfOk};
+ghost use Rattle.std.proofs.lemmas.List.Edits.{sets};
 ghost use Rattle.manager.specs.Result.{Performs};
 ghost use Rattle.manager.specs.Access.{read_segment, write_segment};
 ghost use Rattle.access.specs.Held.{held_words};
@@ -59,6 +60,17 @@ pub fn write_segment(
     reply::answer(d, done)
 }
 
+// Copies words to the first ones of others, as far as there are any. Word by word: the library's `copy_from_slice` moves by `memmove`, and
+// the archive for C is to need `memcpy` and `memset` alone.
+pub fn copy(words: &mut [u32], from: &[u32])
+    ensures { words.new ≡ sets words.old 0 from.now }
+{
+    let n = words.len().min(from.len());
+    for k in 0..n {
+        words[k] = from[k];
+    }
+}
+
 // Its checks: 25, 4, 9, and 8 for words that would end past the segment's end.
 #[tactic(auto, using(crate::proofs::Laws::stored), unfolding(manager::specs::Access::write_segment, manager::specs::Result::checked))]
 fn write(
@@ -75,6 +87,6 @@ fn write(
     let from = held.start + first as usize;
     let to = from + words.len();
     ensure(to <= held.end, Status::InvalidSize)?;
-    mem[from..to].copy_from_slice(words);
+    copy(&mut mem[from..to], words);
     Ok(0)
 }

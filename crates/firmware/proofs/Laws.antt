@@ -3,7 +3,7 @@
 use mathlib.Core.Path.{◌≡◌, refl, ap, sym, ◌∙◌}
 use mathlib.Core.Bool.{Bool, true, false, cond, ◌&&◌}
 use mathlib.Core.List.{List, [], ◌∷◌, ◌++◌, append_assoc}
-use Prim.Native.Nat.{ℕ, zero, suc, ◌+◌, ◌-◌, ◌*◌, ◌≤◌, ◌<◌, min}
+use Prim.Native.Nat.{ℕ, zero, suc, ◌+◌, ◌-◌, ◌*◌, ◌≤◌, ◌<◌}
 use native.Mathlib.Omega.{arith}
 use borrow.Author.Tests.{le-leb, lt-leb}
 use borrow.Rule.Slice.PartMut.{put_mid}
@@ -90,39 +90,18 @@ module _ (state m answer : List ℕ) (call : Call) where
 
 pub ruleset calling = (too_short, no_record, ran)
 
--- THE WORDS OF A SEGMENT: as many as there is room for
-sets_below : (vs ws : List ℕ) (i w : ℕ) → sets (w ∷ ws) (suc i) vs ≡ w ∷ sets ws i vs
-sets_below [] ws i w = refl
-sets_below (x ∷ vs) ws i w = sets_below vs (set ws i x) (suc i) w
-
-none_put : (vs : List ℕ) (i : ℕ) → sets [] i vs ≡ []
-none_put [] i = refl
-none_put (x ∷ vs) i = none_put vs (suc i)
-
--- as many as either has
-both_take : (n : ℕ) (part words : List ℕ) → n ≤ length part → n ≤ length words → (n < length part → n < length words → ⊥) → take n part ++ drop n words ≡ sets words 0 part
-both_take zero [] words h k m = refl
-both_take zero (x ∷ part) [] h k m = sym (none_put part 1)
-both_take zero (x ∷ part) (w ∷ words) h k m = absurd (m (omega arith) (omega arith))
-both_take (suc n) [] words h k m = absurd (omega arith)
-both_take (suc n) (x ∷ part) [] h k m = absurd (omega arith)
-both_take (suc n) (x ∷ part) (w ∷ words) h k m =
-    rw (both_take n part words (omega arith) (omega arith) (λ p q. m (omega arith) (omega arith))) (sym (sets_below part words 0 x))
-
-copied : (part words : List ℕ) (n : ℕ) → n ≡ min (length part) (length words) → take n part ++ drop n words ≡ sets words 0 part
-copied part words n e = both_take n part words (omega (arith, e)) (omega (arith, e)) (λ p q. omega (arith, e))
-
+-- THE WORDS OF A SEGMENT
 module _ (state m : List ℕ) (id address : ℕ) where
   pub read_none : None ≡ unpacked state → (words : List ℕ) → Reads (segment_words state m id address) words words 0
   unfolding segment_words
   read_none e words = rw (malformed state e) (record { copied = refl; many = refl })
 
-  pub read_some : (d : Manager) → Some d ≡ unpacked state → (part words front : List ℕ) (n : ℕ) → part ≡ read_segment m d id address
-      → n ≡ min (length part) (length words) → front ≡ take n part → Reads (segment_words state m id address) words (front ++ drop n words) (length part)
+  pub read_some : (d : Manager) → Some d ≡ unpacked state → (part words out : List ℕ) → part ≡ read_segment m d id address
+      → out ≡ sets words 0 part → Reads (segment_words state m id address) words out (length part)
   unfolding segment_words
-  read_some d u part words front n g e f =
+  read_some d u part words out g f =
       let read : part ≡ read_segment m (unpack state) id address = rw (formed state d u).1 g in
-      rw ((formed state d u).0, ← read, f) (record { copied = copied part words n e; many = refl })
+      rw ((formed state d u).0, ← read) (record { copied = f; many = refl })
 
   module _ (first : ℕ) (words : List ℕ) where
     pub write_none : None ≡ unpacked state → Writes (segment_written state m id address first words) m 25

@@ -259,8 +259,7 @@ pub fn sc_segment_read(
         return 0;
     };
     let part = access::read_segment(memory, manager, id, address);
-    let n = part.len().min(words.len());
-    words[..n].copy_from_slice(&part[..n]);
+    access::copy(words, part);
     part.len()
 }
 

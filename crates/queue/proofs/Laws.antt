@@ -1,8 +1,9 @@
 -- What a step of the queue's functions does to a list, over plain variables. Assumes nothing.
-use Rattle.std.proofs.Common.{ℕ, suc, ◌-◌, ◌<◌, ◌≤◌, ◌≡◌, refl, sym, ap, ◌∙◌, arith, Bool, true, false, cond, List, [], ◌∷◌, ◌++◌, length, take, drop, set, ltb, Option, Some, None}
-use Rattle.std.proofs.lemmas.List.{set_split}
-use Rattle.std.proofs.Math.Seq.{take_all, take_at, drop_at, length-take-le}
+use Rattle.std.proofs.Common.{ℕ, suc, ◌+◌, ◌-◌, ◌<◌, ◌≤◌, ◌≡◌, refl, sym, ap, ◌∙◌, arith, Bool, true, false, cond, List, [], ◌∷◌, ◌++◌, length, take, drop, set, get_or, ltb, Option, Some, None}
+use Rattle.std.proofs.lemmas.List.{set_split, drop-set-lt}
+use Rattle.std.proofs.Math.Seq.{take_all, take-suc-set, drop-cons, append_snoc}
 use Rattle.std.proofs.Math.ListN.{drop_of_length-le, length-drop, length-set}
+use Rattle.std.proofs.Math.Numerals.{add-one}
 use mathlib.Core.List.{append-nil}
 use borrow.Rule.Slice.PartMut.{put_mid}
 use Rattle.manager.specs.declared.Manager.{Manager}
@@ -18,39 +19,80 @@ use Rattle.objects.proofs.Searched.{place_missing, place_found, place_within}
 pub found_within : (n m i : ℕ) (r : Option ℕ) → n ≡ m → r ≡ cond (ltb i n) (Some i) None → r ≡ below m i
 found_within n m i r e f = f ∙ ap (λ (k : ℕ). below k i) e
 
--- PUSH AND PULL, by a write and a turn
-push_take : (w x : Waiter) (l : List Waiter) → push w (x ∷ l) ≡ w ∷ take (length l) (x ∷ l)
-unfolding push
-push_take w x [] = refl
-push_take w x (y ∷ l) = ap (λ (s : List Waiter). w ∷ s) (push_take x y l)
+-- PUSH: each place gets what is carried, and what stood there goes on; c is what place i gets
+module _ (c : Waiter) (a : List Waiter) (i : ℕ) where
+  push_step : i < length a → take (suc i) (set a i c) ++ push (get_or a i no_waiter) (drop (suc i) (set a i c)) ≡ take i a ++ push c (drop i a)
+  unfolding push
+  push_step h = rw (take-suc-set a i c h, drop-set-lt (suc i) a i c (omega arith), drop-cons a i no_waiter h, append_snoc) refl
 
-pub push_none : (w : Waiter) (ws : List Waiter) → length ws ≤ 0 → ws ≡ push w ws
-unfolding push
-push_none w [] h = refl
-push_none w (x ∷ ws) h = absurd (omega (arith, h))
+  push_end : length a ≤ i → take i a ++ push c (drop i a) ≡ a
+  unfolding push
+  push_end h = rw (drop_of_length-le a {i = i} h, append-nil, take_all i a h) refl
 
-turned : (w : Waiter) (t s : List Waiter) (m : ℕ) → s ≡ t ++ w ∷ [] → length t ≡ m → drop m s ++ take m s ≡ w ∷ t
-turned w t s m e k = rw (e, drop_at t (w ∷ []) m k, take_at t (w ∷ []) m k) refl
+-- the places before i are done
+pub record Pushing (w : Waiter) (ws : List Waiter) (a : List Waiter) (c : Waiter) (i : ℕ) : Type 0 where
+  pub size : length a ≡ length ws
+  pub rest : take i a ++ push c (drop i a) ≡ push w ws
 
-pub push_turned : (w : Waiter) (ws b : List Waiter) → 0 < length ws
-    → b ≡ drop (length (set ws (length ws - 1) w) - 1) (set ws (length ws - 1) w) ++ take (length (set ws (length ws - 1) w) - 1) (set ws (length ws - 1) w)
-    → b ≡ push w ws
-push_turned w [] b h f = absurd (omega (arith, h))
-push_turned w (x ∷ l) b h f =
-    let all : List Waiter = x ∷ l in
-    let n : length all - 1 ≡ length l = omega arith in
-    let m : length (set all (length all - 1) w) - 1 ≡ length l = omega (arith, length-set all (length all - 1) w) in
-    let last : set all (length all - 1) w ≡ take (length l) all ++ w ∷ [] =
-    rw n (set_split all (length l) w (omega arith) ∙ ap (λ (r : List Waiter). take (length l) all ++ w ∷ r) (drop_of_length-le all {i = suc (length l)} (omega arith))) in
-    f ∙ turned w (take (length l) all) _ _ last (length-take-le (length l) all (omega arith) ∙ sym m) ∙ sym (push_take w x l)
+module _ (w : Waiter) (ws : List Waiter) where
+  pub push_start : Pushing w ws ws w 0
+  push_start = record { size = refl; rest = refl }
 
-pub pull_turned : (ws b : List Waiter) (z : Waiter) → z ≡ no_waiter → 0 < length ws → b ≡ drop 1 (set ws 0 z) ++ take 1 (set ws 0 z) → b ≡ pull ws
-pull_turned [] b z e h f = absurd (omega (arith, h))
-pull_turned (x ∷ l) b z e h f = f ∙ ap (λ (w : Waiter). l ++ w ∷ []) e
+  module _ (a : List Waiter) (c : Waiter) (i : ℕ) (v : Pushing w ws a c i) where
+    pub push_next : i < length a → (x : Waiter) → x ≡ get_or a i no_waiter → Pushing w ws (set a i c) x (i + 1)
+    push_next h x e = record { size = length-set a i c ∙ v.size; rest = rw (e, add-one) (push_step c a i h ∙ v.rest) }
 
-pub pull_none : (ws : List Waiter) → length ws ≤ 0 → ws ≡ pull ws
-pull_none [] h = refl
-pull_none (x ∷ ws) h = absurd (omega (arith, h))
+    pub pushed : length a ≤ i → a ≡ push w ws
+    pushed h = sym (push_end c a i h) ∙ v.rest
+
+pub ruleset pushing = (push_start, push_next, pushed)
+
+-- PULL: each place gets what stands behind it, and the last is unused then
+module _ (a : List Waiter) (p : ℕ) where
+  pull_step : suc p < length a
+      → take (suc p) (set a p (get_or a (suc p) no_waiter)) ++ pull (drop (suc p) (set a p (get_or a (suc p) no_waiter))) ≡ take p a ++ pull (drop p a)
+  pull_step h =
+      let g : p < length a = omega arith in
+      rw (take-suc-set a p (get_or a (suc p) no_waiter) g, drop-set-lt (suc p) a p (get_or a (suc p) no_waiter) (omega arith), drop-cons a p no_waiter g, drop-cons a (suc p) no_waiter h, append_snoc) refl
+
+  pull_end : length a ≡ suc p → set a p no_waiter ≡ take p a ++ pull (drop p a)
+  pull_end h =
+      let g : p < length a = omega arith in
+      rw (set_split a p no_waiter g, drop-cons a p no_waiter g, drop_of_length-le a {i = suc p} (omega arith)) refl
+
+-- the places in front of the one before i are done
+pub record Pulling (ws a : List Waiter) (i : ℕ) : Type 0 where
+  pub size : length a ≡ length ws
+  pub within : i - 1 ≤ length ws - 1
+  pub rest : take (i - 1) a ++ pull (drop (i - 1) a) ≡ pull ws
+
+none_left : (ws a : List Waiter) → length a ≡ length ws → length a ≤ 0 → a ≡ pull ws
+none_left [] [] e h = refl
+none_left (x ∷ ws) [] e h = absurd (omega (arith, e))
+none_left [] (y ∷ a) e h = absurd (omega (arith, h))
+none_left (x ∷ ws) (y ∷ a) e h = absurd (omega (arith, h))
+
+module _ (ws : List Waiter) where
+  pub pull_start : Pulling ws ws 1
+  pull_start = record { size = refl; within = omega arith; rest = refl }
+
+  module _ (a : List Waiter) (i : ℕ) (v : Pulling ws a i) where
+    pub pull_next : 1 ≤ i → i < length a → (x : Waiter) → x ≡ get_or a i no_waiter → Pulling ws (set a (i - 1) x) (i + 1)
+    pull_next k h x e =
+        let s : i ≡ suc (i - 1) = omega arith in
+        let n : i + 1 - 1 ≡ suc (i - 1) = omega arith in
+        let g : suc (i - 1) < length a = omega arith in
+        record { size = length-set a (i - 1) x ∙ v.size; within = omega (arith, v.size); rest = rw (n, e ∙ ap (λ (j : ℕ). get_or a j no_waiter) s) (pull_step a (i - 1) g ∙ v.rest) }
+
+    pub pulled : 0 < length a → length a ≤ i → (z : Waiter) → z ≡ no_waiter → set a (length a - 1) z ≡ pull ws
+    pulled k h z u =
+        let e : length a - 1 ≡ i - 1 = omega (arith, v.size, v.within) in
+        rw (u, e) (pull_end a (i - 1) (omega arith) ∙ v.rest)
+
+    pub pulled_none : length a ≤ 0 → a ≡ pull ws
+    pulled_none h = none_left ws a v.size h
+
+pub ruleset pulling = (pull_start, pull_next, pulled, pulled_none)
 
 -- THE QUEUE FROM A PLACE ON, put back after a change
 module _ (ws ys : List Waiter) (i : ℕ) (h : i ≤ length ws) where

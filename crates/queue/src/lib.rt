@@ -44,13 +44,14 @@ fn place_for(o: Order, w: Waiter, ws: &[Waiter; Manager::TASKS]) -> Option<usize
     ws.iter().position(|x| goes_before(o, w, *x))
 }
 
-// w in front of some places; each goes one place on, and the last falls off.
+// w in front of some places; each goes one place on, and the last falls off. Not by a turn of the slice, and so in `pull`: the library turns
+// one by `memmove`, and the archive for C is to need `memcpy` and `memset` alone.
 fn push(ws: &mut [Waiter], w: Waiter)
     ensures { ws.new ≡ push w ws.old }
 {
-    if let Some(last) = ws.last_mut() {
-        *last = w;
-        ws.rotate_right(1);
+    let mut carried = w;
+    for x in ws.iter_mut() {
+        std::mem::swap(x, &mut carried);
     }
 }
 
@@ -58,9 +59,11 @@ fn push(ws: &mut [Waiter], w: Waiter)
 fn pull(ws: &mut [Waiter])
     ensures { ws.new ≡ pull ws.old }
 {
-    if let Some(first) = ws.first_mut() {
-        *first = Waiter::default();
-        ws.rotate_left(1);
+    for i in 1..ws.len() {
+        ws[i - 1] = ws[i];
+    }
+    if let Some(last) = ws.last_mut() {
+        *last = Waiter::default();
     }
 }
 

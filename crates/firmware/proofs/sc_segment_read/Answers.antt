@@ -6,4 +6,4 @@ pub returns-in_default : goal.returns-in_default
 returns-in_default c = read_none _ _ _ _ c.in_default.ensures _
 
 pub returns : goal.returns
-returns c = read_some _ _ _ _ _ c.in-Some.ensures _ _ _ _ c.read_segment-part.ensures c.min-n.ensures c.copy_from_slice.ensures.after
+returns c = read_some _ _ _ _ _ c.in-Some.ensures _ _ _ c.read_segment-part.ensures c.copy.ensures

@@ -1,10 +1,16 @@
--- The first place is written, and the places turned. Assumes nothing.
+-- The next place is taken by what stands behind it; in the end the last one is unused. Assumes nothing.
 use Rattle.std.proofs.Common.{rules}
-use Rattle.queue.proofs.Laws.{pull_turned, pull_none}
+use Rattle.queue.proofs.Laws.{pulling}
 use Rattle.queue.proofs.pull.Goals as goal
 
+pub loop-i-init : goal.loop-i-init
+loop-i-init c = search (rules, pulling)
+
+pub loop-i-preserved : goal.loop-i-preserved
+loop-i-preserved c = search (rules, pulling)
+
 pub returns-in-Some : goal.returns-in-Some
-returns-in-Some c = pull_turned c.args.ws.now _ _ (search rules) c.in-Some.ensures.item.3.0 c.rotate_left.ensures.after
+returns-in-Some c = search (rules, pulling)
 
 pub returns-in_default : goal.returns-in_default
-returns-in_default c = pull_none c.args.ws.now c.in_default.ensures.item.3
+returns-in_default c = search (rules, pulling)
