@@ -1,4 +1,5 @@
-// Finding objects and areas in the manager record. Every function is total, and nothing but the record is read.
+// Finding objects and areas in the manager record. Every function is total but `id_at`, which asks for a slot that there is and whose id fits,
+// and nothing but the record is read.
 #![tactic(auto)]
 
 mod areas;
