@@ -10,6 +10,7 @@ use borrow.Rule.Slice.PartMut.{put_mid}
 use lib.Dec.{eqb, leb}
 use lib.ListN.{length, set, take, drop, replicate, take-append-drop}
 use lib.Seq.{sets, sets-eq}
+use Rattle.std.proofs.lemmas.List.{set-get_or}
 use Rattle.std.proofs.Common.{Some, None}
 use Rattle.std.proofs.lemmas.List.{take_at, drop_at, drop_all, length-drop, append-nil}
 use Rattle.std.proofs.lemmas.Option.{none-some, cond_some}
@@ -26,14 +27,17 @@ use Rattle.packing.proofs.Laws.{all_length}
 use Rattle.firmware.specs.Exported.{perform, read_segment, write_segment, answer_size, notice_words, answer_words, called, Leaves, segment_words, Reads, segment_written, Writes}
 
 -- AN ANSWER IN WORDS: behind the value the information, and behind this the notices
-pub answer_put : (ws i ns : List ℕ) (a : Answer) → length ws ≡ answer_size → i ≡ information_words a.information
-    → ns ≡ all_words notice_words a.notices → put_mid 7 48 (put_mid 1 6 (set ws 0 a.value) i) ns ≡ answer_words a
+pub answer_put : (ws i ns : List ℕ) (told : List Notice) (a : Answer) → length ws ≡ answer_size → i ≡ information_words a.information
+    → ns ≡ all_words notice_words told → told ≡ a.notices → put_mid 7 48 (put_mid 1 6 (set ws 0 a.value) i) ns ≡ answer_words a
 unfolding answer_words
-answer_put [] i ns a some i-is ns-is = absurd (omega arith)
-answer_put (w ∷ ws) i ns a some i-is ns-is =
+answer_put [] i ns told a some i-is ns-is t = absurd (omega arith)
+answer_put (w ∷ ws) i ns told a some i-is ns-is t =
     let six : length i ≡ 6 = ap length i-is in
     let all : length (drop 6 ws) ≤ 48 = omega (arith, length-drop 6 ws, some) in
-    rw (take_at i (drop 6 ws) 6 six, drop_at i (drop 6 ws) 6 six, drop_all 48 (drop 6 ws) all, append-nil, i-is, ns-is)
+    rw (take_at i (drop 6 ws) 6 six, drop_at i (drop 6 ws) 6 six, drop_all 48 (drop 6 ws) all, append-nil, i-is, ns-is, t)
+
+-- notices in which one is put back as it stands are the same notices
+pub ruleset answering = (answer_put, set-get_or)
 
 -- there are as many words as the header says
 pub answer_length : (a : Answer) → length a.notices ≡ tasks → length (answer_words a) ≡ answer_size

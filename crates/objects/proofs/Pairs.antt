@@ -1,16 +1,17 @@
 -- Each object with those behind it, one step after the other; and the areas of both kinds. Assumes nothing.
-use Rattle.std.proofs.Common.{eq-eqb, ne_eqb, ◌≡◌, ℕ, ◌+◌, Bool, true, false, not, ◌&&◌, ◌||◌, List, [], ◌∷◌, ◌++◌, length, eqb, ltb, refl, sym, ap, ◌∙◌, arith}
+use Rattle.std.proofs.Common.{◌≡◌, ℕ, ◌+◌, ◌-◌, ◌≤◌, ◌<◌, take, drop, get_or, Bool, true, false, not, ◌&&◌, ◌||◌, List, [], ◌∷◌, ◌++◌, length, eqb, ltb, refl, sym, ap, ◌∙◌, arith}
 use borrow.Author.Tests.{eqb-true, le-ltb}
 use mathlib.Core.Bool.{and-false, and-true}
+use Rattle.std.proofs.lemmas.List.{take_rest}
 use Rattle.manager.specs.declared.Area.{Area}
 use Rattle.manager.specs.declared.Region.{Region}
 use Rattle.manager.specs.declared.Partition.{Partition}
 use Rattle.manager.specs.Lists.{every, any, pairwise}
 use Rattle.manager.specs.Region.{area_of, region_areas, partition_areas, overlap}
 use Rattle.manager.specs.Sound.{other_name}
-use Rattle.manager.proofs.Laws.Lists.{and_first, and_second}
+use Rattle.manager.specs.Record.{slots}
+use Rattle.manager.proofs.Laws.Lists.{and_first, and_second, get_d_any, Pairing, pairwise_next, pairwise_fail, pairwise_end}
 use Rattle.objects.specs.Areas.{nowhere}
-use Rattle.objects.specs.Slots.{shared}
 
 module _ {A : Type 0} where
   -- none passes a test that all fail
@@ -18,11 +19,6 @@ module _ {A : Type 0} where
   unfolding any
   none_any t h [] = refl
   none_any t h (x ∷ l) = rw (h x) (none_any t h l)
-
-  every_same : (t u : A → Bool) → ((x : A) → t x ≡ u x) → (l : List A) → every t l ≡ every u l
-  unfolding every
-  every_same t u h [] = refl
-  every_same t u h (x ∷ l) = rw (h x) (ap (λ (b : Bool). u x && b) (every_same t u h l))
 
   -- every one fails a test where none passes it
   fails : (t : A → Bool) (x : A) (l : List A) (b : Bool) (w : Bool) → w ≡ not (any t l) → (not b && w) ≡ not (b || any t l)
@@ -33,6 +29,13 @@ module _ {A : Type 0} where
   unfolding every any
   every_not t [] = refl
   every_not t (x ∷ l) = fails t x l (t x) (every (λ x. not (t x)) l) (every_not t l)
+
+  -- the same of a test that c spares all
+  every_or : (c : Bool) (t : A → Bool) (l : List A) → every (λ x. c || not (t x)) l ≡ not (not c && any t l)
+  unfolding every any
+  every_or true t [] = refl
+  every_or true t (x ∷ l) = every_or true t l
+  every_or false t l = every_not t l
 
   -- THE STEPS OVER A LIST, where each has to pass the test with those behind it
   module _ (t : A → A → Bool) (all rest : List A) (h : pairwise t rest ≡ pairwise t all) where
@@ -66,32 +69,29 @@ module _ {A : Type 0} where
     pub clash_next : b ≡ false → pairwise (λ x y. not (u x y)) behind ≡ pairwise (λ x y. not (u x y)) all
     clash_next g = pairs_next (λ x y. not (u x y)) all rest h x behind e (met ∙ ap not g)
 
-  -- names that differ are names that are not shared
-  module _ (name : A → ℕ) where
-    other : (b e : Bool) → not (not b && e) ≡ (b || not e)
-    other true e = refl
-    other false e = refl
+-- NAMES THAT DIFFER: no name before place i is one behind it. The object x is in slot i, and b says whether its name is one from place j on,
+-- which is the next
+module _ {A : Type 0} (name : A → ℕ) (z : A) (l : List A) (w : Bool) (i : ℕ) (v : Pairing (other_name name) l slots w i) where
+  module _ (m k : List A) (q : m ≡ l) (p : k ≡ l) (h : i < length m) (x : A) (e : x ≡ get_or m i x) (n : ℕ) (f : n ≡ name x) (j : ℕ) (b : Bool)
+      (g : b ≡ (not (eqb n 0) && any (λ y. eqb n (name y)) (take (length k - j) (drop j k)))) (u : j ≡ i + 1) where
+    within : i < slots
+    within = omega (arith, v.size, ap length q)
 
-    pub names_shared : (l : List A) → pairwise (λ x y. not (shared name x y)) l ≡ pairwise (other_name name) l
-    unfolding pairwise
-    names_shared [] = refl
-    names_shared (x ∷ l) =
-        rw (every_same (λ y. not (shared name x y)) (other_name name x) (λ y. other (eqb (name x) 0) (eqb (name x) (name y))) l)
-        (ap (λ (b : Bool). every (other_name name x) l && b) (names_shared l))
+    behind : not b ≡ every (other_name name (get_or l i z)) (drop (i + 1) l)
+    behind =
+        let here : get_or l i z ≡ x = rw q at (get_d_any m i z x h ∙ sym e) in
+        let rest : take (length k - j) (drop j k) ≡ drop (i + 1) l = rw u (take_rest k (i + 1) ∙ ap (drop (i + 1)) p) in
+        ap not (g ∙ ap (λ (r : List A). not (eqb n 0) && any (λ y. eqb n (name y)) r) rest) ∙ sym (every_or (eqb n 0) (λ y. eqb n (name y)) (drop (i + 1) l))
+        ∙ rw (here, f)
 
-module _ {A : Type 0} (name : A → ℕ) (x : A) (l : List A) where
-  pub unnamed_shares : name x ≡ 0 → any (shared name x) l ≡ false
-  unnamed_shares e = none_any (shared name x) (λ y. rw (eq-eqb (name x) 0 e) refl) l
+    pub names_clash : b ≡ true → false ≡ w
+    names_clash c = pairwise_fail (other_name name) l slots w i v within z (not b) behind (ap not c)
 
-  pub named_shares : (name x ≡ 0 → ⊥) → any (λ y. eqb (name x) (name y)) l ≡ any (shared name x) l
-  unfolding any
-  named_shares n = go l
-    where
-      go : (k : List A) → any (λ y. eqb (name x) (name y)) k ≡ any (shared name x) k
-      go [] = refl
-      go (y ∷ k) = rw (ne_eqb (name x) 0 n) (ap (λ (b : Bool). eqb (name x) (name y) || b) (go k))
+    pub names_next : b ≡ false → Pairing (other_name name) l slots w (i + 1)
+    names_next c = pairwise_next (other_name name) l slots w i v within z (not b) behind (ap not c)
 
-pub ruleset sharing = (unnamed_shares, named_shares)
+  pub names_end : (m : List A) → m ≡ l → length m ≤ i → true ≡ w
+  names_end m q h = pairwise_end (other_name name) l slots w i v (omega (arith, v.size, ap length q))
 
 -- an area that is nowhere meets none
 pub nowhere_meets : (a : Area) → nowhere a ≡ true → (b : Area) → overlap a b ≡ false

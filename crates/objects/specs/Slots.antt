@@ -1,5 +1,5 @@
 -- The objects of a kind in the record, and what a search of its slots finds. Assumes nothing.
-use Rattle.std.specs.Prelude.{ℕ, Bool, cond, not, ◌&&◌, eqb, ltb}
+use Rattle.std.specs.Prelude.{ℕ, cond, eqb, ltb}
 use Rattle.std.specs.declared.option.Option.{Option}
 use Rattle.std.specs.declared.option.Option.TheVariants.{None, Some}
 
@@ -10,7 +10,3 @@ live name x = cond (eqb (name x) 0) None (Some x)
 -- a place, where it is one of so many
 abbrev pub below : ℕ → ℕ → Option ℕ
 below n i = cond (ltb i n) (Some i) None
-
--- one has a name, and another the same
-abbrev pub shared : {A : Type 0} → (A → ℕ) → A → A → Bool
-shared name x y = not (eqb (name x) 0) && eqb (name x) (name y)

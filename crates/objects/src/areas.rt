@@ -32,7 +32,6 @@ fn meets<T: Slot>(a: Area, all: &[T]) -> bool
 }
 
 // Whether no two of some objects have a byte in common.
-// The loop of `differ`, with another test; that says why they are two.
 fn disjoint<T: Slot>(all: &[T]) -> bool
     ensures { result ≡ pairwise (λ x y. not (overlap (T.area x) (T.area y))) all.now }
 {

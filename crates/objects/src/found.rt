@@ -1,13 +1,13 @@
-// What is found in the slots of a kind.
-ghost use Rattle.std.specs.Prelude.{◌≡◌, ◌<◌, ◌≤◌, eqb, get_or};
+// What is found in the slots of a kind, T, of the record that is lent, d.
+ghost use Rattle.std.specs.Prelude.{◌≡◌, ◌<◌, ◌≤◌, ◌&&◌, eqb, get_or, length, not};
 ghost use Rattle.manager.specs.Record.{slots, generations, unspent, object_of, id_of};
 ghost use Rattle.manager.specs.Lists.{any, index_of, pairwise};
 ghost use Rattle.manager.specs.Sound.{other_name, sound_names};
-ghost use Rattle.objects.specs.Slots.{live, below, shared};
+ghost use Rattle.objects.specs.Slots.{live, below};
 
 use crate::slot::Slot;
 use crate::{id_of, slot_of};
-use manager::Manager;
+use manager::{Manager, Partition, Region};
 
 // The live object of an id.
 pub fn find<T: Slot>(d: &Manager, id: u32) -> Option<T>
@@ -17,11 +17,19 @@ pub fn find<T: Slot>(d: &Manager, id: u32) -> Option<T>
     x.has_id(id).then_some(x)
 }
 
+// The place of the first of some objects with a name.
+fn first_named<T: Slot>(all: &[T], name: u32) -> Option<usize>
+    ensures { result ≡ below (length all.now) (index_of (λ x. eqb (T.name x) name) all.now) }
+{
+    all.iter().position(|x| x.name() == name)
+}
+
 // The slot of the first object with a name.
+#[tactic(auto, using(crate::proofs::Slots::found_below))]
 pub fn named<T: Slot>(d: &Manager, name: u32) -> Option<usize>
     ensures { result ≡ below slots (index_of (λ x. eqb (T.name x) name) (T.slots_of d.now)) }
 {
-    T::slots(d).iter().position(|x| x.name() == name)
+    first_named(T::slots(d), name)
 }
 
 // The lowest slot that a new object may take.
@@ -47,25 +55,23 @@ fn has_name<T: Slot>(all: &[T], name: u32) -> bool
     all.iter().any(|x| name == x.name())
 }
 
-// Whether an object has a name, and one of others the same.
-#[tactic(auto, using(crate::proofs::Pairs::sharing))]
-fn shares_name<T: Slot>(x: &T, others: &[T]) -> bool
-    ensures { result ≡ any (shared T.name x.now) others.now }
+// Whether a name is that of an object, and one of others has it too.
+fn shares_name<T: Slot>(name: u32, others: &[T]) -> bool
+    ensures { result ≡ (not (eqb name 0) && any (λ x. eqb name (T.name x)) others.now) }
 {
-    x.name() != 0 && has_name(others, x.name())
+    name != 0 && has_name(others, name)
 }
 
-// Whether none of some objects has a name that one before it has.
-// The loop of `disjoint`, with another test. One function over a closure was tried: a caller cannot name its test there, so the proof did not close.
-fn differ<T: Slot>(all: &[T]) -> bool
-    ensures { result ≡ pairwise (other_name T.name) all.now }
+// Whether no object of a kind has the name of one behind it.
+// Slot by slot, where `disjoint` goes over a slice: so an edit can take another kind's slots, and nothing else (`names_across_kinds`).
+// One function for both, over a closure, was tried: a caller cannot name its test there, so the proof did not close.
+fn differ<T: Slot>(d: &Manager) -> bool
+    ensures { result ≡ pairwise (other_name T.name) (T.slots_of d.now) }
 {
-    let mut rest = all;
-    while let Some((x, behind)) = rest.split_first() {
-        if shares_name(x, behind) {
+    for (i, x) in T::slots(d).iter().enumerate() {
+        if shares_name(x.name(), &T::slots(d)[i + 1..]) {
             return false;
         }
-        rest = behind;
     }
     true
 }
@@ -74,5 +80,5 @@ fn differ<T: Slot>(all: &[T]) -> bool
 pub fn names_differ(d: &Manager) -> bool
     ensures { result ≡ sound_names d.now }
 {
-    differ(&d.regions) && differ(&d.partitions)
+    differ::<Region>(d) && differ::<Partition>(d)
 }

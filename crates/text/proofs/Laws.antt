@@ -14,7 +14,6 @@ use lib.Dec.{eqb, ltb}
 use borrow.Author.Tests.{eq-eqb, ne_eqb, eqb-true, lt-ltb, le-ltb}
 use Rattle.std.specs.Prelude.{Option, Some, None, option_map}
 use Rattle.std.specs.Char.{IsAsciiDigit, IsNotAsciiDigit}
-use Rattle.std.specs.Cmp.Lexicographic.{pointwise}
 use Rattle.std.specs.List.{position, position_or_len, slice_range, starts_with}
 use Rattle.std.proofs.lemmas.Option.{none-some, same_Some}
 use Rattle.text.specs.Lines.{number_after, number_of, line_from, line_at, starts, part, took, field_at}
@@ -94,18 +93,16 @@ key_go false false r e = refl
 key_go true false r e = absurd (true≢false e)
 key_go false true r e = absurd (true≢false (sym e))
 
-pub starts_pointwise : (ks bs : List ℕ) → pointwise eqb (take (length ks) bs) ks ≡ starts ks bs
-unfolding starts
-starts_pointwise [] bs = refl
-starts_pointwise (k ∷ ks) [] = refl
-starts_pointwise (k ∷ ks) (b ∷ bs) = rw (starts_pointwise ks bs) (key_go (eqb b k) (eqb k b) (starts ks bs) (grind arith))
-
 -- the slice's own test
 pub starts_same : (ks bs : List ℕ) → starts_with eqb bs ks ≡ starts ks bs
 unfolding starts
 starts_same [] bs = refl
 starts_same (k ∷ ks) [] = refl
 starts_same (k ∷ ks) (b ∷ bs) = rw (starts_same ks bs) (key_go (eqb k b) (eqb k b) (starts ks bs) refl)
+
+-- the same where what it is given is the whole key
+pub starts_whole : (ks p bs : List ℕ) (b : Bool) → p ≡ ks → b ≡ starts_with eqb bs p → b ≡ starts ks bs
+starts_whole ks p bs b q e = e ∙ rw q (starts_same ks bs)
 
 starts_go : (k b : ℕ) (ks bs : List ℕ) (t : Bool) → cond t (starts ks bs) false ≡ true → (starts ks bs ≡ true → length ks ≤ length bs) → length (k ∷ ks) ≤ length (b ∷ bs)
 starts_go k b ks bs true e f = let h : length ks ≤ length bs = f e in omega arith
@@ -117,6 +114,19 @@ unfolding starts
 starts_long [] bs e = omega arith
 starts_long (k ∷ ks) [] e = absurd (true≢false (sym e))
 starts_long (k ∷ ks) (b ∷ bs) e = starts_go k b ks bs (eqb k b) e (λ u. starts_long ks bs u)
+
+-- and what is shorter does not start with it
+short_go : (t r : Bool) → false ≡ r → false ≡ cond t r false
+short_go true r e = e
+short_go false r e = refl
+
+pub starts_short : (ks bs : List ℕ) → length bs < length ks → false ≡ starts ks bs
+unfolding starts
+starts_short [] bs h = absurd (omega arith)
+starts_short (k ∷ ks) [] h = refl
+starts_short (k ∷ ks) (b ∷ bs) h = short_go (eqb k b) (starts ks bs) (starts_short ks bs (omega arith))
+
+pub ruleset starting = (starts_whole, starts_short, take_all)
 
 -- the same of a part, and of the rest from a position on
 pub starts_part : (ks s : List ℕ) (at e : ℕ) → at ≤ e → starts ks (part s at e) ≡ true → at + length ks ≤ e
@@ -212,30 +222,23 @@ module _ (s key : List ℕ) (at most : ℕ) where
   field_never l = rw (← l)
 
   module _ (e : ℕ) (l : Some e ≡ line_at s at) where
-    pub field_key : pointwise eqb (take (length key) (part s at e)) key ≡ false → None ≡ field_at s at key most
+    pub field_key : false ≡ starts key (part s at e) → None ≡ field_at s at key most
     unfolding field_at
-    field_key k = rw (← l, ← starts_pointwise key (part s at e), k)
+    field_key k = rw (← l, ← k)
 
-    module _ (k : pointwise eqb (take (length key) (part s at e)) key ≡ true) {rest : List ℕ} (r : rest ≡ drop (length key) (part s at e)) where
-      started : starts key (part s at e) ≡ true
-      started = sym (starts_pointwise key (part s at e)) ∙ k
+    module _ (k : true ≡ starts key (part s at e)) where
+      pub field_fits : at + length key ≤ e
+      field_fits = starts_part key s at e (line_within s at e l).0 (sym k)
 
-      -- what is left of the line behind its key
-      behind : rest ≡ part s (at + length key) e
-      behind =
-          let h = starts_part key s at e (line_within s at e l).0 started in
-          let x : e - at ≡ length key + (e - (at + length key)) = omega arith in
-          r ∙ rw (x, drop-take, drop-drop)
-
-      pub field_not : None ≡ number_of rest → None ≡ field_at s at key most
+      pub field_not : None ≡ number_of (part s (at + length key) e) → None ≡ field_at s at key most
       unfolding field_at
-      field_not n = rw (← l, started, ← behind, ← n)
+      field_not n = rw (← l, ← k, ← n)
 
-      module _ (v : ℕ) (n : Some v ≡ number_of rest) where
+      module _ (v : ℕ) (n : Some v ≡ number_of (part s (at + length key) e)) where
         pub field_over : most < v → None ≡ field_at s at key most
         unfolding field_at
-        field_over h = rw (← l, started, ← behind, ← n, lt-ltb most v h)
+        field_over h = rw (← l, ← k, ← n, lt-ltb most v h)
 
         pub field_took : v ≤ most → took v (e + 1) ≡ field_at s at key most
         unfolding field_at
-        field_took h = rw (← l, started, ← behind, ← n, le-ltb most v h)
+        field_took h = rw (← l, ← k, ← n, le-ltb most v h)

@@ -1,8 +1,8 @@
-// Reads the lines of a script: a number, a line's end, a line of a key and a number.
+// Reads the lines of a script: a number, a line's end, a key, a line of a key and a number.
 #![tactic(auto)]
 
 ghost use Rattle.std.specs.Prelude.{◌≡◌, ◌==◌, take, position};
-ghost use Rattle.text.specs.Lines.{number_of, line_at, field_at};
+ghost use Rattle.text.specs.Lines.{number_of, line_at, starts, field_at};
 
 // A line of a key and a number: the number, and where the next line starts.
 #[derive(Clone, Copy, Debug, PartialEq, Eq)]
@@ -46,13 +46,24 @@ fn line_end(src: &[u8], at: usize) -> Option<usize>
     Some(at + n)
 }
 
+// Whether the text starts with the key.
+#[tactic(auto, using(crate::proofs::Laws::starting))]
+fn starts_with(text: &[u8], key: &[u8]) -> bool
+    ensures { result ≡ starts key.now text.now }
+{
+    text.starts_with(key)
+}
+
 // The line at `at`, which is the key and a number of at most `most`.
 // What may not change: the whole script is lent with a place in it, since places in it are what `field_at` and its theorems speak of.
 pub fn field(src: &[u8], at: usize, key: &[u8], most: u32) -> Option<Entry>
     ensures { result ≡ field_at src.now at key.now most }
 {
     let e = line_end(src, at)?;
-    let value = number(src[at..e].strip_prefix(key)?)?;
+    if !starts_with(&src[at..e], key) {
+        return None;
+    }
+    let value = number(&src[at + key.len()..e])?;
     if most < value {
         return None;
     }

@@ -1,10 +1,11 @@
-use Rattle.std.proofs.Common.{◌≡◌, not, length}
+use Rattle.manager.specs.Record.{slots}
 use Rattle.manager.specs.Lists.{pairwise}
-use Rattle.objects.specs.Slots.{shared}
+use Rattle.manager.specs.Sound.{other_name}
+use Rattle.manager.proofs.Laws.Lists.{Pairing}
 use Rattle.objects.proofs.found.differ.Given as goal
 
-abbrev pub invariant-loop-x : goal.invariant-loop-x
-invariant-loop-x g l = pairwise (λ x y. not (shared g.T.Slot.name x y)) l.rest ≡ pairwise (λ x y. not (shared g.T.Slot.name x y)) l.all
-
-abbrev pub decreases-loop-x : goal.decreases-loop-x
-decreases-loop-x g l = length l.rest
+abbrev pub invariant-loop-i : goal.invariant-loop-i
+invariant-loop-i g l =
+    let differ = other_name g.T.Slot.name in
+    let all = g.T.Slot.slots_of l.d in
+    Pairing differ all slots (pairwise differ all) l.i
