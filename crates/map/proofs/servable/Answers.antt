@@ -1,5 +1,6 @@
 -- `servable` meets its contract: the map is then one free segment. Assumes nothing.
 use mathlib.Core.Path.{ap, ◌∙◌}
+use native.Mathlib.Omega.{arith}
 use mathlib.Core.Bool.{not}
 use borrow.Author.Tests.{eq-eqb}
 use lib.Dec.{leb}
@@ -13,7 +14,7 @@ returns-then-l-ne0 c =
     let k = c.by_halves.ensures in
     ap (leb a.n.pages) c.from.ensures
     ∙ elim c.if-by_halves.branch [
-      | then-by_halves w ↦ ap (leb a.n.pages) w.room-is ∙ serves_halves a.o _ k a.l a.n c.if-l-ne0.true w.if-by_halves.true
+      | then-by_halves w ↦ ap (leb a.n.pages) (grind arith) ∙ serves_halves a.o _ k a.l a.n c.if-l-ne0.true w.if-by_halves.true
       | else-by_halves w ↦ ap (leb a.n.pages) w.room-is ∙ serves_pages a.o _ k a.l a.n c.if-l-ne0.true w.if-by_halves.false _ w.room_from-room.ensures
     ]
 

@@ -11,4 +11,4 @@ returns-in_err-manager c = search (rules, calling)
 
 pub returns : goal.returns
 returns c =
-    ran _ _ _ _ c.in_ok-answer.ensures.cases.enough _ c.in_ok-manager.ensures _ _ c.perform-given.ensures _ _ c.pack.ensures c.put.ensures (search rules)
+    ran _ _ _ _ c.in_ok-answer.ensures.cases.enough _ (search rules) _ _ c.perform-given.ensures _ _ c.pack.ensures c.put.ensures (search rules)
